@@ -1,0 +1,6 @@
+-- How a coordinate is written: group, artifact and version with colons between.
+use Rattle.std.specs.Prelude.{ℕ, List, ◌∷◌, ◌++◌}
+use Rattle.mvn_base.specs.declared.gav.Gav.{Gav}
+
+unfoldable pub gav_text : Gav → List ℕ
+gav_text gav = gav.group ++ 58 ∷ gav.artifact ++ 58 ∷ gav.version

@@ -1,0 +1,4 @@
+pub mod Gav
+pub mod Names
+pub mod Rule
+pub mod Refusal

@@ -1,0 +1,27 @@
+ghost use Rattle.std.specs.Prelude.{◌≡◌, IfOk};
+
+use mvn_shared::Text;
+use std::fmt;
+
+/// A coordinate: group, artifact and version. POM Reference, "Maven Coordinates".
+#[derive(Clone, Debug, Drop, PartialEq, Eq, PartialOrd, Ord, Hash)]
+pub struct Gav {
+    pub group: Text,
+    pub artifact: Text,
+    pub version: Text,
+}
+
+impl fmt::Display for Gav {
+    ghost use Rattle.std.specs.Prelude.{Some};
+    ghost use Rattle.mvn_base.specs.Gav.{gav_text};
+
+    ghost output = { λ gav. Some (gav_text gav) };
+
+    #[tactic(auto, unfolding(crate::specs::Gav::gav_text))]
+    fn fmt<W: fmt::Write>(&self, f: &mut fmt::Formatter<W>) -> fmt::Result {
+        let group = &self.group;
+        let artifact = &self.artifact;
+        let version = &self.version;
+        write!(f, "{group}:{artifact}:{version}")
+    }
+}

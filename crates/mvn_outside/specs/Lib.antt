@@ -1,0 +1,5 @@
+pub use Rattle.mvn_shared.specs.Cause
+pub use Rattle.mvn_shared.specs.Files
+pub use Rattle.mvn_shared.specs.Told
+pub mod Faults
+pub mod Reading

@@ -1,0 +1,2 @@
+pub mod FileMaps
+pub mod Told

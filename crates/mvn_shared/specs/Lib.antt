@@ -1,0 +1,4 @@
+pub mod Cause
+pub mod Files
+pub mod Told
+pub mod formers

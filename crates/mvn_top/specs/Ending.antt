@@ -1,0 +1,18 @@
+-- How a call ends: its status, and what is written, against the outcome that is wanted.
+use Rattle.std.specs.Prelude.{◌≡◌, ◌≢◌, ℕ, ◌<◌, List, Option}
+use Rattle.mvn_shared.specs.Cause.{last_count, HasRisen}
+use Rattle.mvn_shared.specs.Told.{gains, IsCut}
+use Rattle.mvn_top.specs.declared.outcome.Outcome.{Outcome}
+
+-- the status is the outcome's, and its whole text was added
+pub record IsWhole (wanted : Outcome) (status : ℕ) (before now : Option (List ℕ)) : Type 0 where
+  pub same_status : status ≡ wanted.status
+  pub whole_text : now ≡ gains before wanted.text
+
+-- An outcome, and what a call left of it: always a part of the text from its front. It is whole below 3, and also
+-- where memory is there and the sink, whose count stands below its end, didn't fail.
+pub record Ends (wanted : Outcome) (status : ℕ) (before now : Option (List ℕ)) (sink_before sink_now : ℕ) : Type 0 where
+  pub cut : IsCut wanted.text before now
+  pub whole : status < 3 → IsWhole wanted status before now
+  pub complete : status ≢ 4 → sink_now ≡ sink_before → sink_now < last_count → IsWhole wanted status before now
+  pub fault : status ≡ 3 → status ≢ wanted.status → HasRisen sink_before sink_now

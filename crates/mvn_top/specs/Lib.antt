@@ -1,0 +1,12 @@
+pub use Rattle.mvn_shared.specs.Cause
+pub use Rattle.mvn_shared.specs.Files
+pub use Rattle.mvn_shared.specs.Told
+pub use Rattle.mvn_base.specs.Gav
+pub use Rattle.mvn_base.specs.Names
+pub use Rattle.mvn_base.specs.Refusal
+pub use Rattle.mvn_base.specs.Rule
+pub mod Elements
+pub mod Ending
+pub mod Outcome
+pub mod Plain
+pub mod Reading

@@ -1,5 +1,5 @@
 -- A text that is looked through for `${`.
-use Rattle.std.proofs.Common.{◌≡◌, ℕ, Bool, true, false, ◌==◌, ◌&&◌, ◌||◌, List, [], ◌∷◌, refl, arith}
+use Rattle.std.proofs.Common.{◌≡◌, ℕ, Bool, false, ◌==◌, ◌&&◌, ◌||◌, List, [], ◌∷◌, refl, arith}
 use Rattle.mvn_base.specs.Names.{has_expression}
 
 -- whether an expression opens in the text, or with a dollar that stands before it

@@ -1,5 +1,5 @@
 -- How a refusal is written: one line that names the POM, the rule and the place.
-use Rattle.std.specs.Prelude.{ℕ, List, ◌∷◌, ◌++◌, codes}
+use Rattle.std.specs.Prelude.{ℕ, List, ◌++◌, codes}
 use Rattle.std.specs.Fmt.{decimal}
 use Rattle.mvn_base.specs.declared.refusal.PomId.{PomId}
 use Rattle.mvn_base.specs.declared.refusal.PomId.TheVariants.{Path, Gav}

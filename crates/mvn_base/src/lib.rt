@@ -11,3 +11,6 @@ pub use mvn_shared::{Bytes, FileMap, List, Mem, OutOfMemory, Text, TextError};
 pub use names::{valid_group, valid_name, valid_version};
 pub use refusal::{Place, PomId, Refusal};
 pub use rule::Rule;
+
+#[cfg(test)]
+mod tests;

@@ -1,8 +1,6 @@
 -- What a read and a listing answer, by what is told to stand there. Own rules.
-use Rattle.std.specs.Prelude.{◌≡◌, ℕ, Bool, true, false, ◌||◌, ◌<◌, ◌≤◌, nat_eq, List, [], ◌∷◌, ◌++◌, length, filter, Option, is_some, IsSomeAnd, Result, Ok, Err}
-use Rattle.std.specs.List.{list_any, starts_with}
-use Rattle.std.specs.FinMap as map
-use Rattle.mvn_shared.specs.Files.{Files, file_at}
+use Rattle.std.specs.Prelude.{◌≡◌, ℕ, ◌<◌, ◌≤◌, List, length, Option, IsSomeAnd, Result, Ok, Err}
+use Rattle.mvn_shared.specs.Files.{Files, names_below}
 use Rattle.mvn_outside.specs.declared.fault.ReadFault.{ReadFault}
 use Rattle.mvn_outside.specs.declared.fault.ReadFault.TheVariants as read
 use Rattle.mvn_outside.specs.declared.fault.ListFault.{ListFault}
@@ -14,19 +12,6 @@ Reads there limit (Ok found) = found ≡ there
 Reads there limit (Err read.TooLarge) = IsSomeAnd there (λ bytes. limit < length bytes)
 Reads there limit (Err read.Failed) = Unit {0}
 Reads there limit (Err read.Memory) = Unit {0}
-
--- a path lies below a folder; the empty path is the root
-abbrev pub is_below : List ℕ → List ℕ → Bool
-is_below [] path = true
-is_below (step ∷ folder) path = starts_with nat_eq path ((step ∷ folder) ++ 47 ∷ [])
-
--- the names below a folder, ascending
-abbrev pub names_below : Files → List ℕ → List (List ℕ)
-names_below files folder = filter (is_below folder) (map.keys files)
-
--- a file, or a folder with files
-abbrev pub is_there : Files → List ℕ → Bool
-is_there files path = is_some (file_at files path) || list_any (is_below path) (map.keys files)
 
 -- how many names a listing may have
 abbrev pub most_names : ℕ

@@ -8,5 +8,5 @@ pub mod tree;
 
 pub use fault::{DeviceFault, ListFault, ReadFault};
 pub use files::Files;
-pub use sink::Sink;
+pub use sink::{Sink, write_all};
 pub use tree::{SourceFile, Tree};

@@ -1,6 +1,6 @@
-ghost use Rattle.std.specs.Prelude.{◌≡◌, ◌<◌, ◌≤◌, ℕ, List, Option, length, take, IfOk, OnErr};
+ghost use Rattle.std.specs.Prelude.{◌≡◌, ◌<◌, ◌≤◌, ℕ, List, Option, length, take, IfOk, OnOk, OnErr};
 ghost use Rattle.mvn_shared.specs.Cause.{HasCause};
-ghost use Rattle.mvn_shared.specs.Told.{gains};
+ghost use Rattle.mvn_shared.specs.Told.{gains, IsCut};
 ghost use Rattle.mvn_outside.specs.Faults.{device_failed};
 
 use crate::fault::DeviceFault;
@@ -20,4 +20,17 @@ pub trait Sink {
         ensures takes { IfOk result (λ count. written self.new ≡ gains (written self.old) (take count bytes.now)) }
         ensures err { OnErr result (written self.new ≡ written self.old) }
         ensures cause { HasCause (faults self.old) (faults self.new) (device_failed result) };
+}
+
+/// Writes all of a text. After an `Err`, a part from its front is written. Costs what the sink's writes cost.
+pub fn write_all<O: Sink>(out: &mut O, text: &[u8]) -> Result<(), DeviceFault>
+    ensures ok { OnOk result (O.written out.new ≡ gains (O.written out.old) text.now) }
+    ensures err { OnErr result (IsCut text.now (O.written out.old) (O.written out.new)) }
+    ensures cause { HasCause (O.faults out.old) (O.faults out.new) (device_failed result) }
+{
+    let mut done = 0;
+    while done < text.len() {
+        done += out.write(&text[done..])?;
+    }
+    Ok(())
 }

@@ -2,7 +2,7 @@ ghost use Rattle.std.specs.Prelude.{◌≡◌, ◌≤◌, Bool, List, ℕ, Optio
 ghost use Rattle.mvn_shared.specs.Cause.{HasCause};
 ghost use Rattle.mvn_shared.specs.Files as told;
 ghost use Rattle.mvn_outside.specs.Faults.{read_failed, list_failed};
-ghost use Rattle.mvn_outside.specs.Reading.{Reads, Lists, is_there};
+ghost use Rattle.mvn_outside.specs.Reading.{Reads, Lists};
 
 use crate::fault::{ListFault, ReadFault};
 use crate::files::Files;
@@ -36,5 +36,5 @@ pub trait Tree: Files {
     ghost same_files: { (before now : Self) → Self.tells_same before now → files now ≡ files before };
 
     /// Where it tells its files, a path is there as these files say.
-    ghost agrees: { (tree : Self) → IfSome (files tree) (λ files. Self.there tree ≡ Some (is_there files)) };
+    ghost agrees: { (tree : Self) → IfSome (files tree) (λ files. Self.there tree ≡ Some (told.is_there files)) };
 }

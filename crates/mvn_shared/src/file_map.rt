@@ -1,6 +1,7 @@
-ghost use Rattle.std.specs.Prelude.{◌≡◌, OnOk, OnErr};
+ghost use Rattle.std.specs.Prelude.{◌≡◌, IfOk, OnOk, OnErr};
 ghost use Rattle.std.specs.FinMap as map;
 ghost use Rattle.std.specs.Option.{option_copied};
+ghost use Rattle.mvn_shared.specs.Files.{is_below, names_below, is_there};
 
 use crate::bytes::Bytes;
 use crate::memory::Mem;
@@ -51,4 +52,42 @@ impl FileMap {
         self.files.insert(name, bytes)?;
         Ok(())
     }
+
+    /// The names below a folder, ascending by bytes; the empty text is the root. Costs one pass.
+    #[tactic(auto, unfolding(crate::specs::Files::names_below))]
+    pub fn names_below(&self, alloc: Global, folder: &Text) -> Mem<Vec<Text>>
+        ensures { IfOk result (λ names. names.items ≡ names_below self.now folder.now) }
+    {
+        let mut names = Vec::new(alloc);
+        for name in self.files.keys() {
+            if is_below(folder.as_bytes(), name.as_bytes()) {
+                names.push(name.clone()?)?;
+            }
+        }
+        Ok(names)
+    }
+
+    /// Whether a file stands at a path or below it. Costs one pass at most.
+    #[tactic(auto, unfolding(crate::specs::Files::is_there))]
+    pub fn is_there(&self, path: &Text) -> bool
+        ensures { result ≡ is_there self.now path.now }
+    {
+        if self.files.contains_key(path) {
+            return true;
+        }
+        for name in self.files.keys() {
+            if is_below(path.as_bytes(), name.as_bytes()) {
+                return true;
+            }
+        }
+        false
+    }
+}
+
+// Whether a path lies below a folder.
+#[tactic(auto, unfolding(crate::specs::Files::is_below))]
+fn is_below(folder: &[u8], path: &[u8]) -> bool
+    ensures { result ≡ is_below folder.now path.now }
+{
+    folder.is_empty() || (path.starts_with(folder) && path[folder.len()..].starts_with(b"/"))
 }

@@ -13,3 +13,6 @@ pub use file_map::FileMap;
 pub use list::List;
 pub use memory::{Mem, OutOfMemory};
 pub use text::{Text, TextError};
+
+#[cfg(test)]
+mod tests;

@@ -7,7 +7,7 @@ use Rattle.mvn_top.specs.Elements.{any_element, elements, onto}
 abbrev pub behind : List Value → List Value × List ℕ → List Value × List ℕ
 behind front found = (front ++ found.0, found.1)
 
-elements-suc : (k : ℕ) (bytes tail : List ℕ) (v : Value) → Some (v, tail) ≡ any_element bytes → elements (suc k) bytes ≡ onto v (elements k tail)
+pub elements-suc : (k : ℕ) (bytes tail : List ℕ) (v : Value) → Some (v, tail) ≡ any_element bytes → elements (suc k) bytes ≡ onto v (elements k tail)
 elements-suc k bytes tail v first =
     let chosen : Option (Value × List ℕ) → List Value × List ℕ = λ o. elim o [ None ↦ ([], bytes) | Some found ↦ onto found.0 (elements k found.1) ] in
     ap chosen (sym first)

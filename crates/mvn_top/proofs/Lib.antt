@@ -1,3 +1,4 @@
 pub mod Elements
 pub mod Outcomes
 pub mod Readings
+pub mod Spelling

@@ -10,3 +10,4 @@ pub mod Ending
 pub mod Outcome
 pub mod Plain
 pub mod Reading
+pub mod Spelling

@@ -1,13 +1,17 @@
 //! The top call: from words and a project to the report and the exit status.
 #![tactic(auto)]
 
-mod emit;
+mod law;
 mod outcome;
 mod plain;
 mod reading;
 mod top;
 
-pub use outcome::Outcome;
+#[cfg(test)]
+mod tests;
+
+pub use law::spelled_and_read;
+pub use outcome::{BUILT, FAULT, NO_MEMORY, Outcome, REFUSED};
 pub use plain::{Element, Field};
 pub use reading::Reading;
 pub use top::mvn;

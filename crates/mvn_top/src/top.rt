@@ -5,10 +5,9 @@ ghost use Rattle.mvn_top.specs.Reading.{Gave};
 ghost use Rattle.mvn_top.specs.Outcome.{outcome, outcome_of};
 ghost use Rattle.mvn_top.specs.Ending.{Ends, IsWhole};
 
-use crate::emit::write_all;
 use crate::outcome::{FAULT, NO_MEMORY, Outcome, is_validate, not_built, of_pom};
 use crate::reading::read_pom;
-use mvn_outside::{DeviceFault, Sink, Tree};
+use mvn_outside::{DeviceFault, Sink, Tree, write_all};
 use mvn_shared::{Bytes, Mem};
 use std::alloc::Global;
 

@@ -3,7 +3,7 @@ use Rattle.std.proofs.Math.Seq.{take-add}
 use Rattle.std.proofs.lemmas.List.{take_all}
 use Rattle.mvn_shared.specs.Told.{gains}
 use Rattle.mvn_shared.proofs.Told.{gains-gains}
-use Rattle.mvn_top.proofs.emit.write_all.Goals as goal
+use Rattle.mvn_outside.proofs.sink.write_all.Goals as goal
 
 take_all_of_drop : (i : ℕ) (xs : List ℕ) → take (length xs - i) (drop i xs) ≡ drop i xs
 take_all_of_drop i xs = take_all _ _ (simp length-drop (omega arith))

@@ -1,6 +1,6 @@
 use Rattle.std.proofs.Common.{◌≡◌, ◌-◌, ◌≤◌, length, take}
 use Rattle.mvn_shared.specs.Told.{gains}
-use Rattle.mvn_top.proofs.emit.write_all.Given as goal
+use Rattle.mvn_outside.proofs.sink.write_all.Given as goal
 
 abbrev pub invariant-loop-done : goal.invariant-loop-done
 invariant-loop-done g l = record {

@@ -1,0 +1,61 @@
+ghost use Rattle.std.specs.Prelude.{◌≡◌, ℕ, ◌+◌, ◌==◌, [], min, IfOk};
+ghost use Rattle.std.specs.List.{list_any};
+ghost use Rattle.mvn_shared.specs.Cause.{HasCause, last_count};
+
+use mvn_shared::{List, Mem};
+use std::alloc::Global;
+use std::collections::BTreeSet;
+
+/// The calls of an object, numbered from 0, and which of them fail. The count of faults stands at 0 where none does.
+#[derive(Drop)]
+pub struct Calls {
+    failing: BTreeSet<u64>,
+    next: u64,
+    faults: u64,
+    ghost quiet: { failing.keys ≡ [] → faults ≡ 0 },
+}
+
+impl Calls {
+    ghost use Rattle.outside_mem.specs.Calls.{fails, fault_count, call_number, NeverFails};
+
+    /// No call yet. The calls with these numbers will fail. Costs n log n.
+    pub fn new(alloc: Global, failing: &List<u64>) -> Mem<Calls>
+        ensures failing { IfOk result (λ calls. (n : ℕ) → fails calls n ≡ list_any (λ m. n == m) failing.now) }
+        ensures none { failing.now ≡ [] → IfOk result NeverFails }
+        ensures count { IfOk result (λ calls. (fault_count calls ≡ 0) × (call_number calls ≡ 0)) }
+    {
+        let mut set = BTreeSet::new(alloc);
+        for n in failing.as_slice() {
+            set.insert(*n)?;
+        }
+        Ok(Calls {
+            failing: set,
+            next: 0,
+            faults: 0,
+        })
+    }
+
+    /// Counts a call, and says whether it fails.
+    pub fn next_fails(&mut self) -> bool
+        ensures answer { result ≡ fails self.old (call_number self.old) }
+        ensures cause { HasCause (fault_count self.old) (fault_count self.new) result }
+        ensures number { call_number self.new ≡ min (call_number self.old + 1) last_count }
+        ensures same { (n : ℕ) → fails self.new n ≡ fails self.old n }
+        ensures never { NeverFails self.old → NeverFails self.new }
+    {
+        let failed = self.failing.contains(&self.next);
+        self.next = self.next.saturating_add(1);
+        if failed {
+            self.faults = self.faults.saturating_add(1);
+        }
+        failed
+    }
+
+    /// The faults so far.
+    pub fn faults(&self) -> u64
+        ensures value { result ≡ fault_count self.now }
+        ensures never { NeverFails self.now → result ≡ 0 }
+    {
+        self.faults
+    }
+}

@@ -1,0 +1,54 @@
+ghost use Rattle.std.specs.Prelude.{◌≡◌, [], IfOk};
+
+use crate::calls::Calls;
+use mvn_outside::{DeviceFault, Sink};
+use mvn_shared::{List, Mem};
+use std::alloc::Global;
+
+/// A sink in memory. It tells what was written.
+#[derive(Drop)]
+pub struct MemSink {
+    bytes: Vec<u8>,
+    calls: Calls,
+}
+
+impl MemSink {
+    ghost use Rattle.outside_mem.specs.Sink.{sink_bytes};
+
+    /// An empty sink. The writes with these numbers fail, from 0 on.
+    pub fn new(alloc: Global, failing: &List<u64>) -> Mem<MemSink>
+        ensures { IfOk result (λ sink. sink_bytes sink ≡ []) }
+    {
+        let calls = Calls::new(alloc, failing)?;
+        Ok(MemSink {
+            bytes: Vec::new(alloc),
+            calls,
+        })
+    }
+
+    /// What was written so far. Takes no memory.
+    pub fn bytes(&self) -> &[u8]
+        ensures { result.now ≡ sink_bytes self.now }
+    {
+        self.bytes.as_slice()
+    }
+}
+
+impl Sink for MemSink {
+    ghost use Rattle.std.specs.Prelude.{Some};
+    ghost use Rattle.outside_mem.specs.Calls.{fault_count};
+
+    ghost written = { λ sink. Some sink.bytes.items };
+
+    ghost faults = { λ sink. fault_count sink.calls };
+
+    fn write(&mut self, bytes: &[u8]) -> Result<usize, DeviceFault> {
+        if self.calls.next_fails() {
+            return Err(DeviceFault::Failed);
+        }
+        match self.bytes.extend_from_slice(bytes) {
+            Ok(()) => Ok(bytes.len()),
+            Err(_) => Err(DeviceFault::Memory),
+        }
+    }
+}

@@ -1,0 +1,100 @@
+ghost use Rattle.std.specs.Prelude.{◌≡◌, IfOk};
+
+use crate::calls::Calls;
+use mvn_outside::{DeviceFault, Files, ListFault, ReadFault, SourceFile, Tree};
+use mvn_shared::{Bytes, FileMap, List, Mem, Text};
+use std::alloc::Global;
+
+/// The most files that a listing gives.
+const MOST_FILES: usize = 65536;
+
+/// A project's folder in memory. It tells its files.
+#[derive(Drop)]
+pub struct MemTree {
+    alloc: Global,
+    files: FileMap,
+    calls: Calls,
+}
+
+impl MemTree {
+    ghost use Rattle.outside_mem.specs.Tree.{tree_files, files_of};
+
+    /// The tree of these files, of which a later one of a path counts. The calls with the numbers fail, from 0 on.
+    pub fn new(alloc: Global, files: List<SourceFile>, failing: &List<u64>) -> Mem<MemTree>
+        ensures { IfOk result (λ tree. tree_files tree ≡ files_of files) }
+    {
+        let calls = Calls::new(alloc, failing)?;
+        let mut map = FileMap::new(alloc);
+        for file in files.into_vec() {
+            let SourceFile { path, bytes } = file;
+            map.insert(path, bytes)?;
+        }
+        Ok(MemTree {
+            alloc,
+            files: map,
+            calls,
+        })
+    }
+}
+
+impl Files for MemTree {
+    ghost use Rattle.std.specs.Prelude.{◌≡◌, Some};
+    ghost use Rattle.std.proofs.Common.{ap};
+    ghost use Rattle.mvn_shared.specs.Files.{is_there};
+    ghost use Rattle.outside_mem.specs.Calls.{fault_count};
+
+    ghost there = { λ tree. Some (is_there tree.files) };
+
+    ghost faults = { λ tree. fault_count tree.calls };
+
+    ghost tells_same = { λ before now. now.files ≡ before.files };
+
+    ghost same_there = { λ before now same. ap (λ files. Some (is_there files)) same };
+
+    fn has(&mut self, path: &Text) -> Result<bool, DeviceFault> {
+        if self.calls.next_fails() {
+            return Err(DeviceFault::Failed);
+        }
+        Ok(self.files.is_there(path))
+    }
+}
+
+impl Tree for MemTree {
+    ghost use Rattle.std.specs.Prelude.{Some, refl};
+    ghost use Rattle.std.proofs.Common.{ap};
+
+    ghost files = { λ tree. Some tree.files };
+
+    ghost same_files = { λ before now same. ap Some same };
+
+    ghost agrees = { λ tree. refl };
+
+    fn read(&mut self, path: &Text, limit: u64) -> Result<Option<Bytes>, ReadFault> {
+        if self.calls.next_fails() {
+            return Err(ReadFault::Failed);
+        }
+        match self.files.get(path) {
+            None => Ok(None),
+            Some(bytes) => {
+                if bytes.len() as u64 > limit {
+                    return Err(ReadFault::TooLarge);
+                }
+                match bytes.clone() {
+                    Ok(copy) => Ok(Some(copy)),
+                    Err(_) => Err(ReadFault::Memory),
+                }
+            }
+        }
+    }
+
+    fn list(&mut self, folder: &Text) -> Result<List<Text>, ListFault> {
+        if self.calls.next_fails() {
+            return Err(ListFault::Failed);
+        }
+        let names = self.files.names_below(self.alloc, folder)?;
+        if names.len() > MOST_FILES {
+            return Err(ListFault::TooMany);
+        }
+        Ok(List::of(names))
+    }
+}

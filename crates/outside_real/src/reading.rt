@@ -1,0 +1,103 @@
+// Reading a file of the system, up to a limit.
+ghost use Rattle.std.specs.Prelude.{◌≤◌, IfOk, IfSome, length, vec_len};
+
+use mvn_outside::ReadFault;
+use mvn_shared::{Bytes, Mem};
+use std::alloc::Global;
+use std::fs::OpenOptions;
+use std::io;
+use std::io::{ErrorKind, Read};
+use std::rt;
+
+/// How many bytes are asked of the system at a time.
+const PART: usize = 65536;
+
+/// A path of the system: the folder, and a path below it.
+pub fn full_path(alloc: Global, root: &str, path: &str) -> Mem<String> {
+    if path.is_empty() {
+        return Ok(String::from_str(alloc, root)?);
+    }
+    Ok(format!(in alloc; "{root}/{path}")?)
+}
+
+/// Whether an error says that no such file is there.
+pub fn is_absent(e: &io::Error) -> bool {
+    matches!(
+        e.kind(),
+        ErrorKind::NotFound | ErrorKind::NotADirectory | ErrorKind::InvalidFilename
+    )
+}
+
+/// An error of the system, as a fault.
+pub fn fault_of(e: &io::Error) -> ReadFault {
+    match e.kind() {
+        ErrorKind::OutOfMemory => ReadFault::Memory,
+        _ => ReadFault::Failed,
+    }
+}
+
+// The next bytes, none at the end. A call that a signal cut off is made again.
+fn read_some<F: Read>(file: &mut F, part: &mut [u8]) -> Result<usize, ReadFault>
+    ensures { IfOk result (λ count. count ≤ length part.new) }
+{
+    for _ in 0..u64::MAX {
+        match file.read(part) {
+            Ok(count) => return Ok(count),
+            Err(e) => {
+                if e.kind() != ErrorKind::Interrupted {
+                    return Err(fault_of(&e));
+                }
+            }
+        }
+    }
+    Err(ReadFault::Failed)
+}
+
+// All that is left to read, up to the limit.
+fn read_rest<F: Read>(alloc: Global, file: &mut F, limit: u64) -> Result<Vec<u8>, ReadFault>
+    ensures { IfOk result (λ bytes. vec_len bytes ≤ limit) }
+{
+    let mut bytes = Vec::new(alloc);
+    let mut part = vec![in alloc; 0u8; PART].map_err(|_| ReadFault::Memory)?;
+    for _ in 0..u64::MAX {
+        let count = read_some(file, &mut part)?;
+        if count == 0 {
+            return Ok(bytes);
+        }
+        if count as u64 > limit - bytes.len() as u64 {
+            return Err(ReadFault::TooLarge);
+        }
+        if bytes.extend_from_slice(&part[..count]).is_err() {
+            return Err(ReadFault::Memory);
+        }
+    }
+    Err(ReadFault::Failed)
+}
+
+/// The bytes of the file at a path of the system, up to a limit; nothing where there is no file. A folder is none.
+pub fn read_file<R: rt::Files>(
+    rt: &R,
+    alloc: Global,
+    path: &str,
+    limit: u64,
+) -> Result<Option<Bytes>, ReadFault>
+    ensures { IfOk result (λ found. IfSome found (λ bytes. length bytes ≤ limit)) }
+{
+    match rt.metadata(path) {
+        Ok(metadata) => {
+            if !metadata.is_file() {
+                return Ok(None);
+            }
+            if metadata.len() > limit {
+                return Err(ReadFault::TooLarge);
+            }
+        }
+        Err(e) => return if is_absent(&e) { Ok(None) } else { Err(fault_of(&e)) },
+    }
+    let mut file = match rt.open_file(OpenOptions::new().read(true), path) {
+        Ok(file) => file,
+        Err(e) => return if is_absent(&e) { Ok(None) } else { Err(fault_of(&e)) },
+    };
+    let bytes = read_rest(alloc, &mut file, limit)?;
+    Ok(Some(Bytes::of(bytes)))
+}

@@ -1,0 +1,46 @@
+use crate::count::raised;
+use mvn_outside::{DeviceFault, Sink};
+use std::io::{ErrorKind, Write};
+
+/// A sink over a stream, such as standard output.
+#[derive(Drop)]
+pub struct RealSink<W: Write + Drop> {
+    out: W,
+    faults: u64,
+}
+
+impl<W: Write + Drop> RealSink<W> {
+    pub fn new(out: W) -> RealSink<W>
+    {
+        RealSink { out, faults: 0 }
+    }
+}
+
+impl<W: Write + Drop> Sink for RealSink<W> {
+    ghost use Rattle.std.specs.Prelude.{None};
+
+    ghost written = { λ _. None };
+
+    ghost faults = { λ sink. sink.faults };
+
+    // A stream that takes no byte has failed: its callers would wait for it.
+    fn write(&mut self, bytes: &[u8]) -> Result<usize, DeviceFault> {
+        for _ in 0..u64::MAX {
+            match self.out.write(bytes) {
+                Ok(count) => {
+                    if count > 0 || bytes.is_empty() {
+                        return Ok(count);
+                    }
+                    break;
+                }
+                Err(e) => match e.kind() {
+                    ErrorKind::Interrupted => {}
+                    ErrorKind::OutOfMemory => return Err(DeviceFault::Memory),
+                    _ => break,
+                },
+            }
+        }
+        self.faults = raised(self.faults);
+        Err(DeviceFault::Failed)
+    }
+}

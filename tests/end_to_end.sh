@@ -1,0 +1,73 @@
+#!/usr/bin/env bash
+# Runs the built program on folders of its own, and compares what it writes and its status. It takes the program that
+# rt ci built, or bin/mvn; without either it says so and passes.
+set -u
+cd "$(dirname "$0")/.."
+mvn=$PWD/bin/mvn
+[ -x "$mvn" ] || mvn=$PWD/crates/mvn_cli/out/mvn_cli
+[ -x "$mvn" ] || { echo "end to end: no built program here; skipped"; exit 0; }
+work=$(mktemp -d)
+trap 'rm -rf "$work"' EXIT
+cd "$work" || exit 1
+passed=0
+failed=0
+
+# NAME, WANTED STATUS, WANTED TEXT; the words follow
+want() {
+  local name=$1 status=$2 text=$3
+  shift 3
+  local got code
+  got=$("$mvn" "$@"; echo "status $?")
+  code=${got##*status }
+  got=${got%status *}
+  if [ "$code" = "$status" ] && [ "$got" = "$text" ]; then
+    passed=$((passed + 1))
+  else
+    failed=$((failed + 1))
+    printf 'end to end: %s: wanted %s %q, got %s %q\n' "$name" "$status" "$text" "$code" "$got"
+  fi
+}
+
+pom='<project><modelVersion>4.0.0</modelVersion><groupId>demo</groupId><artifactId>app</artifactId><version>1.0</version></project>'
+report=$'built demo:app:1.0\ntotal 1 built 1 failed 0 skipped 0\n'
+
+want 'no pom.xml' 2 $'refused pom.xml rule 15 ModuleNotFound at pom.xml\n' validate
+mkdir pom.xml
+want 'a folder of that name' 2 $'refused pom.xml rule 15 ModuleNotFound at pom.xml\n' validate
+rmdir pom.xml
+ln -s pom.xml pom.xml
+want 'a link to itself' 3 $'fault tree\n' validate
+rm pom.xml
+: > pom.xml
+want 'an empty POM' 2 $'refused pom.xml rule 3 NotPomText at 0\n' validate
+printf '%s' "$pom" > pom.xml
+want 'one POM' 0 "$report" validate
+want 'another word' 2 $'not built yet\n' package
+want 'no word' 2 $'not built yet\n'
+want 'a word that is not UTF-8' 2 $'not built yet\n' $'\xff\xfe'
+want 'the version' 0 $'mvn 0.1.0 (POM model 4.0.0)\n' --version
+head -c 1048577 /dev/zero > pom.xml
+want 'a POM over the limit' 2 $'not built yet\n' validate
+printf '%s' "$pom" > pom.xml
+
+# a pipe that nobody reads, and a full device
+status=$( { "$mvn" validate; echo $? >&2; } 2>&1 >/dev/full )
+[ "$status" = 3 ] && passed=$((passed + 1)) || { failed=$((failed + 1)); echo "end to end: full device: status $status"; }
+{ sleep 0.2; "$mvn" validate; echo $? > status; } | true
+[ "$(cat status)" = 3 ] && passed=$((passed + 1)) || { failed=$((failed + 1)); echo "end to end: closed pipe: status $(cat status)"; }
+
+# a file without read permission, for whoever is not root
+if [ "$(id -u)" != 0 ] || command -v setpriv >/dev/null; then
+  chmod 000 pom.xml
+  chmod 755 "$work"
+  if [ "$(id -u)" = 0 ]; then
+    cp "$mvn" "$work/mvn"
+    chmod 755 "$work/mvn"
+    got=$(setpriv --reuid 65534 --regid 65534 --clear-groups "$work/mvn" validate; echo "status $?")
+  else
+    got=$("$mvn" validate; echo "status $?")
+  fi
+  [ "$got" = $'fault tree\nstatus 3' ] && passed=$((passed + 1)) || { failed=$((failed + 1)); echo "end to end: no permission: $got"; }
+fi
+echo "end_to_end: $passed passed, $failed failed"
+[ "$failed" = 0 ]

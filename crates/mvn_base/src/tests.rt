@@ -62,13 +62,19 @@ fn a_refusal_names_its_pom_its_rule_and_its_place(rt: HostRuntime) -> Result<(),
         place: Place::Name(format!(in alloc; "{gav}").map(Text::of)?),
     };
     let line = format!(in alloc; "{by_name}")?;
-    assert_eq!(rt; line.as_str(), "refused a/pom.xml rule 13 LineageTooLong at demo:p33:1");
+    assert_eq!(rt;
+        line.as_str(),
+        "refused a/pom.xml rule 13 LineageTooLong at demo:p33:1"
+    );
     let by_byte = Refusal {
         pom: PomId::Gav(gav),
         rule: Rule::ParentExpression,
         place: Place::Byte(1_048_576),
     };
     let line = format!(in alloc; "{by_byte}")?;
-    assert_eq!(rt; line.as_str(), "refused demo:p33:1 rule 32 ParentExpression at 1048576");
+    assert_eq!(rt;
+        line.as_str(),
+        "refused demo:p33:1 rule 32 ParentExpression at 1048576"
+    );
     Ok(())
 }

@@ -36,7 +36,12 @@ fn files_lie_below_their_folders(rt: HostRuntime) -> Result<(), Fail> {
     for path in ["src/b", "src-x/c", "src/a/d", "pom.xml", "src"] {
         files.insert(Text::from_str(alloc, path)?, Bytes::of(Vec::new(alloc)))?;
     }
-    for (folder, names) in [("src", "src/a/d src/b"), ("", "pom.xml src src-x/c src/a/d src/b"), ("src/b", ""), ("sr", "")] {
+    for (folder, names) in [
+        ("src", "src/a/d src/b"),
+        ("", "pom.xml src src-x/c src/a/d src/b"),
+        ("src/b", ""),
+        ("sr", ""),
+    ] {
         let folder = Text::from_str(alloc, folder)?;
         let mut found = String::new(alloc);
         for name in files.names_below(alloc, &folder)? {
@@ -49,6 +54,9 @@ fn files_lie_below_their_folders(rt: HostRuntime) -> Result<(), Fail> {
     }
     assert_eq!(rt; files.is_there(&Text::from_str(alloc, "src-x")?), true);
     assert_eq!(rt; files.is_there(&Text::from_str(alloc, "sr")?), false);
-    assert_eq!(rt; files.get(&Text::from_str(alloc, "pom.xml")?).is_some(), true);
+    assert_eq!(rt;
+        files.get(&Text::from_str(alloc, "pom.xml")?).is_some(),
+        true
+    );
     Ok(())
 }

@@ -145,15 +145,21 @@ any_at GroupId text space rest ok stops =
     rw (absent ModelVersion (part_spelling part ++ rest) (ap (after (open_tag ModelVersion)) (regrouped part rest) ∙ group_is_no_model _), element_spelled part rest ok stops) refl
 any_at Version text space rest ok stops =
     let part = part_of Version text space in
-    rw (absent ModelVersion (part_spelling part ++ rest) (ap (after (open_tag ModelVersion)) (regrouped part rest) ∙ version_is_no_model _),
-        absent GroupId (part_spelling part ++ rest) (ap (after (open_tag GroupId)) (regrouped part rest) ∙ version_is_no_group _), element_spelled part rest ok stops) refl
+    rw (
+      absent ModelVersion (part_spelling part ++ rest) (ap (after (open_tag ModelVersion)) (regrouped part rest) ∙ version_is_no_model _),
+      absent GroupId (part_spelling part ++ rest) (ap (after (open_tag GroupId)) (regrouped part rest) ∙ version_is_no_group _),
+      element_spelled part rest ok stops,
+    ) refl
 any_at ArtifactId text space rest ok stops =
     let part = part_of ArtifactId text space in
     let tail = part.text ++ (close_tag part.field ++ (part.space ++ rest)) in
     let none = artifact_is_no_other tail in
-    rw (absent ModelVersion (part_spelling part ++ rest) (ap (after (open_tag ModelVersion)) (regrouped part rest) ∙ none.0),
-        absent GroupId (part_spelling part ++ rest) (ap (after (open_tag GroupId)) (regrouped part rest) ∙ none.1),
-        absent Version (part_spelling part ++ rest) (ap (after (open_tag Version)) (regrouped part rest) ∙ none.2), element_spelled part rest ok stops) refl
+    rw (
+      absent ModelVersion (part_spelling part ++ rest) (ap (after (open_tag ModelVersion)) (regrouped part rest) ∙ none.0),
+      absent GroupId (part_spelling part ++ rest) (ap (after (open_tag GroupId)) (regrouped part rest) ∙ none.1),
+      absent Version (part_spelling part ++ rest) (ap (after (open_tag Version)) (regrouped part rest) ∙ none.2),
+      element_spelled part rest ok stops,
+    ) refl
 
 parts_stop : (parts : List Part) (rest : List ℕ) → Stops is_space rest → Stops is_space (parts_spelling parts ++ rest)
 parts_stop [] rest stops = stops
@@ -217,7 +223,7 @@ element_is field bytes found e =
     let closed = after_is (close_tag field) (drop n inside) b.0 b.1 in
     let spaced : b.0 ≡ space.0 ++ found.1 = space.2 ∙ ap (λ r. space.0 ++ r) rest in
     let whole : bytes ≡ open_tag field ++ (take n inside ++ (close_tag field ++ (space.0 ++ found.1))) =
-        opened ∙ ap (λ r. open_tag field ++ r) (sym (take-append-drop n inside) ∙ ap (λ r. take n inside ++ r) (closed ∙ ap (λ r. close_tag field ++ r) spaced)) in
+    opened ∙ ap (λ r. open_tag field ++ r) (sym (take-append-drop n inside) ∙ ap (λ r. take n inside ++ r) (closed ∙ ap (λ r. close_tag field ++ r) spaced)) in
     (part, record { of_value_bytes = prefix_passes is_value_byte inside; spaces = space.1 }, whole ∙ sym (regrouped part found.1), sym value)
 
 any_is : (bytes : List ℕ) (found : Value × List ℕ) → any_element bytes ≡ Some found → Begins bytes found
@@ -226,9 +232,9 @@ any_is bytes found e =
     elim (or_some (element_of ModelVersion bytes) _ found e) [
       | inl a ↦ element_is ModelVersion bytes found a
       | inr e ↦ elim (or_some (element_of GroupId bytes) _ found e) [
-          | inl a ↦ element_is GroupId bytes found a
-          | inr e ↦ elim (or_some (element_of Version bytes) _ found e) [ inl a ↦ element_is Version bytes found a | inr a ↦ element_is ArtifactId bytes found a ]
-        ]
+        | inl a ↦ element_is GroupId bytes found a
+        | inr e ↦ elim (or_some (element_of Version bytes) _ found e) [ inl a ↦ element_is Version bytes found a | inr a ↦ element_is ArtifactId bytes found a ]
+      ]
     ]
 
 -- the bytes begin with these elements
@@ -243,10 +249,13 @@ unfolding choice
 more_are n bytes None e rest = ([], omega arith, tt, refl, refl)
 more_are n bytes (Some found) e rest =
     let first = any_is bytes found e in
-    let more = rest found.1 in
-    (first.0 ∷ more.0, omega (arith, more.1), (first.1, more.2),
+    let more = rest found.1 in (
+      first.0 ∷ more.0,
+      omega (arith, more.1),
+      (first.1, more.2),
       first.2 ∙ ap (λ r. part_spelling first.0 ++ r) more.3 ∙ sym (append_assoc (part_spelling first.0) (parts_spelling more.0) (elements n found.1).1),
-      (λ i. first.3 i ∷ more.4 i))
+      (λ i. first.3 i ∷ more.4 i),
+    )
 
 elements_are : (n : ℕ) (bytes : List ℕ) → BeginsAll n bytes (elements n bytes)
 unfolding choice

@@ -7,5 +7,4 @@ ghost use Rattle.mvn_top.specs.Spelling.{Spells};
 pub fn spelled_and_read()
     ensures read { (bytes : List ℕ) (values : List Value) → project_of bytes ≡ Some values → Spells bytes values }
     ensures spelled { (bytes : List ℕ) (values : List Value) → Spells bytes values → project_of bytes ≡ Some values }
-{
-}
+{}

@@ -5,10 +5,9 @@ mod law;
 mod outcome;
 mod plain;
 mod reading;
-mod top;
-
 #[cfg(test)]
 mod tests;
+mod top;
 
 pub use law::spelled_and_read;
 pub use outcome::{BUILT, FAULT, NO_MEMORY, Outcome, REFUSED};

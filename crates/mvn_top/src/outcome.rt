@@ -111,7 +111,6 @@ pub fn is_validate(words: &[Bytes]) -> bool
     }
 }
 
-
 // The answer to a plain POM of these elements.
 #[tactic(auto, unfolding(crate::specs::Outcome::of_elements))]
 fn of_elements(alloc: Global, elements: &[Element]) -> Mem<Outcome>

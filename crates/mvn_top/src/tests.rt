@@ -7,7 +7,8 @@ use std::alloc::Global;
 use std::process::Abort;
 use std::test::Fail;
 
-const POM: &str = "<project><modelVersion>4.0.0</modelVersion><groupId>demo</groupId><artifactId>app</artifactId><version>1.0</version></project>";
+const POM: &str =
+    "<project><modelVersion>4.0.0</modelVersion><groupId>demo</groupId><artifactId>app</artifactId><version>1.0</version></project>";
 
 const REPORT: &str = "built demo:app:1.0\ntotal 1 built 1 failed 0 skipped 0\n";
 
@@ -60,7 +61,8 @@ fn check_pom(rt: &impl Abort, alloc: Global, pom: &str, status: u8, text: &str) 
 #[test]
 fn validate_of_one_pom(rt: HostRuntime) -> Result<(), Fail> {
     check_pom(&rt, rt.alloc(), POM, 0, REPORT)?;
-    let spaced = "\n<project>\t<version>1.0</version>\n <artifactId>app</artifactId><modelVersion>4.0.0</modelVersion><groupId>demo</groupId> </project>\n";
+    let spaced =
+        "\n<project>\t<version>1.0</version>\n <artifactId>app</artifactId><modelVersion>4.0.0</modelVersion><groupId>demo</groupId> </project>\n";
     check_pom(&rt, rt.alloc(), spaced, 0, REPORT)?;
     Ok(())
 }
@@ -71,7 +73,14 @@ fn unbuilt_phase_says_not_built_yet(rt: HostRuntime) -> Result<(), Fail> {
     let pom = Some(POM.as_bytes());
     check(&rt, alloc, &["package"], pom, 2, "not built yet\n")?;
     check(&rt, alloc, &[], pom, 2, "not built yet\n")?;
-    check(&rt, alloc, &["validate", "validate"], pom, 2, "not built yet\n")?;
+    check(
+        &rt,
+        alloc,
+        &["validate", "validate"],
+        pom,
+        2,
+        "not built yet\n",
+    )?;
     check(&rt, alloc, &["valida"], None, 2, "not built yet\n")?;
     Ok(())
 }
@@ -87,18 +96,51 @@ fn missing_root_pom_is_module_not_found(rt: HostRuntime) -> Result<(), Fail> {
 fn missing_version_is_refused(rt: HostRuntime) -> Result<(), Fail> {
     for (pom, text) in [
         ("", "refused pom.xml rule 3 NotPomText at 0\n"),
-        ("<project><modelVersion>4.0.0</modelVersion><groupId>demo</groupId><artifactId>app</artifactId></project>", "refused pom.xml rule 8 MissingField at project/version\n"),
-        ("<project><modelVersion>4.0.0</modelVersion><groupId>demo</groupId><artifactId>app</artifactId><version></version></project>", "refused pom.xml rule 8 MissingField at project/version\n"),
-        ("<project><modelVersion>4.0.0</modelVersion><artifactId>app</artifactId></project>", "refused pom.xml rule 8 MissingField at project/groupId\n"),
-        ("<project><modelVersion>4.0.0</modelVersion><groupId>demo</groupId><version>1.0</version></project>", "refused pom.xml rule 8 MissingField at project/artifactId\n"),
+        (
+            "<project><modelVersion>4.0.0</modelVersion><groupId>demo</groupId><artifactId>app</artifactId></project>",
+            "refused pom.xml rule 8 MissingField at project/version\n",
+        ),
+        (
+            "<project><modelVersion>4.0.0</modelVersion><groupId>demo</groupId><artifactId>app</artifactId><version></version></project>",
+            "refused pom.xml rule 8 MissingField at project/version\n",
+        ),
+        (
+            "<project><modelVersion>4.0.0</modelVersion><artifactId>app</artifactId></project>",
+            "refused pom.xml rule 8 MissingField at project/groupId\n",
+        ),
+        (
+            "<project><modelVersion>4.0.0</modelVersion><groupId>demo</groupId><version>1.0</version></project>",
+            "refused pom.xml rule 8 MissingField at project/artifactId\n",
+        ),
         ("<project></project>", "not built yet\n"),
-        ("<project><modelVersion>4.0.1</modelVersion></project>", "not built yet\n"),
-        ("<project><modelVersion>4.0.0</modelVersion><groupId>a..b</groupId></project>", "not built yet\n"),
-        ("<project><modelVersion>4.0.0</modelVersion><groupId>a</groupId><groupId>a</groupId></project>", "not built yet\n"),
-        ("<project><modelVersion>4.0.0</modelVersion><name>a</name></project>", "not built yet\n"),
-        ("<project><modelVersion>4.0.0</modelVersion><groupId> a</groupId></project>", "not built yet\n"),
-        ("<project><modelVersion>4.0.0</modelVersion></project><project></project>", "not built yet\n"),
-        ("<project><modelVersion>4.0.0</modelVersion></project", "not built yet\n"),
+        (
+            "<project><modelVersion>4.0.1</modelVersion></project>",
+            "not built yet\n",
+        ),
+        (
+            "<project><modelVersion>4.0.0</modelVersion><groupId>a..b</groupId></project>",
+            "not built yet\n",
+        ),
+        (
+            "<project><modelVersion>4.0.0</modelVersion><groupId>a</groupId><groupId>a</groupId></project>",
+            "not built yet\n",
+        ),
+        (
+            "<project><modelVersion>4.0.0</modelVersion><name>a</name></project>",
+            "not built yet\n",
+        ),
+        (
+            "<project><modelVersion>4.0.0</modelVersion><groupId> a</groupId></project>",
+            "not built yet\n",
+        ),
+        (
+            "<project><modelVersion>4.0.0</modelVersion></project><project></project>",
+            "not built yet\n",
+        ),
+        (
+            "<project><modelVersion>4.0.0</modelVersion></project",
+            "not built yet\n",
+        ),
     ] {
         check_pom(&rt, rt.alloc(), pom, 2, text)?;
     }
@@ -114,7 +156,14 @@ fn a_pom_at_the_size_limit_is_read_and_one_past_it_is_not(rt: HostRuntime) -> Re
     }
     check(&rt, alloc, &["validate"], Some(pom.as_slice()), 0, REPORT)?;
     pom.push(b'\n')?;
-    check(&rt, alloc, &["validate"], Some(pom.as_slice()), 2, "not built yet\n")?;
+    check(
+        &rt,
+        alloc,
+        &["validate"],
+        Some(pom.as_slice()),
+        2,
+        "not built yet\n",
+    )?;
     Ok(())
 }
 

@@ -5,9 +5,8 @@ use mvn_outside::ReadFault;
 use mvn_shared::{Bytes, Mem};
 use std::alloc::Global;
 use std::fs::OpenOptions;
-use std::io;
 use std::io::{ErrorKind, Read};
-use std::rt;
+use std::{io, rt};
 
 /// How many bytes are asked of the system at a time.
 const PART: usize = 65536;
@@ -92,11 +91,19 @@ pub fn read_file<R: rt::Files>(
                 return Err(ReadFault::TooLarge);
             }
         }
-        Err(e) => return if is_absent(&e) { Ok(None) } else { Err(fault_of(&e)) },
+        Err(e) => return if is_absent(&e) {
+            Ok(None)
+        } else {
+            Err(fault_of(&e))
+        },
     }
     let mut file = match rt.open_file(OpenOptions::new().read(true), path) {
         Ok(file) => file,
-        Err(e) => return if is_absent(&e) { Ok(None) } else { Err(fault_of(&e)) },
+        Err(e) => return if is_absent(&e) {
+            Ok(None)
+        } else {
+            Err(fault_of(&e))
+        },
     };
     let bytes = read_rest(alloc, &mut file, limit)?;
     Ok(Some(Bytes::of(bytes)))

@@ -10,8 +10,7 @@ pub struct RealSink<W: Write + Drop> {
 }
 
 impl<W: Write + Drop> RealSink<W> {
-    pub fn new(out: W) -> RealSink<W>
-    {
+    pub fn new(out: W) -> RealSink<W> {
         RealSink { out, faults: 0 }
     }
 }

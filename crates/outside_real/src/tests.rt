@@ -2,9 +2,9 @@
 use crate::{RealSink, RealTree};
 use mvn_outside::{DeviceFault, Files, ReadFault, Sink, Tree, write_all};
 use mvn_shared::{Mem, Text};
+use std::fs;
 use std::os::unix::fs::symlink;
 use std::test::Fail;
-use std::fs;
 
 // A path below a folder.
 fn path(rt: &HostRuntime, folder: &str, name: &str) -> Mem<String> {
@@ -90,8 +90,17 @@ fn a_tree_has_files_and_folders_with_files(rt: HostRuntime) -> Result<(), Fail> 
     let root = folder.as_str();
     fs::create_dir_all(&rt, path(&rt, root, "empty")?.as_str())?;
     let mut tree = RealTree::new(&rt, Text::from_str(rt.alloc(), root)?);
-    for (name, wanted) in [("pom.xml", true), ("src", true), ("empty", false), ("no", false)] {
-        assert_eq!(rt; tree.has(&Text::from_str(rt.alloc(), name)?)?, wanted, "{name}");
+    for (name, wanted) in [
+        ("pom.xml", true),
+        ("src", true),
+        ("empty", false),
+        ("no", false),
+    ] {
+        assert_eq!(rt;
+            tree.has(&Text::from_str(rt.alloc(), name)?)?,
+            wanted,
+            "{name}"
+        );
     }
     fs::remove_dir_all(&rt, root)?;
     Ok(())

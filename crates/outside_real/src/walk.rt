@@ -25,7 +25,11 @@ fn below(alloc: Global, folder: &str, name: &str) -> Mem<String> {
 fn is_folder<R: rt::Files>(rt: &R, path: &str) -> Result<bool, ListFault> {
     match rt.symlink_metadata(path) {
         Ok(metadata) => Ok(metadata.is_dir()),
-        Err(e) => if is_absent(&e) { Ok(false) } else { Err(list_fault(&e)) },
+        Err(e) => if is_absent(&e) {
+            Ok(false)
+        } else {
+            Err(list_fault(&e))
+        },
     }
 }
 
@@ -55,7 +59,10 @@ fn take_entry<R: rt::Files + Clone + Drop>(
     if found.files.len() >= most {
         return Err(ListFault::TooMany);
     }
-    found.files.push(Text::of(path)).map_err(|_| ListFault::Memory)
+    found
+        .files
+        .push(Text::of(path))
+        .map_err(|_| ListFault::Memory)
 }
 
 fn take_folder<R: rt::Files + AllocGlobal + Clone + Drop>(
@@ -102,7 +109,10 @@ pub fn files_below<R: rt::Files + AllocGlobal + Clone + Drop>(
         };
         take_folder(rt, &mut found, root, folder.as_str(), most)?;
     }
-    let Found { mut files, folders: _ } = found;
+    let Found {
+        mut files,
+        folders: _,
+    } = found;
     files.sort().map_err(|_| ListFault::Memory)?;
     Ok(files)
 }

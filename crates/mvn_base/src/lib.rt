@@ -1,16 +1,24 @@
 //! What Maven's names, rules and places are, below everything that reads a project.
 #![tactic(auto)]
 
+pub mod file_name;
 pub mod gav;
+pub mod machine;
 pub mod names;
+pub mod phase;
 pub mod refusal;
 pub mod rule;
+pub mod setting;
 
+pub use file_name::{FileName, file_of, version_in};
 pub use gav::Gav;
+pub use machine::{Machine, Pair};
 pub use mvn_shared::{Bytes, FileMap, List, Mem, OutOfMemory, Text, TextError};
 pub use names::{valid_group, valid_name, valid_version};
+pub use phase::{Phase, phase_of};
 pub use refusal::{Place, PomId, Refusal};
 pub use rule::Rule;
+pub use setting::Setting;
 
 #[cfg(test)]
 mod tests;

@@ -1,5 +1,8 @@
 // Names and lines, as tables of outside examples.
-use crate::{Gav, Place, PomId, Refusal, Rule, Text, valid_group, valid_name, valid_version};
+use crate::{
+    FileName, Gav, Mem, Phase, Place, PomId, Refusal, Rule, Text, file_of, phase_of, valid_group,
+    valid_name, valid_version, version_in,
+};
 use std::test::Fail;
 
 #[test]
@@ -77,4 +80,132 @@ fn a_refusal_names_its_pom_its_rule_and_its_place(rt: HostRuntime) -> Result<(),
         "refused demo:p33:1 rule 32 ParentExpression at 1048576"
     );
     Ok(())
+}
+
+// A coordinate.
+fn gav(rt: &HostRuntime, group: &str, artifact: &str, version: &str) -> Mem<Gav> {
+    let alloc = rt.alloc();
+    Ok(Gav {
+        group: Text::from_str(alloc, group)?,
+        artifact: Text::from_str(alloc, artifact)?,
+        version: Text::from_str(alloc, version)?,
+    })
+}
+
+// The name of a file, of valid names alone.
+fn named(rt: &HostRuntime, gav: &Gav, classifier: &str, extension: &str) -> Result<FileName, Fail> {
+    let alloc = rt.alloc();
+    let classifier = Text::from_str(alloc, classifier)?;
+    if !valid_group(gav.group.as_bytes()) {
+        return Err(Fail::new("the group"));
+    }
+    if !valid_name(gav.artifact.as_bytes()) {
+        return Err(Fail::new("the artifact"));
+    }
+    if !valid_version(gav.version.as_bytes()) {
+        return Err(Fail::new("the version"));
+    }
+    if !classifier.is_empty() && !valid_name(classifier.as_bytes()) {
+        return Err(Fail::new("the classifier"));
+    }
+    Ok(file_of(alloc, gav, &classifier, &Text::from_str(alloc, extension)?)?)
+}
+
+#[test]
+fn files_stand_where_the_repository_layout_puts_them(rt: HostRuntime) -> Result<(), Fail> {
+    for (group, artifact, version, classifier, extension, wanted) in [
+        (
+            "org.apache.maven",
+            "maven-core",
+            "3.9.9",
+            "",
+            "pom",
+            "org/apache/maven/maven-core/3.9.9/maven-core-3.9.9.pom",
+        ),
+        (
+            "junit",
+            "junit",
+            "4.13",
+            "sources",
+            "jar",
+            "junit/junit/4.13/junit-4.13-sources.jar",
+        ),
+        (
+            "g",
+            "a.b",
+            "1-SNAPSHOT",
+            "",
+            "jar",
+            "g/a.b/1-SNAPSHOT/a.b-1-SNAPSHOT.jar",
+        ),
+    ] {
+        let name = named(
+            &rt,
+            &gav(&rt, group, artifact, version)?,
+            classifier,
+            extension,
+        )?;
+        assert_eq!(rt; name.as_text().as_str(), wanted);
+    }
+    Ok(())
+}
+
+// The version in the name of a POM of org.demo:a.
+fn version_of_a(rt: &HostRuntime, name: &str) -> Result<Option<Text>, Fail> {
+    let alloc = rt.alloc();
+    let group = Text::from_str(alloc, "org.demo")?;
+    let artifact = Text::from_str(alloc, "a")?;
+    if !valid_group(group.as_bytes()) || !valid_name(artifact.as_bytes()) {
+        return Err(Fail::new("org.demo:a"));
+    }
+    Ok(version_in(alloc, &group, &artifact, &Text::from_str(alloc, name)?)?)
+}
+
+#[test]
+fn a_version_is_read_from_the_name_of_its_pom(rt: HostRuntime) -> Result<(), Fail> {
+    for (name, wanted) in [
+        ("org/demo/a/1.0/a-1.0.pom", "1.0"),
+        ("org/demo/a/1.0/a-1.0.jar", "none"),
+        ("org/demo/a/1.0/a-1.1.pom", "none"),
+        ("org/demo/a/1.0/1.0/a-1.0.pom", "none"),
+        ("org/demo/b/1.0/b-1.0.pom", "none"),
+        ("org/demo/a/a-1.0.pom", "none"),
+        ("org/demo/a/$/a-$.pom", "$"),
+        ("org/demo/a/1 0/a-1 0.pom", "none"),
+        ("a-1.0.pom", "none"),
+        ("", "none"),
+    ] {
+        let found = version_of_a(&rt, name)?;
+        let found = match &found {
+            Some(version) => version.as_str(),
+            None => "none",
+        };
+        assert_eq!(rt; found, wanted, "{name}");
+    }
+    Ok(())
+}
+
+#[test]
+fn phases_stand_in_the_order_of_the_default_lifecycle(rt: HostRuntime) {
+    for (word, number) in [
+        ("validate", 0),
+        ("generate-sources", 2),
+        ("compile", 6),
+        ("test-compile", 12),
+        ("test", 14),
+        ("package", 16),
+        ("integration-test", 18),
+        ("verify", 20),
+        ("install", 21),
+        ("deploy", 22),
+    ] {
+        assert_eq!(rt;
+            phase_of(word.as_bytes()).map(Phase::number),
+            Some(number),
+            "{word}"
+        );
+    }
+    for word in ["", "clean", "site", "Compile", "compile ", "process-test"] {
+        assert_eq!(rt; phase_of(word.as_bytes()).is_none(), true, "{word}");
+    }
 }

@@ -6,6 +6,10 @@ use Rattle.mvn_outside.specs.declared.fault.ReadFault.{ReadFault}
 use Rattle.mvn_outside.specs.declared.fault.ReadFault.TheVariants as read
 use Rattle.mvn_outside.specs.declared.fault.ListFault.{ListFault}
 use Rattle.mvn_outside.specs.declared.fault.ListFault.TheVariants as list
+use Rattle.mvn_outside.specs.declared.fault.AreaFault.{AreaFault}
+use Rattle.mvn_outside.specs.declared.fault.AreaFault.TheVariants as area
+use Rattle.mvn_outside.specs.declared.fault.GateFault.{GateFault}
+use Rattle.mvn_outside.specs.declared.fault.GateFault.TheVariants as gate
 
 abbrev pub device_failed : {T : Type 0} → Result T DeviceFault → Bool
 device_failed (Ok x) = false
@@ -23,3 +27,13 @@ list_failed (Ok x) = false
 list_failed (Err list.Failed) = true
 list_failed (Err list.TooMany) = false
 list_failed (Err list.Memory) = false
+
+abbrev pub area_failed : {T : Type 0} → Result T AreaFault → Bool
+area_failed (Ok x) = false
+area_failed (Err area.Failed) = true
+area_failed (Err area.Memory) = false
+
+abbrev pub gate_failed : {T : Type 0} → Result T GateFault → Bool
+gate_failed (Ok x) = false
+gate_failed (Err gate.Failed) = true
+gate_failed (Err gate.Memory) = false

@@ -1,5 +1,11 @@
 pub use Rattle.mvn_shared.specs.Cause
 pub use Rattle.mvn_shared.specs.Files
 pub use Rattle.mvn_shared.specs.Told
+pub use Rattle.mvn_base.specs.FileName
+pub use Rattle.mvn_base.specs.Names
 pub mod Faults
+pub mod Goals
+pub mod Pieces
 pub mod Reading
+pub mod Shelf
+pub mod Versions

@@ -25,11 +25,43 @@ pub enum ListFault {
     Memory,
 }
 
+/// Why a staging area gave no answer: it failed, or memory ran out.
+#[derive(Clone, Copy, Debug, PartialEq, Eq)]
+pub enum AreaFault {
+    Failed,
+    Memory,
+}
+
+/// Why a goal gave no answer: what runs it failed, or memory ran out.
+#[derive(Clone, Copy, Debug, PartialEq, Eq)]
+pub enum GateFault {
+    Failed,
+    Memory,
+}
+
 impl fmt::Display for DeviceFault {
     fn fmt<W: fmt::Write>(&self, f: &mut fmt::Formatter<W>) -> fmt::Result {
         f.write_str(match self {
             DeviceFault::Failed => "the device failed",
             DeviceFault::Memory => "out of memory",
+        })
+    }
+}
+
+impl fmt::Display for AreaFault {
+    fn fmt<W: fmt::Write>(&self, f: &mut fmt::Formatter<W>) -> fmt::Result {
+        f.write_str(match self {
+            AreaFault::Failed => "the staging area failed",
+            AreaFault::Memory => "out of memory",
+        })
+    }
+}
+
+impl fmt::Display for GateFault {
+    fn fmt<W: fmt::Write>(&self, f: &mut fmt::Formatter<W>) -> fmt::Result {
+        f.write_str(match self {
+            GateFault::Failed => "what runs the goals failed",
+            GateFault::Memory => "out of memory",
         })
     }
 }
@@ -59,6 +91,10 @@ impl Error for DeviceFault {}
 impl Error for ReadFault {}
 
 impl Error for ListFault {}
+
+impl Error for AreaFault {}
+
+impl Error for GateFault {}
 
 impl From<OutOfMemory> for DeviceFault {
     ghost use Rattle.std.specs.Prelude.{◌≡◌};
@@ -90,5 +126,27 @@ impl From<OutOfMemory> for ListFault {
 
     fn from(_: OutOfMemory) -> Self {
         ListFault::Memory
+    }
+}
+
+impl From<OutOfMemory> for AreaFault {
+    ghost use Rattle.std.specs.Prelude.{◌≡◌};
+    ghost use Rattle.mvn_outside.specs.declared.fault.AreaFault.TheVariants.{Memory};
+
+    ghost from_gives = { λ _ e. e ≡ Memory };
+
+    fn from(_: OutOfMemory) -> Self {
+        AreaFault::Memory
+    }
+}
+
+impl From<OutOfMemory> for GateFault {
+    ghost use Rattle.std.specs.Prelude.{◌≡◌};
+    ghost use Rattle.mvn_outside.specs.declared.fault.GateFault.TheVariants.{Memory};
+
+    ghost from_gives = { λ _ e. e ≡ Memory };
+
+    fn from(_: OutOfMemory) -> Self {
+        GateFault::Memory
     }
 }

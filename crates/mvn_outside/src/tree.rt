@@ -8,13 +8,6 @@ use crate::fault::{ListFault, ReadFault};
 use crate::files::Files;
 use mvn_shared::{Bytes, List, Text};
 
-/// A file with its bytes.
-#[derive(Clone, Debug, Drop, PartialEq, Eq)]
-pub struct SourceFile {
-    pub path: Text,
-    pub bytes: Bytes,
-}
-
 /// The project's folder. Paths are relative to its root, with `/` between steps.
 pub trait Tree: Files {
     /// The files, where it tells them.

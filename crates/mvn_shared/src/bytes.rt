@@ -1,4 +1,4 @@
-ghost use Rattle.std.specs.Prelude.{◌≡◌, ◌↔◌, [], length, IsTrue, IfOk};
+ghost use Rattle.std.specs.Prelude.{◌≡◌, ◌↔◌, ◌++◌, [], length, IsTrue, IfOk, OnOk, OnErr};
 
 use crate::memory::Mem;
 use std::alloc::{AllocError, Global};
@@ -42,6 +42,15 @@ impl Bytes {
     {
         let bytes = Vec::from_slice(alloc, bytes)?;
         Ok(Bytes { bytes })
+    }
+
+    /// Adds bytes at the end, in the time of what is added on the average.
+    pub fn extend_from_slice(&mut self, more: &[u8]) -> Mem<()>
+        ensures ok { OnOk result (self.new ≡ self.old ++ more.now) }
+        ensures err { OnErr result (self.new ≡ self.old) }
+    {
+        self.bytes.extend_from_slice(more)?;
+        Ok(())
     }
 
     pub fn as_slice(&self) -> &[u8]

@@ -53,6 +53,17 @@ impl FileMap {
         Ok(())
     }
 
+    /// Every name, ascending by bytes. Costs one pass.
+    pub fn names(&self, alloc: Global) -> Mem<Vec<Text>>
+        ensures { IfOk result (λ names. names.items ≡ map.keys self.now) }
+    {
+        let mut names = Vec::new(alloc);
+        for name in self.files.keys() {
+            names.push(name.clone()?)?;
+        }
+        Ok(names)
+    }
+
     /// The names below a folder, ascending by bytes; the empty text is the root. Costs one pass.
     #[tactic(auto, unfolding(crate::specs::Files::names_below))]
     pub fn names_below(&self, alloc: Global, folder: &Text) -> Mem<Vec<Text>>

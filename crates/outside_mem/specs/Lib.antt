@@ -1,6 +1,10 @@
 pub use Rattle.mvn_shared.specs.Cause
 pub use Rattle.mvn_shared.specs.Files
 pub use Rattle.mvn_shared.specs.Told
+pub mod Area
 pub mod Calls
+pub mod FilesNamed
+pub mod Pieces
+pub mod Remote
 pub mod Sink
 pub mod Tree

@@ -2,7 +2,7 @@
 use Rattle.std.specs.Prelude.{ℕ, List, [], ◌∷◌, fold}
 use Rattle.std.specs.FinMap as map
 use Rattle.mvn_shared.specs.Files.{Files}
-use Rattle.mvn_outside.specs.declared.tree.SourceFile.{SourceFile}
+use Rattle.mvn_outside.specs.declared.goal.SourceFile.{SourceFile}
 use Rattle.outside_mem.specs.declared.tree.MemTree.{MemTree}
 
 abbrev pub tree_files : MemTree → Files

@@ -1,10 +1,22 @@
 //! The objects of the outside in memory: they tell their contents, and fail at the calls that they are told to.
 #![tactic(auto)]
 
+pub mod area;
 pub mod calls;
+pub mod gate;
+pub mod pieces;
+pub mod remote;
 pub mod sink;
 pub mod tree;
+mod versions;
 
+pub use area::MemArea;
 pub use calls::Calls;
+pub use gate::MemGate;
+pub use pieces::Piece;
+pub use remote::{MemFile, MemRemote};
 pub use sink::MemSink;
 pub use tree::MemTree;
+
+#[cfg(test)]
+mod tests;

@@ -1,0 +1,157 @@
+ghost use Rattle.std.specs.Prelude.{◌≡◌, ◌<◌, ◌==◌, ◌++◌, true, map, IfOk, OnOk};
+ghost use Rattle.std.specs.String.{string_bytes};
+ghost use Rattle.mvn_base.specs.FileName.{folder_byte, classifier_part, file_name, IsValid, is_classifier, step_before_last, version_in};
+ghost use Rattle.std.specs.List.{slice_split};
+ghost use Rattle.mvn_base.specs.Names.{is_group, is_name};
+
+use crate::gav::Gav;
+use crate::names::valid_version;
+use mvn_shared::{Mem, Text};
+use std::alloc::{AllocError, Global};
+use std::fmt;
+use std::marker::Model;
+
+/// The name of a file of a repository: a path of valid names, so that it leads nowhere else. It is made from
+/// coordinates alone. Maven's repository layout.
+#[derive(Clone, Debug, Drop, PartialEq, Eq, PartialOrd, Ord, Hash)]
+pub struct FileName {
+    path: Text,
+}
+
+impl Model for FileName {
+    ghost use Rattle.std.specs.Prelude.{List, ℕ};
+    ghost use Rattle.std.specs.Coded.{coded_list, coded_ℕ};
+
+    ghost Value = { List ℕ };
+
+    ghost coded = { coded_list coded_ℕ };
+
+    ghost view = { λ name. name.path };
+
+    ghost inverse = { λ path. record { path = path } };
+}
+
+impl FileName {
+    /// The path, with `/` between its steps.
+    pub fn as_text(&self) -> &Text
+        ensures { result.now ≡ self.now }
+    {
+        &self.path
+    }
+}
+
+impl fmt::Display for FileName {
+    ghost use Rattle.std.specs.Prelude.{Some};
+
+    ghost output = { λ name. Some name };
+
+    fn fmt<W: fmt::Write>(&self, f: &mut fmt::Formatter<W>) -> fmt::Result {
+        let path = &self.path;
+        write!(f, "{path}")
+    }
+}
+
+// A byte of a group, as it stands in a folder's name.
+fn folder_char(b: u8) -> char
+    requires { b < 128 }
+    ensures value { result ≡ folder_byte b }
+    ensures ascii { result < 128 }
+{
+    if b == b'.' { '/' } else { char::from(b) }
+}
+
+// The folder of a group.
+fn group_folder(alloc: Global, group: &[u8]) -> Mem<String>
+    requires { is_group group.now ≡ true }
+    ensures { IfOk result (λ folder. string_bytes folder ≡ map folder_byte group.now) }
+{
+    let mut folder = String::new(alloc);
+    for b in group {
+        folder.push(folder_char(*b))?;
+    }
+    Ok(folder)
+}
+
+// A hyphen and the classifier, where there is one.
+fn push_classifier(path: &mut String, classifier: &str) -> Mem<()>
+    ensures { OnOk result (string_bytes path.new ≡ string_bytes path.old ++ classifier_part classifier.now) }
+{
+    if !classifier.is_empty() {
+        path.push('-')?;
+        path.push_str(classifier)?;
+    }
+    Ok(())
+}
+
+/// The name of an artifact's file: `group/artifact/version/artifact-version[-classifier].extension`, with `/` for the
+/// dots of the group. Costs its length.
+#[tactic(auto, unfolding(crate::specs::FileName::file_name))]
+pub fn file_of(alloc: Global, gav: &Gav, classifier: &Text, extension: &Text) -> Mem<FileName>
+    requires names { IsValid gav.now }
+    requires classifier { is_classifier classifier.now ≡ true }
+    ensures { IfOk result (λ name. name ≡ file_name gav.now classifier.now extension.now) }
+{
+    let artifact = gav.artifact.as_str();
+    let version = gav.version.as_str();
+    let mut path = group_folder(alloc, gav.group.as_bytes())?;
+    path.push('/')?;
+    path.push_str(artifact)?;
+    path.push('/')?;
+    path.push_str(version)?;
+    path.push('/')?;
+    path.push_str(artifact)?;
+    path.push('-')?;
+    path.push_str(version)?;
+    push_classifier(&mut path, classifier.as_str())?;
+    path.push('.')?;
+    path.push_str(extension.as_str())?;
+    let path = Text::of(path);
+    Ok(FileName { path })
+}
+
+// The steps of a path.
+fn steps<'a>(alloc: Global, path: &'a str) -> Result<Vec<&'a str>, AllocError>
+    ensures { IfOk result (λ steps. map (λ x. x.now) steps.items ≡ slice_split (λ b. b == 47) path.now) }
+{
+    path.split('/').collect(alloc)
+}
+
+// The step before the last, empty where there is none.
+fn step_before_last<'a>(steps: &[&'a str]) -> &'a str
+    ensures { result.now ≡ step_before_last (map (λ x. x.now) steps.now) }
+{
+    match steps {
+        [.., step, _] => step,
+        _ => "",
+    }
+}
+
+/// The version of an artifact whose POM has this name, where it is a valid one. Costs the name's length.
+#[tactic(auto, unfolding(crate::specs::FileName::version_in))]
+pub fn version_in(alloc: Global, group: &Text, artifact: &Text, name: &Text) -> Mem<Option<Text>>
+    requires group { is_group group.now ≡ true }
+    requires artifact { is_name artifact.now ≡ true }
+    ensures { IfOk result (λ found. found ≡ version_in group.now artifact.now name.now) }
+{
+    let steps = steps(alloc, name.as_str())?;
+    let version = Text::from_str(alloc, step_before_last(&steps))?;
+    if !valid_version(version.as_bytes()) {
+        return Ok(None);
+    }
+    let gav = Gav {
+        group: group.clone()?,
+        artifact: artifact.clone()?,
+        version,
+    };
+    let pom = file_of(
+        alloc,
+        &gav,
+        &Text::from_str(alloc, "")?,
+        &Text::from_str(alloc, "pom")?,
+    )?;
+    if pom.as_text() == name {
+        Ok(Some(gav.version))
+    } else {
+        Ok(None)
+    }
+}

@@ -1,0 +1,24 @@
+use mvn_shared::{List, Text};
+
+/// A name and its value, as of a property or a variable.
+#[derive(Clone, Debug, Drop, PartialEq, Eq)]
+pub struct Pair {
+    pub name: Text,
+    pub value: Text,
+}
+
+/// What a project may ask of the machine that builds it. POM Reference, "Properties" and "Profiles".
+#[derive(Debug, Drop)]
+pub struct Machine {
+    /// The project's root folder, as a path of the system.
+    pub root: Text,
+    /// The environment's variables, ascending by name.
+    pub env: List<Pair>,
+    /// The system's properties.
+    pub system: List<Pair>,
+    pub jdk: Text,
+    pub os_name: Text,
+    pub os_family: Text,
+    pub os_arch: Text,
+    pub os_version: Text,
+}

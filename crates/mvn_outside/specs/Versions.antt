@@ -1,0 +1,23 @@
+-- The versions of an artifact in a repository. Repository layout of Maven.
+use Rattle.std.specs.Prelude.{◌≡◌, ℕ, ◌<◌, ◌≤◌, List, length, Result, Ok, Err}
+use Rattle.std.specs.List.{filter_map}
+use Rattle.std.specs.FinMap as map
+use Rattle.mvn_shared.specs.Files.{Files}
+use Rattle.mvn_base.specs.FileName.{version_in}
+use Rattle.mvn_outside.specs.declared.fault.ListFault.{ListFault}
+use Rattle.mvn_outside.specs.declared.fault.ListFault.TheVariants as list
+
+-- the valid versions whose POMs are there, in the order of the POMs' names
+abbrev pub versions_of : Files → List ℕ → List ℕ → List (List ℕ)
+versions_of files group artifact = filter_map (version_in group artifact) (map.keys files)
+
+-- how many versions a listing may have
+abbrev pub most_versions : ℕ
+most_versions = 4096
+
+-- a listing: the versions, or too many exactly where there are more
+abbrev pub ListsVersions : Files → List ℕ → List ℕ → Result (List (List ℕ)) ListFault → Type 0
+ListsVersions files group artifact (Ok versions) = (versions ≡ versions_of files group artifact) × (length versions ≤ most_versions)
+ListsVersions files group artifact (Err list.TooMany) = most_versions < length (versions_of files group artifact)
+ListsVersions files group artifact (Err list.Failed) = Unit {0}
+ListsVersions files group artifact (Err list.Memory) = Unit {0}

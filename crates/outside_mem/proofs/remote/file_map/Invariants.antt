@@ -1,0 +1,8 @@
+use Rattle.std.proofs.Common.{◌≡◌, fold}
+use Rattle.std.specs.Vec.Iter.{into_iter_items}
+use Rattle.outside_mem.specs.FilesNamed.{with_named, files_named}
+use Rattle.outside_mem.proofs.remote.file_map.Given as goal
+
+-- the map so far, with what is left, is that of all
+abbrev pub invariant-loop-file : goal.invariant-loop-file
+invariant-loop-file l = fold with_named l.map (into_iter_items l.file-iterator) ≡ files_named l.fn.files

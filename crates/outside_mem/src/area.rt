@@ -1,0 +1,107 @@
+ghost use Rattle.std.specs.Prelude.{◌≡◌, [], length, IfOk};
+
+use crate::calls::Calls;
+use crate::pieces::{Piece, extend_at, seal_at};
+use mvn_outside::{Area, AreaFault};
+use mvn_shared::{Bytes, List, Mem};
+use std::alloc::Global;
+use std::collections::BTreeMap;
+
+/// A staging area in memory. It tells its pieces and their bytes.
+#[derive(Drop)]
+pub struct MemArea {
+    alloc: Global,
+    pieces: BTreeMap<u64, Piece>,
+    next: u64,
+    calls: Calls,
+}
+
+impl MemArea {
+    ghost use Rattle.outside_mem.specs.Area.{area_pieces};
+
+    /// An area without pieces. The calls with the numbers fail, from 0 on.
+    pub fn new(alloc: Global, failing: &List<u64>) -> Mem<MemArea>
+        ensures { IfOk result (λ area. area_pieces area ≡ []) }
+    {
+        let calls = Calls::new(alloc, failing)?;
+        Ok(MemArea {
+            alloc,
+            pieces: BTreeMap::new(alloc),
+            next: 0,
+            calls,
+        })
+    }
+
+    /// The number of pieces that are there. Takes no memory.
+    pub fn pieces(&self) -> u64
+        ensures { result ≡ length (area_pieces self.now) }
+    {
+        self.pieces.len() as u64
+    }
+}
+
+impl Area for MemArea {
+    ghost use Rattle.std.specs.Prelude.{Some};
+    ghost use Rattle.outside_mem.specs.Pieces.{sealed_of, bytes_of};
+    ghost use Rattle.outside_mem.specs.Calls.{fault_count};
+
+    ghost pieces = { λ area. sealed_of area.pieces.entries };
+
+    ghost contents = { λ area. Some (bytes_of area.pieces.entries) };
+
+    ghost faults = { λ area. fault_count area.calls };
+
+    // A number is given once; the last of them never.
+    fn begin(&mut self) -> Result<u64, AreaFault> {
+        if self.calls.next_fails() {
+            return Err(AreaFault::Failed);
+        }
+        let piece = self.next;
+        if piece == u64::MAX || self.pieces.contains_key(&piece) {
+            return Err(AreaFault::Memory);
+        }
+        let empty = Piece {
+            sealed: false,
+            bytes: Bytes::of(Vec::new(self.alloc)),
+        };
+        match self.pieces.insert(piece, empty) {
+            Ok(_) => {
+                self.next = piece + 1;
+                Ok(piece)
+            }
+            Err(_) => Err(AreaFault::Memory),
+        }
+    }
+
+    fn append(&mut self, piece: u64, bytes: &[u8]) -> Result<usize, AreaFault> {
+        if self.calls.next_fails() {
+            return Err(AreaFault::Failed);
+        }
+        extend_at(&mut self.pieces, piece, bytes)?;
+        Ok(bytes.len())
+    }
+
+    fn seal(&mut self, piece: u64) -> Result<(), AreaFault> {
+        if self.calls.next_fails() {
+            return Err(AreaFault::Failed);
+        }
+        seal_at(&mut self.pieces, piece);
+        Ok(())
+    }
+
+    fn discard(&mut self, piece: u64) -> Result<(), AreaFault> {
+        if self.calls.next_fails() {
+            return Err(AreaFault::Failed);
+        }
+        self.pieces.remove(&piece);
+        Ok(())
+    }
+
+    fn sweep(&mut self) -> Result<(), AreaFault> {
+        if self.calls.next_fails() {
+            return Err(AreaFault::Failed);
+        }
+        self.pieces.clear();
+        Ok(())
+    }
+}

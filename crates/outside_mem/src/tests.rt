@@ -1,0 +1,166 @@
+// The objects in memory, as the traits describe them.
+ghost use Rattle.std.specs.Prelude.{IfOk};
+ghost use Rattle.mvn_outside.specs.Goals.{HasOwnSlots};
+
+use crate::{MemArea, MemFile, MemGate, MemRemote};
+use mvn_base::{Gav, Phase, file_of, valid_group, valid_name, valid_version};
+use mvn_outside::{
+    Area, AreaFault, Gate, GoalAnswer, GoalCall, GoalRequest, ListFault, Need, ReadFault, Remote,
+    Slot,
+};
+use mvn_shared::{Bytes, List, Mem, Text};
+use std::test::Fail;
+
+// A file of the group org.demo, whose bytes are its version.
+fn file(rt: &HostRuntime, artifact: &str, version: &str, extension: &str) -> Result<MemFile, Fail> {
+    let alloc = rt.alloc();
+    let gav = Gav {
+        group: Text::from_str(alloc, "org.demo")?,
+        artifact: Text::from_str(alloc, artifact)?,
+        version: Text::from_str(alloc, version)?,
+    };
+    let none = Text::from_str(alloc, "")?;
+    if !valid_group(gav.group.as_bytes()) || !valid_name(gav.artifact.as_bytes()) {
+        return Err(Fail::new("the names"));
+    }
+    if !valid_version(gav.version.as_bytes()) || !none.is_empty() {
+        return Err(Fail::new("the version"));
+    }
+    Ok(MemFile {
+        name: file_of(alloc, &gav, &none, &Text::from_str(alloc, extension)?)?,
+        bytes: Bytes::from_slice(alloc, version.as_bytes())?,
+    })
+}
+
+// A repository of four files, whose calls with the numbers fail.
+fn remote(rt: &HostRuntime, failing: &[u64]) -> Result<MemRemote, Fail> {
+    let alloc = rt.alloc();
+    let mut files = Vec::new(alloc);
+    for (artifact, version, extension) in [
+        ("a", "1.0", "pom"),
+        ("a", "1.1", "pom"),
+        ("a", "1.2", "jar"),
+        ("b", "2.0", "pom"),
+    ] {
+        files.push(file(rt, artifact, version, extension)?)?;
+    }
+    let failing = List::of(Vec::from_slice(alloc, failing)?);
+    Ok(MemRemote::new(alloc, List::of(files), &failing)?)
+}
+
+#[test]
+fn a_remote_gives_files_within_the_limit(rt: HostRuntime) -> Result<(), Fail> {
+    let mut remote = remote(&rt, &[])?;
+    for (version, limit, wanted) in [
+        ("1.0", 3, "found"),
+        ("1.0", 2, "too large"),
+        ("1.3", 3, "nothing"),
+    ] {
+        let found = match remote.fetch(&file(&rt, "a", version, "pom")?.name, limit) {
+            Ok(Some(_)) => "found",
+            Ok(None) => "nothing",
+            Err(ReadFault::TooLarge) => "too large",
+            Err(_) => "fault",
+        };
+        assert_eq!(rt; found, wanted, "{version} {limit}");
+    }
+    Ok(())
+}
+
+// The versions of org.demo:a that a listing gives, with a space behind each.
+fn listed(rt: &HostRuntime, remote: &mut MemRemote) -> Result<String, Fail> {
+    let alloc = rt.alloc();
+    let group = Text::from_str(alloc, "org.demo")?;
+    let artifact = Text::from_str(alloc, "a")?;
+    if !valid_group(group.as_bytes()) || !valid_name(artifact.as_bytes()) {
+        return Err(Fail::new("org.demo:a"));
+    }
+    let mut listed = String::new(alloc);
+    match remote.versions(&group, &artifact) {
+        Ok(versions) => {
+            for version in versions.as_slice() {
+                listed.push_str(version.as_str())?;
+                listed.push(' ')?;
+            }
+        }
+        Err(ListFault::Failed) => listed.push_str("fault")?,
+        Err(_) => listed.push_str("too many")?,
+    }
+    Ok(listed)
+}
+
+#[test]
+fn a_remote_lists_the_versions_of_poms_alone(rt: HostRuntime) -> Result<(), Fail> {
+    let mut remote = remote(&rt, &[1])?;
+    for wanted in ["1.0 1.1 ", "fault", "1.0 1.1 "] {
+        assert_eq!(rt; listed(&rt, &mut remote)?.as_str(), wanted);
+    }
+    Ok(())
+}
+
+#[test]
+fn a_call_that_fails_leaves_the_pieces(rt: HostRuntime) -> Result<(), Fail> {
+    let alloc = rt.alloc();
+    let failing = List::of(Vec::from_slice(alloc, &[1, 3])?);
+    let mut area = MemArea::new(alloc, &failing)?;
+    let Ok(_) = area.begin() else {
+        return Err(Fail::new("the first piece"));
+    };
+    assert_eq!(rt; matches!(area.begin(), Err(AreaFault::Failed)), true);
+    assert_eq!(rt; area.pieces(), 1);
+    assert_eq!(rt; area.begin().is_ok(), true);
+    assert_eq!(rt; matches!(area.sweep(), Err(AreaFault::Failed)), true);
+    assert_eq!(rt; area.pieces(), 2);
+    assert_eq!(rt; area.sweep().is_ok(), true);
+    assert_eq!(rt; area.pieces(), 0);
+    Ok(())
+}
+
+// A call of compiler:compile for org.demo:a:1.0, without sources.
+fn request(rt: &HostRuntime) -> Mem<GoalRequest>
+    ensures { IfOk result (λ request. HasOwnSlots request.own) }
+{
+    let alloc = rt.alloc();
+    Ok(GoalRequest {
+        module: Gav {
+            group: Text::from_str(alloc, "org.demo")?,
+            artifact: Text::from_str(alloc, "a")?,
+            version: Text::from_str(alloc, "1.0")?,
+        },
+        call: GoalCall {
+            group: Text::from_str(alloc, "org.apache.maven.plugins")?,
+            artifact: Text::from_str(alloc, "maven-compiler-plugin")?,
+            version: Text::from_str(alloc, "3.13.0")?,
+            goal: Text::from_str(alloc, "compile")?,
+            execution: Text::from_str(alloc, "default-compile")?,
+            phase: Phase::Compile,
+            configuration: List::of(Vec::new(alloc)),
+            slot: Slot::Classes,
+            need: Need::Compile,
+        },
+        sources: List::of(Vec::new(alloc)),
+        own: List::of(Vec::new(alloc)),
+        classpath: List::of(Vec::new(alloc)),
+    })
+}
+
+#[test]
+fn a_gate_gives_its_answers_in_order(rt: HostRuntime) -> Result<(), Fail> {
+    let alloc = rt.alloc();
+    let mut answers = Vec::new(alloc);
+    answers.push(GoalAnswer::Produced(Bytes::from_slice(alloc, b"classes")?))?;
+    answers.push(GoalAnswer::Failed(Text::from_str(alloc, "no compiler")?))?;
+    let failing = List::of(Vec::from_slice(alloc, &[1])?);
+    let mut gate = MemGate::new(alloc, List::of(answers), &failing)?;
+    let request = request(&rt)?;
+    for wanted in ["produced", "fault", "failed", "done"] {
+        let answer = match gate.call(&request) {
+            Ok(GoalAnswer::Done) => "done",
+            Ok(GoalAnswer::Produced(_)) => "produced",
+            Ok(GoalAnswer::Failed(_)) => "failed",
+            Err(_) => "fault",
+        };
+        assert_eq!(rt; answer, wanted);
+    }
+    Ok(())
+}

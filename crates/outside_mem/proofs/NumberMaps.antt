@@ -5,7 +5,7 @@ use Rattle.std.specs.Ordering.{nat_cmp}
 use Rattle.std.specs.Map.{lookup}
 use Rattle.std.specs.BTreeMap.{is_at}
 use Rattle.std.specs.Cmp.{eq_by_cmp_equiv, nat_cmp_total}
-use Rattle.std.specs.FinMap.{from_entries, find, get, insert, remove, get-from_entries, get-insert, get-remove, same_map, nat_cmp-IsAntisymmetric}
+use Rattle.std.specs.FinMap.{FinMap, from_entries, find, get, insert, remove, get-from_entries, get-insert, get-remove, same_map, nat_cmp-IsAntisymmetric}
 
 module _ {X : Type 0} where
   -- what a list of entries has at a number
@@ -28,6 +28,10 @@ module _ {X : Type 0} where
   one_taken es fs s h = same_map nat_cmp_total nat_cmp-IsAntisymmetric _ _ (λ q.
       get_value fs q ∙ h q ∙ ap (λ b. cond b None (value_of es q)) ((eq_by_cmp_equiv nat_cmp_total).symm s q)
       ∙ sym (get-remove nat_cmp_total (from_entries es) s q ∙ ap (cond (is_at (nat_cmp q) s) None) (get_value es q)))
+
+  -- what was put at a number is there
+  pub put_there : (m : FinMap nat_cmp X) (k : ℕ) (v : X) → get (insert m k v) k ≡ Some v
+  put_there m k v = get-insert nat_cmp_total m k v k ∙ ap (λ b. cond b (Some v) (get m k)) ((eq_by_cmp_equiv nat_cmp_total).refl k)
 
 module _ {X Y : Type 0} (f : X → Y) where
   abbrev pub mapped : List (ℕ × X) → List (ℕ × Y)

@@ -1,5 +1,5 @@
 -- The files of a list of named files.
-use Rattle.std.specs.Prelude.{ℕ, List, fold}
+use Rattle.std.specs.Prelude.{List, fold}
 use Rattle.std.specs.FinMap as map
 use Rattle.mvn_shared.specs.Files.{Files}
 use Rattle.outside_mem.specs.declared.remote.MemFile.{MemFile}

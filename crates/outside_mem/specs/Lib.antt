@@ -6,5 +6,6 @@ pub mod Calls
 pub mod FilesNamed
 pub mod Pieces
 pub mod Remote
+pub mod Shelf
 pub mod Sink
 pub mod Tree

@@ -1,4 +1,5 @@
-ghost use Rattle.std.specs.Prelude.{◌≡◌, [], length, IfOk};
+ghost use Rattle.std.specs.Prelude.{◌≡◌, [], Some, true, length, IfOk};
+ghost use Rattle.std.specs.FinMap as map;
 
 use crate::calls::Calls;
 use crate::pieces::{Piece, extend_at, seal_at};
@@ -17,7 +18,7 @@ pub struct MemArea {
 }
 
 impl MemArea {
-    ghost use Rattle.outside_mem.specs.Area.{area_pieces};
+    ghost use Rattle.outside_mem.specs.Area.{area_pieces, area_sealed, area_contents, area_calls};
 
     /// An area without pieces. The calls with the numbers fail, from 0 on.
     pub fn new(alloc: Global, failing: &List<u64>) -> Mem<MemArea>
@@ -37,6 +38,26 @@ impl MemArea {
         ensures { result ≡ length (area_pieces self.now) }
     {
         self.pieces.len() as u64
+    }
+
+    // A copy of the bytes of a sealed piece.
+    pub(crate) fn copy_of(&self, piece: u64) -> Mem<Bytes>
+        requires { map.get (area_sealed self.now) piece ≡ Some true }
+        ensures { IfOk result (λ copy. map.get (area_contents self.now) piece ≡ Some copy) }
+    {
+        match self.pieces.get(&piece) {
+            Some(found) => Ok(found.bytes.clone()?),
+            None => Ok(Bytes::of(Vec::new(self.alloc))),
+        }
+    }
+
+    // Takes a piece away.
+    pub(crate) fn take(&mut self, piece: u64)
+        ensures sealed { area_sealed self.new ≡ map.remove (area_sealed self.old) piece }
+        ensures contents { area_contents self.new ≡ map.remove (area_contents self.old) piece }
+        ensures calls { area_calls self.new ≡ area_calls self.old }
+    {
+        self.pieces.remove(&piece);
     }
 }
 
@@ -93,7 +114,7 @@ impl Area for MemArea {
         if self.calls.next_fails() {
             return Err(AreaFault::Failed);
         }
-        self.pieces.remove(&piece);
+        self.take(piece);
         Ok(())
     }
 

@@ -6,6 +6,7 @@ pub mod calls;
 pub mod gate;
 pub mod pieces;
 pub mod remote;
+pub mod shelf;
 pub mod sink;
 pub mod tree;
 mod versions;
@@ -15,6 +16,7 @@ pub use calls::Calls;
 pub use gate::MemGate;
 pub use pieces::Piece;
 pub use remote::{MemFile, MemRemote};
+pub use shelf::MemShelf;
 pub use sink::MemSink;
 pub use tree::MemTree;
 

@@ -2,11 +2,11 @@
 ghost use Rattle.std.specs.Prelude.{IfOk};
 ghost use Rattle.mvn_outside.specs.Goals.{HasOwnSlots};
 
-use crate::{MemArea, MemFile, MemGate, MemRemote};
+use crate::{MemArea, MemFile, MemGate, MemRemote, MemShelf};
 use mvn_base::{Gav, Phase, file_of, valid_group, valid_name, valid_version};
 use mvn_outside::{
     Area, AreaFault, Gate, GoalAnswer, GoalCall, GoalRequest, ListFault, Need, ReadFault, Remote,
-    Slot,
+    Shelf, Slot,
 };
 use mvn_shared::{Bytes, List, Mem, Text};
 use std::test::Fail;
@@ -113,6 +113,50 @@ fn a_call_that_fails_leaves_the_pieces(rt: HostRuntime) -> Result<(), Fail> {
     assert_eq!(rt; area.pieces(), 2);
     assert_eq!(rt; area.sweep().is_ok(), true);
     assert_eq!(rt; area.pieces(), 0);
+    Ok(())
+}
+
+// Publishes the bytes under the name, through a piece of the area; says whether it could.
+fn publish(shelf: &mut MemShelf, area: &mut MemArea, file: &MemFile) -> bool {
+    let Ok(piece) = area.begin() else {
+        return false;
+    };
+    let Ok(_) = area.append(piece, file.bytes.as_slice()) else {
+        return false;
+    };
+    let Ok(()) = area.seal(piece) else {
+        return false;
+    };
+    shelf.publish(area, piece, &file.name).is_ok()
+}
+
+// The number of bytes under the name, if a file is there.
+fn size(shelf: &mut MemShelf, file: &MemFile) -> Option<usize> {
+    match shelf.read(&file.name, 8) {
+        Ok(Some(bytes)) => Some(bytes.len()),
+        _ => None,
+    }
+}
+
+#[test]
+fn a_publish_gives_its_name_whole_new_bytes(rt: HostRuntime) -> Result<(), Fail> {
+    let alloc = rt.alloc();
+    let mut old = Vec::new(alloc);
+    old.push(file(&rt, "a", "1.0", "pom")?)?;
+    let mut new = file(&rt, "a", "1.0", "pom")?;
+    new.bytes = Bytes::from_slice(alloc, b"seven b")?;
+    let other = file(&rt, "b", "2.0.1", "pom")?;
+    let failing = List::of(Vec::from_slice(alloc, &[1])?);
+    let mut shelf = MemShelf::new(alloc, List::of(old), &failing)?;
+    let mut area = MemArea::new(alloc, &List::of(Vec::new(alloc)))?;
+    assert_eq!(rt; size(&mut shelf, &new), Some(3));
+    assert_eq!(rt; publish(&mut shelf, &mut area, &new), false);
+    assert_eq!(rt; (size(&mut shelf, &new), area.pieces()), (Some(3), 1));
+    assert_eq!(rt; publish(&mut shelf, &mut area, &new), true);
+    assert_eq!(rt; publish(&mut shelf, &mut area, &other), true);
+    assert_eq!(rt; (size(&mut shelf, &new), area.pieces()), (Some(7), 1));
+    assert_eq!(rt; shelf.settle().is_ok(), true);
+    assert_eq!(rt; shelf.names()?.len(), 2);
     Ok(())
 }
 

@@ -1,0 +1,147 @@
+ghost use Rattle.std.specs.Prelude.{◌≡◌, ◌≤◌, [], fold, length, IfOk, OnOk, OnErr};
+ghost use Rattle.std.specs.FinMap as map;
+ghost use Rattle.std.specs.Coded.{Coded-set};
+ghost use Rattle.mvn_shared.specs.Files.{files_code};
+ghost use Rattle.mvn_outside.specs.Shelf.{with_publish, published, files_now};
+ghost use Rattle.outside_mem.specs.FilesNamed.{files_named};
+
+use crate::area::MemArea;
+use crate::calls::Calls;
+use crate::remote::{MemFile, file_map};
+use crate::versions::list_versions;
+use mvn_base::FileName;
+use mvn_outside::{DeviceFault, ListFault, Published, ReadFault, Shelf};
+use mvn_shared::{Bytes, FileMap, List, Mem, Text};
+use std::alloc::Global;
+
+/// A local repository in memory. It tells its files at the opening, its publishes and how many of them are settled.
+#[derive(Drop)]
+pub struct MemShelf {
+    alloc: Global,
+    opening: FileMap,
+    files: FileMap,
+    publishes: Vec<Published>,
+    settled: u64,
+    calls: Calls,
+    ghost current: { files ≡ fold with_publish opening publishes.items } by { Coded-set files_code _ _ },
+    ghost within: { settled ≤ length publishes.items },
+}
+
+impl MemShelf {
+    ghost use Rattle.outside_mem.specs.Shelf.{shelf_told, shelf_calls};
+
+    /// The repository of these files, of which a later one of a name counts, with no publish. The calls with the numbers
+    /// fail, from 0 on.
+    pub fn new(alloc: Global, files: List<MemFile>, failing: &List<u64>) -> Mem<MemShelf>
+        ensures opening { IfOk result (λ shelf. (shelf_told shelf).opening ≡ files_named files) }
+        ensures publishes { IfOk result (λ shelf. (shelf_told shelf).publishes ≡ []) }
+        ensures settled { IfOk result (λ shelf. (shelf_told shelf).settled ≡ 0) }
+    {
+        let calls = Calls::new(alloc, failing)?;
+        let opening = file_map(alloc, files.clone()?)?;
+        let files = file_map(alloc, files)?;
+        Ok(MemShelf {
+            alloc,
+            opening,
+            files,
+            publishes: Vec::new(alloc),
+            settled: 0,
+            calls,
+        })
+    }
+
+    /// The names of its files, ascending by bytes. Costs one pass.
+    pub fn names(&self) -> Mem<Vec<Text>>
+        ensures { IfOk result (λ names. names.items ≡ map.keys (files_now (shelf_told self.now))) }
+    {
+        self.files.names(self.alloc)
+    }
+
+    // Puts the bytes under the name, and notes the publish; where memory is short nothing has changed.
+    fn note(&mut self, name: &FileName, bytes: Bytes) -> Mem<()>
+        ensures ok { OnOk result (shelf_told self.new ≡ published (shelf_told self.old) name.now bytes) }
+        ensures err { OnErr result (shelf_told self.new ≡ shelf_told self.old) }
+        ensures calls { shelf_calls self.new ≡ shelf_calls self.old }
+    {
+        let published = Published {
+            name: name.clone()?,
+            bytes: bytes.clone()?,
+        };
+        let path = name.as_text().clone()?;
+        self.publishes.push(published)?;
+        match self.files.insert(path, bytes) {
+            Ok(()) => Ok(()),
+            Err(error) => {
+                self.publishes.pop();
+                Err(error)
+            }
+        }
+    }
+}
+
+impl Shelf for MemShelf {
+    ghost use Rattle.std.specs.Prelude.{Some};
+    ghost use Rattle.outside_mem.specs.Calls.{fault_count};
+    ghost use Rattle.outside_mem.specs.Shelf.{shelf_told};
+
+    type Area = MemArea;
+
+    ghost told = { λ shelf. Some (shelf_told shelf) };
+
+    ghost faults = { λ shelf. fault_count shelf.calls };
+
+    fn has(&mut self, name: &FileName) -> Result<bool, DeviceFault> {
+        if self.calls.next_fails() {
+            return Err(DeviceFault::Failed);
+        }
+        Ok(self.files.get(name.as_text()).is_some())
+    }
+
+    fn read(&mut self, name: &FileName, limit: u64) -> Result<Option<Bytes>, ReadFault> {
+        if self.calls.next_fails() {
+            return Err(ReadFault::Failed);
+        }
+        match self.files.get(name.as_text()) {
+            None => Ok(None),
+            Some(bytes) => {
+                if bytes.len() as u64 > limit {
+                    return Err(ReadFault::TooLarge);
+                }
+                match bytes.clone() {
+                    Ok(copy) => Ok(Some(copy)),
+                    Err(_) => Err(ReadFault::Memory),
+                }
+            }
+        }
+    }
+
+    fn versions(&mut self, group: &Text, artifact: &Text) -> Result<List<Text>, ListFault> {
+        if self.calls.next_fails() {
+            return Err(ListFault::Failed);
+        }
+        list_versions(self.alloc, &self.files, group, artifact)
+    }
+
+    fn publish(
+        &mut self,
+        area: &mut MemArea,
+        piece: u64,
+        name: &FileName,
+    ) -> Result<(), DeviceFault> {
+        if self.calls.next_fails() {
+            return Err(DeviceFault::Failed);
+        }
+        let bytes = area.copy_of(piece)?;
+        self.note(name, bytes)?;
+        area.take(piece);
+        Ok(())
+    }
+
+    fn settle(&mut self) -> Result<(), DeviceFault> {
+        if self.calls.next_fails() {
+            return Err(DeviceFault::Failed);
+        }
+        self.settled = self.publishes.len() as u64;
+        Ok(())
+    }
+}

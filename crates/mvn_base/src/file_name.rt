@@ -1,6 +1,6 @@
-ghost use Rattle.std.specs.Prelude.{◌≡◌, ◌<◌, ◌==◌, ◌++◌, true, map, IfOk, OnOk};
+ghost use Rattle.std.specs.Prelude.{◌≡◌, ◌<◌, ◌==◌, ◌++◌, [], ◌∷◌, true, map, IfOk, OnOk};
 ghost use Rattle.std.specs.String.{string_bytes};
-ghost use Rattle.mvn_base.specs.FileName.{folder_byte, classifier_part, file_name, IsValid, is_classifier, step_before_last, version_in};
+ghost use Rattle.mvn_base.specs.FileName.{artifact_folder, folder_byte, classifier_part, file_name, IsValid, is_classifier, step_before_last, version_in};
 ghost use Rattle.std.specs.List.{slice_split};
 ghost use Rattle.mvn_base.specs.Names.{is_group, is_name};
 
@@ -70,6 +70,17 @@ fn group_folder(alloc: Global, group: &[u8]) -> Mem<String>
         folder.push(folder_char(*b))?;
     }
     Ok(folder)
+}
+
+/// The folder of an artifact's versions: the group with `/` for its dots, `/` and the artifact. Costs its length.
+pub fn artifact_folder(alloc: Global, group: &Text, artifact: &Text) -> Mem<Text>
+    requires { is_group group.now ≡ true }
+    ensures { IfOk result (λ folder. folder ++ 47 ∷ [] ≡ artifact_folder group.now artifact.now) }
+{
+    let mut folder = group_folder(alloc, group.as_bytes())?;
+    folder.push('/')?;
+    folder.push_str(artifact.as_str())?;
+    Ok(Text::of(folder))
 }
 
 // A hyphen and the classifier, where there is one.

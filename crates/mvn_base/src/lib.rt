@@ -10,7 +10,7 @@ pub mod refusal;
 pub mod rule;
 pub mod setting;
 
-pub use file_name::{FileName, file_of, version_in};
+pub use file_name::{FileName, artifact_folder, file_of, version_in};
 pub use gav::Gav;
 pub use machine::{Machine, Pair};
 pub use mvn_shared::{Bytes, FileMap, List, Mem, OutOfMemory, Text, TextError};

@@ -10,6 +10,7 @@ pub mod remote;
 pub mod shelf;
 pub mod sink;
 pub mod tree;
+pub mod versions;
 
 pub use area::Area;
 pub use fault::{AreaFault, DeviceFault, GateFault, ListFault, ReadFault};
@@ -20,3 +21,4 @@ pub use remote::Remote;
 pub use shelf::{Published, Shelf, ShelfTold};
 pub use sink::{Sink, write_all};
 pub use tree::Tree;
+pub use versions::{MOST_VERSIONS, versions_among};

@@ -2,14 +2,24 @@
 //! error of the system as a fault.
 #![tactic(auto)]
 
+pub mod area;
 mod count;
+mod folders;
 mod reading;
+pub mod remote;
+pub mod shelf;
 pub mod sink;
 pub mod tree;
+mod versions;
 mod walk;
 
+pub use area::RealArea;
+pub use remote::RealRemote;
+pub use shelf::RealShelf;
 pub use sink::RealSink;
 pub use tree::RealTree;
 
+#[cfg(test)]
+mod store_tests;
 #[cfg(test)]
 mod tests;

@@ -1,6 +1,6 @@
 use Rattle.std.proofs.Common.{true, false, ap, ◌∙◌}
 use Rattle.std.specs.FinMap as map
-use Rattle.outside_mem.proofs.NumberMaps.{put_there}
+use Rattle.mvn_outside.proofs.NumberMaps.{put_there}
 use Rattle.outside_mem.proofs.tests.publish.Goals as goal
 
 pub append-requires : goal.append-requires

@@ -1,6 +1,6 @@
 use Rattle.std.proofs.Common.{◌≡◌, Some, None, sym, ap, ◌∙◌}
 use Rattle.outside_mem.specs.declared.pieces.Piece.{Piece}
-use Rattle.outside_mem.proofs.NumberMaps.{some_mapped, there_mapped}
+use Rattle.mvn_outside.proofs.NumberMaps.{some_mapped, there_mapped}
 use Rattle.outside_mem.proofs.area.MemArea.copy_of.Goals as goal
 
 pub returns-in_ok-clone-in-Some : goal.returns-in_ok-clone-in-Some

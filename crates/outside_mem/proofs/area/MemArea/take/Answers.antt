@@ -1,5 +1,5 @@
 use Rattle.outside_mem.specs.declared.pieces.Piece.{Piece}
-use Rattle.outside_mem.proofs.NumberMaps.{take_mapped}
+use Rattle.mvn_outside.proofs.NumberMaps.{take_mapped}
 use Rattle.outside_mem.proofs.area.MemArea.take.Goals as goal
 
 pub returns-clause-sealed : goal.returns-clause-sealed

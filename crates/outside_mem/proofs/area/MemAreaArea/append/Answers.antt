@@ -5,7 +5,7 @@ use Rattle.std.specs.FinMap as map
 use Rattle.std.specs.Option.{option_map}
 use Rattle.outside_mem.specs.declared.pieces.Piece.{Piece}
 use Rattle.outside_mem.specs.Pieces.{with_bytes, bytes_of}
-use Rattle.outside_mem.proofs.NumberMaps.{same_mapped, change_mapped, there_mapped, some_mapped}
+use Rattle.mvn_outside.proofs.NumberMaps.{same_mapped, change_mapped, there_mapped, some_mapped}
 use Rattle.outside_mem.proofs.area.MemAreaArea.append.Goals as goal
 
 pub returns-in_err-extend_at-clause-pieces : goal.returns-in_err-extend_at-clause-pieces

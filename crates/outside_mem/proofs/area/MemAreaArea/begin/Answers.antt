@@ -2,7 +2,7 @@ use Rattle.std.proofs.Common.{Some, sym, ap, ◌∙◌}
 use Rattle.std.specs.FinMap as map
 use Rattle.outside_mem.specs.declared.pieces.Piece.{Piece}
 use Rattle.outside_mem.specs.Pieces.{bytes_of}
-use Rattle.outside_mem.proofs.NumberMaps.{none_mapped, put_mapped}
+use Rattle.mvn_outside.proofs.NumberMaps.{none_mapped, put_mapped}
 use Rattle.outside_mem.proofs.area.MemAreaArea.begin.Goals as goal
 
 pub returns-in-Ok-clause-fresh : goal.returns-in-Ok-clause-fresh

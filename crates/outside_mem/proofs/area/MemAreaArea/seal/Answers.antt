@@ -1,7 +1,7 @@
 use Rattle.std.proofs.Common.{Some, ap}
 use Rattle.outside_mem.specs.declared.pieces.Piece.{Piece}
 use Rattle.outside_mem.specs.Pieces.{sealed_piece}
-use Rattle.outside_mem.proofs.NumberMaps.{same_mapped, change_mapped, there_mapped}
+use Rattle.mvn_outside.proofs.NumberMaps.{same_mapped, change_mapped, there_mapped}
 use Rattle.outside_mem.proofs.area.MemAreaArea.seal.Goals as goal
 
 pub returns-clause-ok : goal.returns-clause-ok

@@ -3,8 +3,8 @@ use Rattle.std.specs.List.{filter_map}
 use Rattle.std.proofs.lemmas.List.{take_more, append-nil}
 use Rattle.std.proofs.lemmas.List.Elements.{filter_map-append}
 use Rattle.mvn_base.specs.FileName.{version_in}
-use Rattle.outside_mem.proofs.versions.versions_among.Goals as goal
-use Rattle.outside_mem.proofs.versions.versions_among.Goals.{in-Some+in_ok-push, in_default}
+use Rattle.mvn_outside.proofs.versions.versions_among.Goals as goal
+use Rattle.mvn_outside.proofs.versions.versions_among.Goals.{in-Some+in_ok-push, in_default}
 
 pub loop-name-preserved : goal.loop-name-preserved
 loop-name-preserved c =

@@ -1,0 +1,233 @@
+ghost use Rattle.std.specs.Prelude.{◌≡◌, ◌<◌, ◌≤◌, length, IfOk};
+ghost use Rattle.std.specs.FinMap as map;
+
+use crate::count::raised;
+use crate::reading::is_absent;
+use mvn_outside::{Area, AreaFault};
+use mvn_shared::{Mem, Text};
+use std::collections::BTreeMap;
+use std::fs::{self, OpenFile, OpenOptions};
+use std::io::{ErrorKind, Write};
+use std::{io, rt};
+
+/// One worker's staging folder on a disk. It tells which pieces are there, and nothing of their bytes. A piece is a file
+/// whose name is its number.
+#[derive(Drop)]
+pub struct RealArea<'a, R: rt::Files + AllocGlobal + Clone + Drop> {
+    rt: &'a R,
+    folder: Text,
+    pieces: BTreeMap<u64, bool>,
+    next: u64,
+    faults: u64,
+}
+
+// An error of the system, as a fault.
+fn area_fault(e: &io::Error) -> AreaFault {
+    match e.kind() {
+        ErrorKind::OutOfMemory => AreaFault::Memory,
+        _ => AreaFault::Failed,
+    }
+}
+
+// One write to a stream: at least one byte where there is one. A call that a signal cut off is made again.
+fn write_some<F: Write>(file: &mut F, bytes: &[u8]) -> Result<usize, AreaFault>
+    ensures within { IfOk result (λ count. count ≤ length bytes.now) }
+    ensures progress { IfOk result (λ count. 0 < length bytes.now → 0 < count) }
+{
+    for _ in 0..u64::MAX {
+        match file.write(bytes) {
+            Ok(count) => {
+                if count > 0 || bytes.is_empty() {
+                    return Ok(count);
+                }
+                return Err(AreaFault::Failed);
+            }
+            Err(e) => if e.kind() != ErrorKind::Interrupted {
+                return Err(area_fault(&e));
+            },
+        }
+    }
+    Err(AreaFault::Failed)
+}
+
+impl<'a, R: rt::Files + AllocGlobal + Clone + Drop> RealArea<'a, R> {
+    ghost use Rattle.outside_real.specs.Area.{area_pieces, area_faults};
+
+    /// The staging folder at a path of the system, which need not be there. What a stopped run left in it stays until
+    /// it is swept.
+    pub fn new(rt: &'a R, folder: Text) -> RealArea<'a, R> {
+        let pieces = BTreeMap::new(rt.alloc());
+        RealArea {
+            rt,
+            folder,
+            pieces,
+            next: 0,
+            faults: 0,
+        }
+    }
+
+    // The path of a piece.
+    pub(crate) fn path_of(&self, piece: u64) -> Mem<String> {
+        let folder = &self.folder;
+        Ok(format!(in self.rt.alloc(); "{folder}/{piece}")?)
+    }
+
+    // Drops a piece that has left the folder.
+    pub(crate) fn forget(&mut self, piece: u64)
+        ensures pieces { area_pieces self.new ≡ map.remove (area_pieces self.old) piece }
+        ensures faults { area_faults self.new ≡ area_faults self.old }
+    {
+        self.pieces.remove(&piece);
+    }
+
+    // Makes the folder and an empty file.
+    fn create(&self, piece: u64) -> Result<(), AreaFault> {
+        let path = self.path_of(piece)?;
+        fs::create_dir_all(self.rt, self.folder.as_str()).map_err(|e| area_fault(&e))?;
+        let mut how = OpenOptions::new();
+        how.write(true).create(true).truncate(true);
+        self.rt
+            .open_file(&how, path.as_str())
+            .map_err(|e| area_fault(&e))?;
+        Ok(())
+    }
+
+    // Writes a part of the bytes at the end of a file.
+    fn write_part(&self, piece: u64, bytes: &[u8]) -> Result<usize, AreaFault>
+        ensures within { IfOk result (λ count. count ≤ length bytes.now) }
+        ensures progress { IfOk result (λ count. 0 < length bytes.now → 0 < count) }
+    {
+        let path = self.path_of(piece)?;
+        let mut file = self
+            .rt
+            .open_file(OpenOptions::new().append(true), path.as_str())
+            .map_err(|e| area_fault(&e))?;
+        write_some(&mut file, bytes)
+    }
+
+    // Brings a file's bytes to the disk.
+    fn sync(&self, piece: u64) -> Result<(), AreaFault> {
+        let path = self.path_of(piece)?;
+        let file = self
+            .rt
+            .open_file(OpenOptions::new().append(true), path.as_str())
+            .map_err(|e| area_fault(&e))?;
+        file.sync_all().map_err(|e| area_fault(&e))
+    }
+
+    // Removes a file, if it is there.
+    fn remove(&self, piece: u64) -> Result<(), AreaFault> {
+        let path = self.path_of(piece)?;
+        match self.rt.remove_file(path.as_str()) {
+            Ok(()) => Ok(()),
+            Err(e) => if is_absent(&e) {
+                Ok(())
+            } else {
+                Err(area_fault(&e))
+            },
+        }
+    }
+
+    // Removes the folder with all that is in it.
+    fn remove_all(&self) -> Result<(), AreaFault> {
+        match self
+            .rt
+            .remove_dir_all(self.rt.alloc(), self.folder.as_str())
+        {
+            Ok(()) => Ok(()),
+            Err(e) => if is_absent(&e) {
+                Ok(())
+            } else {
+                Err(area_fault(&e))
+            },
+        }
+    }
+}
+
+impl<'a, R: rt::Files + AllocGlobal + Clone + Drop> Area for RealArea<'a, R> {
+    ghost use Rattle.std.specs.Prelude.{None};
+    ghost use Rattle.std.specs.FinMap.{from_entries};
+
+    ghost pieces = { λ area. from_entries area.pieces.entries };
+
+    ghost contents = { λ _. None };
+
+    ghost faults = { λ area. area.faults };
+
+    // A number is given once; the last of them never.
+    fn begin(&mut self) -> Result<u64, AreaFault> {
+        let piece = self.next;
+        if piece == u64::MAX || self.pieces.contains_key(&piece) {
+            return Err(AreaFault::Memory);
+        }
+        match self.create(piece) {
+            Ok(()) => {}
+            Err(AreaFault::Memory) => return Err(AreaFault::Memory),
+            Err(AreaFault::Failed) => {
+                self.faults = raised(self.faults);
+                return Err(AreaFault::Failed);
+            }
+        }
+        match self.pieces.insert(piece, false) {
+            Ok(_) => {
+                self.next = piece + 1;
+                Ok(piece)
+            }
+            Err(_) => Err(AreaFault::Memory),
+        }
+    }
+
+    fn append(&mut self, piece: u64, bytes: &[u8]) -> Result<usize, AreaFault> {
+        match self.write_part(piece, bytes) {
+            Ok(count) => Ok(count),
+            Err(AreaFault::Memory) => Err(AreaFault::Memory),
+            Err(AreaFault::Failed) => {
+                self.faults = raised(self.faults);
+                Err(AreaFault::Failed)
+            }
+        }
+    }
+
+    fn seal(&mut self, piece: u64) -> Result<(), AreaFault> {
+        match self.sync(piece) {
+            Ok(()) => {}
+            Err(AreaFault::Memory) => return Err(AreaFault::Memory),
+            Err(AreaFault::Failed) => {
+                self.faults = raised(self.faults);
+                return Err(AreaFault::Failed);
+            }
+        }
+        match self.pieces.insert(piece, true) {
+            Ok(_) => Ok(()),
+            Err(_) => Err(AreaFault::Memory),
+        }
+    }
+
+    fn discard(&mut self, piece: u64) -> Result<(), AreaFault> {
+        match self.remove(piece) {
+            Ok(()) => {
+                self.forget(piece);
+                Ok(())
+            }
+            Err(AreaFault::Memory) => Err(AreaFault::Memory),
+            Err(AreaFault::Failed) => {
+                self.faults = raised(self.faults);
+                Err(AreaFault::Failed)
+            }
+        }
+    }
+
+    fn sweep(&mut self) -> Result<(), AreaFault> {
+        match self.remove_all() {
+            Ok(()) => {
+                self.pieces.clear();
+                Ok(())
+            }
+            Err(AreaFault::Memory) => Err(AreaFault::Memory),
+            Err(AreaFault::Failed) => {
+                self.faults = raised(self.faults);
+                Err(AreaFault::Failed)
+            }
+        }
+    }
+}

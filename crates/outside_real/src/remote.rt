@@ -1,0 +1,69 @@
+ghost use Rattle.std.specs.Prelude.{◌≡◌, ◌≤◌, true, IfOk, IfSome, length};
+ghost use Rattle.mvn_base.specs.Names.{is_group, is_name};
+
+use crate::count::raised;
+use crate::reading::{full_path, read_file};
+use crate::versions::versions_below;
+use mvn_base::FileName;
+use mvn_outside::{ListFault, ReadFault, Remote};
+use mvn_shared::{Bytes, List, Text};
+use std::rt;
+
+/// A repository that is a folder on a disk, to fetch from. It tells nothing of what stands there.
+#[derive(Drop)]
+pub struct RealRemote<'a, R: rt::Files + AllocGlobal + Clone + Drop> {
+    rt: &'a R,
+    root: Text,
+    faults: u64,
+}
+
+impl<'a, R: rt::Files + AllocGlobal + Clone + Drop> RealRemote<'a, R> {
+    /// The folder at a path of the system.
+    pub fn new(rt: &'a R, root: Text) -> RealRemote<'a, R> {
+        RealRemote {
+            rt,
+            root,
+            faults: 0,
+        }
+    }
+
+    fn bytes_at(&self, name: &FileName, limit: u64) -> Result<Option<Bytes>, ReadFault>
+        ensures { IfOk result (λ found. IfSome found (λ bytes. length bytes ≤ limit)) }
+    {
+        let alloc = self.rt.alloc();
+        let path = full_path(alloc, self.root.as_str(), name.as_text().as_str())?;
+        read_file(self.rt, alloc, path.as_str(), limit)
+    }
+}
+
+impl<'a, R: rt::Files + AllocGlobal + Clone + Drop> Remote for RealRemote<'a, R> {
+    ghost use Rattle.std.specs.Prelude.{None};
+
+    ghost files = { λ _. None };
+
+    ghost faults = { λ remote. remote.faults };
+
+    fn fetch(&mut self, name: &FileName, limit: u64) -> Result<Option<Bytes>, ReadFault> {
+        match self.bytes_at(name, limit) {
+            Ok(found) => Ok(found),
+            Err(ReadFault::TooLarge) => Err(ReadFault::TooLarge),
+            Err(ReadFault::Memory) => Err(ReadFault::Memory),
+            Err(ReadFault::Failed) => {
+                self.faults = raised(self.faults);
+                Err(ReadFault::Failed)
+            }
+        }
+    }
+
+    fn versions(&mut self, group: &Text, artifact: &Text) -> Result<List<Text>, ListFault> {
+        match versions_below(self.rt, self.root.as_str(), group, artifact) {
+            Ok(versions) => Ok(versions),
+            Err(ListFault::TooMany) => Err(ListFault::TooMany),
+            Err(ListFault::Memory) => Err(ListFault::Memory),
+            Err(ListFault::Failed) => {
+                self.faults = raised(self.faults);
+                Err(ListFault::Failed)
+            }
+        }
+    }
+}

@@ -1,5 +1,6 @@
 // The words of the command line.
-ghost use Rattle.std.specs.Prelude.{◌≡◌};
+ghost use Rattle.std.specs.Prelude.{◌≡◌, codes};
+ghost use Rattle.mvn_cli.specs.Words.{is_only_word};
 
 use mvn_shared::{Bytes, Mem, OutOfMemory};
 use std::alloc::Global;
@@ -37,21 +38,26 @@ pub fn words<R: Env>(rt: &R, alloc: Global) -> Mem<Vec<Bytes>> {
     Ok(words)
 }
 
-fn is_only_word(words: &[Bytes], spellings: [&str; 2]) -> bool {
+// Whether there is one word, and it is one of the two.
+fn is_only_word(words: &[Bytes], short: &[u8], long: &[u8]) -> bool
+    ensures { result ≡ is_only_word words.now short.now long.now }
+{
     match words {
-        [word] => {
-            word.as_slice() == spellings[0].as_bytes() || word.as_slice() == spellings[1].as_bytes()
-        }
+        [word] => word.as_slice() == short || word.as_slice() == long,
         _ => false,
     }
 }
 
 /// Whether the one word asks for help.
-pub fn asks_for_help(words: &[Bytes]) -> bool {
-    is_only_word(words, ["-h", "--help"])
+pub fn asks_for_help(words: &[Bytes]) -> bool
+    ensures { result ≡ is_only_word words.now (codes "-h") (codes "--help") }
+{
+    is_only_word(words, b"-h", b"--help")
 }
 
 /// Whether the one word asks for the version.
-pub fn asks_for_version(words: &[Bytes]) -> bool {
-    is_only_word(words, ["-v", "--version"])
+pub fn asks_for_version(words: &[Bytes]) -> bool
+    ensures { result ≡ is_only_word words.now (codes "-v") (codes "--version") }
+{
+    is_only_word(words, b"-v", b"--version")
 }

@@ -93,9 +93,20 @@ fn missing_root_pom_is_module_not_found(rt: HostRuntime) -> Result<(), Fail> {
 }
 
 #[test]
+fn an_empty_pom_is_no_pom_text(rt: HostRuntime) -> Result<(), Fail> {
+    check_pom(
+        &rt,
+        rt.alloc(),
+        "",
+        2,
+        "refused pom.xml rule 3 NotPomText at 0\n",
+    )?;
+    Ok(())
+}
+
+#[test]
 fn missing_version_is_refused(rt: HostRuntime) -> Result<(), Fail> {
     for (pom, text) in [
-        ("", "refused pom.xml rule 3 NotPomText at 0\n"),
         (
             "<project><modelVersion>4.0.0</modelVersion><groupId>demo</groupId><artifactId>app</artifactId></project>",
             "refused pom.xml rule 8 MissingField at project/version\n",

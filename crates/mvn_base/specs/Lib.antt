@@ -4,3 +4,4 @@ pub mod Names
 pub mod Phase
 pub mod Rule
 pub mod Refusal
+pub mod Types

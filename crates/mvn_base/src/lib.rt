@@ -9,6 +9,7 @@ pub mod phase;
 pub mod refusal;
 pub mod rule;
 pub mod setting;
+pub mod type_rule;
 
 pub use file_name::{FileName, artifact_folder, file_of, version_in};
 pub use gav::Gav;
@@ -19,6 +20,7 @@ pub use phase::{Phase, phase_of};
 pub use refusal::{Place, PomId, Refusal};
 pub use rule::Rule;
 pub use setting::Setting;
+pub use type_rule::{TypeRule, handler};
 
 #[cfg(test)]
 mod tests;

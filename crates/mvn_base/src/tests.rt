@@ -1,7 +1,7 @@
 // Names and lines, as tables of outside examples.
 use crate::{
-    FileName, Gav, Mem, Phase, Place, PomId, Refusal, Rule, Text, file_of, phase_of, valid_group,
-    valid_name, valid_version, version_in,
+    FileName, Gav, List, Mem, Phase, Place, PomId, Refusal, Rule, Setting, Text, file_of, handler,
+    phase_of, valid_group, valid_name, valid_version, version_in,
 };
 use std::test::Fail;
 
@@ -208,4 +208,49 @@ fn phases_stand_in_the_order_of_the_default_lifecycle(rt: HostRuntime) {
     for word in ["", "clean", "site", "Compile", "compile ", "process-test"] {
         assert_eq!(rt; phase_of(word.as_bytes()).is_none(), true, "{word}");
     }
+}
+
+#[test]
+fn types_have_the_files_of_the_table(rt: HostRuntime) -> Result<(), Fail> {
+    let alloc = rt.alloc();
+    for (kind, extension, classifier, on_classpath) in [
+        ("jar", "jar", "", true),
+        ("maven-plugin", "jar", "", true),
+        ("ejb", "jar", "", true),
+        ("test-jar", "jar", "tests", true),
+        ("war", "war", "", false),
+        ("pom", "pom", "", false),
+        ("tar.gz", "tar.gz", "", false),
+    ] {
+        let rule = handler(alloc, &Text::from_str(alloc, kind)?)?;
+        assert_eq!(rt; rule.extension.as_str(), extension, "{kind}");
+        assert_eq!(rt; rule.classifier.as_str(), classifier, "{kind}");
+        assert_eq!(rt; rule.on_classpath, on_classpath, "{kind}");
+    }
+    Ok(())
+}
+
+// A setting of this name and these children.
+fn setting(rt: &HostRuntime, name: &str, children: List<Setting>) -> Mem<Setting> {
+    Ok(Setting {
+        name: Text::from_str(rt.alloc(), name)?,
+        text: Text::from_str(rt.alloc(), "text")?,
+        children,
+    })
+}
+
+#[test]
+fn a_setting_is_copied_with_its_children(rt: HostRuntime) -> Result<(), Fail> {
+    let mut children = List::new(rt.alloc());
+    children.push(setting(&rt, "first", List::new(rt.alloc()))?)?;
+    children.push(setting(&rt, "second", List::new(rt.alloc()))?)?;
+    let copy = setting(&rt, "parent", children)?.clone()?;
+    let Some(second) = copy.children.get(1) else {
+        return Err(Fail::new("the second child"));
+    };
+    assert_eq!(rt;
+        (copy.name.as_str(), second.name.as_str()),
+        ("parent", "second")
+    );
+    Ok(())
 }

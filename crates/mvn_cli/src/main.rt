@@ -1,15 +1,26 @@
 //! The program `mvn`: its words and its folder, given to the top call.
 #![tactic(auto)]
 
+ghost use Rattle.std.specs.Prelude.{◌≡◌, length, IfOk};
+
+mod environment;
 mod words;
 
-use mvn_outside::{DeviceFault, Sink, write_all};
-use mvn_shared::{Mem, Text};
+use environment::{machine, variable_or, variables, words};
+use gate_builtin::Builtin;
+use mvn_outside::{DeviceFault, Hand, Sink, write_all};
+use mvn_shared::{Bytes, Mem, Text};
 use mvn_top::{FAULT, NO_MEMORY, mvn};
-use outside_real::{RealSink, RealTree};
+use outside_real::{RealArea, RealRemote, RealShelf, RealSink, RealTree};
 use std::os::fd::AsFd;
 use std::process::{ChildStdin, ExitCode};
-use words::{asks_for_help, asks_for_version, words};
+use words::{asks_for_help, asks_for_version};
+
+/// How many hands there are at most.
+const HANDS: usize = 16;
+
+/// What one worker works with here.
+type RealHand<'a> = Hand<RealRemote<'a, HostRuntime>, RealArea<'a, HostRuntime>, Builtin>;
 
 const HELP: &str = "\
 mvn builds a Maven project (POM model 4.0.0).
@@ -38,6 +49,37 @@ fn status_of_text<O: Sink>(sink: &mut O, text: &str) -> u8 {
     }
 }
 
+// The hands: each with the remote, its own staging folder in the repository, and the built-in goals.
+fn hands<'a>(rt: &'a HostRuntime, repository: &Text, remote: &Text) -> Mem<Vec<RealHand<'a>>>
+    ensures { IfOk result (λ hands. length hands.items ≡ 16) }
+{
+    let alloc = rt.alloc();
+    let mut hands = Vec::with_capacity(alloc, HANDS)?;
+    for i in 0..HANDS {
+        let staging = format!(in alloc; "{repository}/.staging/{i}")?;
+        hands.push(Hand {
+            remote: RealRemote::new(rt, remote.clone()?),
+            area: RealArea::new(rt, Text::of(staging)),
+            gate: Builtin::new(alloc),
+        })?;
+    }
+    Ok(hands)
+}
+
+// Builds the project in the current folder.
+fn build<O: Sink>(rt: &HostRuntime, words: &[Bytes], out: &mut O) -> Mem<u8> {
+    let alloc = rt.alloc();
+    let variables = variables(rt, alloc)?;
+    let machine = machine(alloc, &variables)?;
+    let repository = variable_or(alloc, &variables, "MVN_REPO", ".m2/repository")?;
+    let remote = variable_or(alloc, &variables, "MVN_REMOTE", ".m2/remote")?;
+    let mut hands = hands(rt, &repository, &remote)?;
+    let mut tree = RealTree::new(rt, Text::from_str(alloc, ".")?);
+    let shelf = RealShelf::new(rt, repository);
+    let ended = mvn(alloc, words, &machine, &mut tree, shelf, &mut hands, out);
+    Ok(ended.status)
+}
+
 // The exit status of a run.
 fn run(rt: &HostRuntime) -> Mem<u8> {
     let alloc = rt.alloc();
@@ -53,8 +95,7 @@ fn run(rt: &HostRuntime) -> Mem<u8> {
     if asks_for_version(&words) {
         return Ok(status_of_text(&mut sink, VERSION));
     }
-    let mut tree = RealTree::new(rt, Text::from_str(alloc, ".")?);
-    Ok(mvn(alloc, &words, &mut tree, &mut sink))
+    build(rt, &words, &mut sink)
 }
 
 fn main(rt: HostRuntime) -> ExitCode {

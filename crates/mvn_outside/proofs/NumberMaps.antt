@@ -2,36 +2,29 @@
 use Rattle.std.proofs.Common.{◌≡◌, ℕ, Bool, true, false, List, [], ◌∷◌, Option, Some, None, is_some, cond, refl, sym, ap, ◌∙◌, map}
 use Rattle.std.specs.Option.{option_map}
 use Rattle.std.specs.Ordering.{nat_cmp}
-use Rattle.std.specs.Map.{lookup}
 use Rattle.std.specs.BTreeMap.{is_at}
-use Rattle.std.specs.Cmp.{eq_by_cmp_equiv, nat_cmp_total}
-use Rattle.std.specs.FinMap.{FinMap, from_entries, find, get, insert, remove, get-from_entries, get-insert, get-remove, same_map, nat_cmp-IsAntisymmetric}
+use Rattle.std.specs.Cmp.{nat_cmp_total}
+use Rattle.std.specs.FinMap.{FinMap, from_entries, get, insert, remove, nat_cmp-IsAntisymmetric}
+use Rattle.mvn_shared.proofs.Maps.{value_at, same_values}
+use Rattle.mvn_shared.proofs.Maps as maps
 
 module _ {X : Type 0} where
   -- what a list of entries has at a number
   abbrev pub value_of : List (ℕ × X) → ℕ → Option X
-  value_of es n = lookup (is_at (nat_cmp n)) es
-
-  find_value : (es : List (ℕ × X)) (q : ℕ) → find nat_cmp q es ≡ value_of es q
-  find_value [] q = refl
-  find_value (e ∷ es) q = ap (cond (is_at (nat_cmp q) e.0) (Some e.1)) (find_value es q)
+  value_of = value_at nat_cmp
 
   pub get_value : (es : List (ℕ × X)) (q : ℕ) → get (from_entries {R = nat_cmp} es) q ≡ value_of es q
-  get_value es q = get-from_entries nat_cmp_total es q ∙ find_value es q
+  get_value = maps.get_value nat_cmp_total
 
   pub one_put : (es fs : List (ℕ × X)) (s : ℕ) (v : X) → ((q : ℕ) → value_of fs q ≡ cond (is_at (nat_cmp s) q) (Some v) (value_of es q)) → from_entries {R = nat_cmp} fs ≡ insert (from_entries es) s v
-  one_put es fs s v h = same_map nat_cmp_total nat_cmp-IsAntisymmetric _ _ (λ q.
-      get_value fs q ∙ h q ∙ ap (λ b. cond b (Some v) (value_of es q)) ((eq_by_cmp_equiv nat_cmp_total).symm s q)
-      ∙ sym (get-insert nat_cmp_total (from_entries es) s v q ∙ ap (cond (is_at (nat_cmp q) s) (Some v)) (get_value es q)))
+  one_put = maps.one_put nat_cmp_total nat_cmp-IsAntisymmetric
 
   pub one_taken : (es fs : List (ℕ × X)) (s : ℕ) → ((q : ℕ) → value_of fs q ≡ cond (is_at (nat_cmp s) q) None (value_of es q)) → from_entries {R = nat_cmp} fs ≡ remove (from_entries es) s
-  one_taken es fs s h = same_map nat_cmp_total nat_cmp-IsAntisymmetric _ _ (λ q.
-      get_value fs q ∙ h q ∙ ap (λ b. cond b None (value_of es q)) ((eq_by_cmp_equiv nat_cmp_total).symm s q)
-      ∙ sym (get-remove nat_cmp_total (from_entries es) s q ∙ ap (cond (is_at (nat_cmp q) s) None) (get_value es q)))
+  one_taken = maps.one_taken nat_cmp_total nat_cmp-IsAntisymmetric
 
   -- what was put at a number is there
   pub put_there : (m : FinMap nat_cmp X) (k : ℕ) (v : X) → get (insert m k v) k ≡ Some v
-  put_there m k v = get-insert nat_cmp_total m k v k ∙ ap (λ b. cond b (Some v) (get m k)) ((eq_by_cmp_equiv nat_cmp_total).refl k)
+  put_there = maps.put_there nat_cmp_total
 
 module _ {X Y : Type 0} (f : X → Y) where
   abbrev pub mapped : List (ℕ × X) → List (ℕ × Y)
@@ -56,8 +49,7 @@ module _ {X Y : Type 0} (f : X → Y) where
 
   -- what has the same values everywhere is the same map
   pub same_mapped : (es fs : List (ℕ × X)) → ((q : ℕ) → option_map f (value_of fs q) ≡ option_map f (value_of es q)) → from_entries {R = nat_cmp} (mapped fs) ≡ from_entries (mapped es)
-  same_mapped es fs h = same_map nat_cmp_total nat_cmp-IsAntisymmetric _ _ (λ q.
-      get_value (mapped fs) q ∙ value_of-mapped fs q ∙ h q ∙ sym (value_of-mapped es q) ∙ sym (get_value (mapped es) q))
+  same_mapped es fs h = same_values nat_cmp_total nat_cmp-IsAntisymmetric (mapped es) (mapped fs) (λ q. value_of-mapped fs q ∙ h q ∙ sym (value_of-mapped es q))
 
   -- a value changed at a number where there is one
   pub change_mapped : (g : X → X) (es fs : List (ℕ × X)) (s : ℕ) (v : X) → value_of es s ≡ Some v → ((q : ℕ) → value_of fs q ≡ cond (is_at (nat_cmp s) q) (option_map g (value_of es s)) (value_of es q)) → from_entries {R = nat_cmp} (mapped fs) ≡ insert (from_entries (mapped es)) s (f (g v))

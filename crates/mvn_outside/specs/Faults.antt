@@ -37,3 +37,16 @@ abbrev pub gate_failed : {T : Type 0} → Result T GateFault → Bool
 gate_failed (Ok x) = false
 gate_failed (Err gate.Failed) = true
 gate_failed (Err gate.Memory) = false
+
+-- the same fault of a device, where more may go wrong
+abbrev pub read_fault : DeviceFault → ReadFault
+read_fault device.Failed = read.Failed
+read_fault device.Memory = read.Memory
+
+abbrev pub list_fault : DeviceFault → ListFault
+list_fault device.Failed = list.Failed
+list_fault device.Memory = list.Memory
+
+abbrev pub area_fault : DeviceFault → AreaFault
+area_fault device.Failed = area.Failed
+area_fault device.Memory = area.Memory

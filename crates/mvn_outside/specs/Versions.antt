@@ -15,9 +15,13 @@ versions_of files group artifact = filter_map (version_in group artifact) (map.k
 abbrev pub most_versions : ℕ
 most_versions = 4096
 
--- a listing: the versions, or too many exactly where there are more
+-- a listing of these: all of them, or too many exactly where there are more
+abbrev pub ListsAll : List (List ℕ) → Result (List (List ℕ)) ListFault → Type 0
+ListsAll versions (Ok found) = (found ≡ versions) × (length found ≤ most_versions)
+ListsAll versions (Err list.TooMany) = most_versions < length versions
+ListsAll versions (Err list.Failed) = Unit {0}
+ListsAll versions (Err list.Memory) = Unit {0}
+
+-- a listing of an artifact's versions
 abbrev pub ListsVersions : Files → List ℕ → List ℕ → Result (List (List ℕ)) ListFault → Type 0
-ListsVersions files group artifact (Ok versions) = (versions ≡ versions_of files group artifact) × (length versions ≤ most_versions)
-ListsVersions files group artifact (Err list.TooMany) = most_versions < length (versions_of files group artifact)
-ListsVersions files group artifact (Err list.Failed) = Unit {0}
-ListsVersions files group artifact (Err list.Memory) = Unit {0}
+ListsVersions files group artifact result = ListsAll (versions_of files group artifact) result

@@ -150,3 +150,45 @@ impl From<OutOfMemory> for GateFault {
         GateFault::Memory
     }
 }
+
+impl From<DeviceFault> for ReadFault {
+    ghost use Rattle.std.specs.Prelude.{◌≡◌};
+    ghost use Rattle.mvn_outside.specs.Faults.{read_fault};
+
+    ghost from_gives = { λ fault e. e ≡ read_fault fault };
+
+    fn from(fault: DeviceFault) -> Self {
+        match fault {
+            DeviceFault::Failed => ReadFault::Failed,
+            DeviceFault::Memory => ReadFault::Memory,
+        }
+    }
+}
+
+impl From<DeviceFault> for ListFault {
+    ghost use Rattle.std.specs.Prelude.{◌≡◌};
+    ghost use Rattle.mvn_outside.specs.Faults.{list_fault};
+
+    ghost from_gives = { λ fault e. e ≡ list_fault fault };
+
+    fn from(fault: DeviceFault) -> Self {
+        match fault {
+            DeviceFault::Failed => ListFault::Failed,
+            DeviceFault::Memory => ListFault::Memory,
+        }
+    }
+}
+
+impl From<DeviceFault> for AreaFault {
+    ghost use Rattle.std.specs.Prelude.{◌≡◌};
+    ghost use Rattle.mvn_outside.specs.Faults.{area_fault};
+
+    ghost from_gives = { λ fault e. e ≡ area_fault fault };
+
+    fn from(fault: DeviceFault) -> Self {
+        match fault {
+            DeviceFault::Failed => AreaFault::Failed,
+            DeviceFault::Memory => AreaFault::Memory,
+        }
+    }
+}

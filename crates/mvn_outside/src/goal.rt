@@ -28,7 +28,7 @@ pub enum Need {
 }
 
 /// One goal of a module's plan.
-#[derive(Debug, Drop)]
+#[derive(Clone, Debug, Drop)]
 pub struct GoalCall {
     /// The plugin's group.
     pub group: Text,

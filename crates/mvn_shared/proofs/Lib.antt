@@ -1,2 +1,3 @@
 pub mod FileMaps
+pub mod Maps
 pub mod Told

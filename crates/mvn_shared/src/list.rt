@@ -1,4 +1,4 @@
-ghost use Rattle.std.specs.Prelude.{◌≡◌, ◌↔◌, [], ◌∷◌, ◌++◌, length, slice_get, IsTrue, OnOk, OnErr};
+ghost use Rattle.std.specs.Prelude.{◌≡◌, ◌↔◌, [], ◌∷◌, ◌++◌, length, slice_get, IsTrue, IfOk, OnOk, OnErr};
 ghost use Rattle.std.specs.Option.{option_copied};
 
 use crate::memory::Mem;
@@ -72,6 +72,14 @@ impl<T> List<T> {
 }
 
 impl<T: Drop> List<T> {
+    /// An empty list, from the same allocator, with room for as many items.
+    pub fn emptied(&self) -> Mem<List<T>>
+        ensures { IfOk result (λ list. list ≡ []) }
+    {
+        let items = Vec::with_capacity(*self.items.allocator(), self.items.len())?;
+        Ok(List { items })
+    }
+
     /// Adds an item at the end, in constant time on the average.
     pub fn push(&mut self, item: T) -> Mem<()>
         ensures ok { OnOk result (self.new ≡ self.old ++ item ∷ []) }

@@ -13,4 +13,4 @@ pub use law::spelled_and_read;
 pub use outcome::{BUILT, FAULT, NO_MEMORY, Outcome, REFUSED};
 pub use plain::{Element, Field};
 pub use reading::Reading;
-pub use top::mvn;
+pub use top::{Ended, mvn};

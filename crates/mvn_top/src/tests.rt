@@ -1,8 +1,9 @@
 // The runs of the top call over objects in memory, as tables.
 use crate::mvn;
-use mvn_outside::{DeviceFault, Sink, SourceFile};
+use mvn_base::Machine;
+use mvn_outside::{DeviceFault, Hand, Sink, SourceFile, Tree};
 use mvn_shared::{Bytes, List, Mem, Text};
-use outside_mem::{MemSink, MemTree};
+use outside_mem::{Calls, MemArea, MemGate, MemRemote, MemShelf, MemSink, MemTree, NoFailures};
 use std::alloc::Global;
 use std::process::Abort;
 use std::test::Fail;
@@ -21,7 +22,7 @@ fn words_of(alloc: Global, words: &[&str]) -> Mem<Vec<Bytes>> {
 }
 
 // A tree with this POM, or without one.
-fn tree_of(alloc: Global, pom: Option<&[u8]>, failing: &[u64]) -> Mem<MemTree> {
+fn tree_of(alloc: Global, pom: Option<&[u8]>, failing: &[u64]) -> Mem<MemTree<Calls>> {
     let mut files = Vec::new(alloc);
     if let Some(pom) = pom {
         files.push(SourceFile {
@@ -36,6 +37,40 @@ fn numbers(alloc: Global, numbers: &[u64]) -> Mem<List<u64>> {
     Ok(List::of(Vec::from_slice(alloc, numbers)?))
 }
 
+// The machine of the worked rows.
+fn machine(alloc: Global) -> Mem<Machine> {
+    Ok(Machine {
+        root: Text::from_str(alloc, "/w")?,
+        env: List::new(alloc),
+        system: List::new(alloc),
+        jdk: Text::from_str(alloc, "17.0.2")?,
+        os_name: Text::from_str(alloc, "linux")?,
+        os_family: Text::from_str(alloc, "unix")?,
+        os_arch: Text::from_str(alloc, "")?,
+        os_version: Text::from_str(alloc, "")?,
+    })
+}
+
+// A hand whose remote is empty.
+fn hand(
+    alloc: Global,
+) -> Mem<Hand<MemRemote<NoFailures>, MemArea<NoFailures>, MemGate<NoFailures>>> {
+    Ok(Hand {
+        remote: MemRemote::without_failures(alloc, List::new(alloc))?,
+        area: MemArea::without_failures(alloc),
+        gate: MemGate::without_failures(List::new(alloc)),
+    })
+}
+
+// The status of a call with one hand and an empty repository.
+fn run<T: Tree, O: Sink>(alloc: Global, words: &[Bytes], tree: &mut T, out: &mut O) -> Mem<u8> {
+    let shelf = MemShelf::without_failures(alloc, List::new(alloc))?;
+    let machine = machine(alloc)?;
+    let mut hands = [hand(alloc)?];
+    let ended = mvn(alloc, words, &machine, tree, shelf, &mut hands, out);
+    Ok(ended.status)
+}
+
 // One call: the words, the POM where there is one, the status and the text that are wanted.
 fn check(
     rt: &impl Abort,
@@ -48,7 +83,7 @@ fn check(
     let words = words_of(alloc, words)?;
     let mut tree = tree_of(alloc, pom, &[])?;
     let mut sink = MemSink::new(alloc, &numbers(alloc, &[])?)?;
-    let answer = mvn(alloc, &words, &mut tree, &mut sink);
+    let answer = run(alloc, &words, &mut tree, &mut sink)?;
     assert_eq!(rt; answer, status, "{text}");
     assert_eq!(rt; sink.bytes(), text.as_bytes());
     Ok(())
@@ -184,7 +219,7 @@ fn a_failed_read_is_a_tree_fault(rt: HostRuntime) -> Result<(), Fail> {
     let words = words_of(alloc, &["validate"])?;
     let mut tree = tree_of(alloc, Some(POM.as_bytes()), &[0])?;
     let mut sink = MemSink::new(alloc, &numbers(alloc, &[])?)?;
-    assert_eq!(rt; mvn(alloc, &words, &mut tree, &mut sink), 3);
+    assert_eq!(rt; run(alloc, &words, &mut tree, &mut sink)?, 3);
     assert_eq!(rt; sink.bytes(), b"fault tree\n".as_slice());
     Ok(())
 }
@@ -232,7 +267,7 @@ fn a_failed_write_leaves_a_part_of_the_report(rt: HostRuntime) -> Result<(), Fai
             faults: 0,
         };
         let wanted = if failing < report.len() { 3 } else { 0 };
-        assert_eq!(rt; mvn(alloc, &words, &mut tree, &mut sink), wanted);
+        assert_eq!(rt; run(alloc, &words, &mut tree, &mut sink)?, wanted);
         assert_eq!(rt; sink.bytes.as_slice(), &report[..failing]);
     }
     Ok(())

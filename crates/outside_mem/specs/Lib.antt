@@ -4,6 +4,7 @@ pub use Rattle.mvn_shared.specs.Told
 pub mod Area
 pub mod Calls
 pub mod FilesNamed
+pub mod Gate
 pub mod Pieces
 pub mod Remote
 pub mod Shelf

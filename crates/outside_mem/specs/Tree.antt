@@ -5,7 +5,7 @@ use Rattle.mvn_shared.specs.Files.{Files}
 use Rattle.mvn_outside.specs.declared.goal.SourceFile.{SourceFile}
 use Rattle.outside_mem.specs.declared.tree.MemTree.{MemTree}
 
-abbrev pub tree_files : MemTree → Files
+abbrev pub tree_files : {F : Type 0} → MemTree F → Files
 tree_files tree = tree.files
 
 -- one file more

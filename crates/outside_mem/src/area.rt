@@ -1,7 +1,7 @@
 ghost use Rattle.std.specs.Prelude.{◌≡◌, [], Some, true, length, IfOk};
 ghost use Rattle.std.specs.FinMap as map;
 
-use crate::calls::Calls;
+use crate::calls::{Calls, Failures, NoFailures};
 use crate::pieces::{Piece, extend_at, seal_at};
 use mvn_outside::{Area, AreaFault};
 use mvn_shared::{Bytes, List, Mem};
@@ -10,18 +10,18 @@ use std::collections::BTreeMap;
 
 /// A staging area in memory. It tells its pieces and their bytes.
 #[derive(Drop)]
-pub struct MemArea {
+pub struct MemArea<F> {
     alloc: Global,
     pieces: BTreeMap<u64, Piece>,
     next: u64,
-    calls: Calls,
+    calls: F,
 }
 
-impl MemArea {
-    ghost use Rattle.outside_mem.specs.Area.{area_pieces, area_sealed, area_contents, area_calls};
+impl MemArea<Calls> {
+    ghost use Rattle.outside_mem.specs.Area.{area_pieces};
 
     /// An area without pieces. The calls with the numbers fail, from 0 on.
-    pub fn new(alloc: Global, failing: &List<u64>) -> Mem<MemArea>
+    pub fn new(alloc: Global, failing: &List<u64>) -> Mem<MemArea<Calls>>
         ensures { IfOk result (λ area. area_pieces area ≡ []) }
     {
         let calls = Calls::new(alloc, failing)?;
@@ -32,6 +32,26 @@ impl MemArea {
             calls,
         })
     }
+}
+
+impl MemArea<NoFailures> {
+    ghost use Rattle.outside_mem.specs.Area.{area_pieces};
+
+    /// An area without pieces. No call fails.
+    pub fn without_failures(alloc: Global) -> MemArea<NoFailures>
+        ensures { area_pieces result ≡ [] }
+    {
+        MemArea {
+            alloc,
+            pieces: BTreeMap::new(alloc),
+            next: 0,
+            calls: NoFailures,
+        }
+    }
+}
+
+impl<F> MemArea<F> {
+    ghost use Rattle.outside_mem.specs.Area.{area_pieces, area_sealed, area_contents, area_calls};
 
     /// The number of pieces that are there. Takes no memory.
     pub fn pieces(&self) -> u64
@@ -61,16 +81,15 @@ impl MemArea {
     }
 }
 
-impl Area for MemArea {
+impl<F: Failures> Area for MemArea<F> {
     ghost use Rattle.std.specs.Prelude.{Some};
     ghost use Rattle.outside_mem.specs.Pieces.{sealed_of, bytes_of};
-    ghost use Rattle.outside_mem.specs.Calls.{fault_count};
 
     ghost pieces = { λ area. sealed_of area.pieces.entries };
 
     ghost contents = { λ area. Some (bytes_of area.pieces.entries) };
 
-    ghost faults = { λ area. fault_count area.calls };
+    ghost faults = { λ area. F.count area.calls };
 
     // A number is given once; the last of them never.
     fn begin(&mut self) -> Result<u64, AreaFault> {

@@ -6,6 +6,28 @@ use mvn_shared::{List, Mem};
 use std::alloc::Global;
 use std::collections::BTreeSet;
 
+/// Which calls of an object in memory fail, and how many have.
+pub trait Failures {
+    /// The faults so far. The count never falls.
+    ghost count: { Self → ℕ };
+
+    /// Counts a call, and says whether it fails.
+    fn next_fails(&mut self) -> bool
+        ensures cause { HasCause (count self.old) (count self.new) result };
+}
+
+/// No call fails: the count of faults is the constant 0.
+#[derive(Clone, Copy, Debug, Drop)]
+pub struct NoFailures;
+
+impl Failures for NoFailures {
+    ghost count = { λ _. 0 };
+
+    fn next_fails(&mut self) -> bool {
+        false
+    }
+}
+
 /// The calls of an object, numbered from 0, and which of them fail. The count of faults stands at 0 where none does.
 #[derive(Drop)]
 pub struct Calls {
@@ -35,8 +57,8 @@ impl Calls {
         })
     }
 
-    /// Counts a call, and says whether it fails.
-    pub fn next_fails(&mut self) -> bool
+    /// Counts a call, and says whether it is among those that fail.
+    pub fn count_call(&mut self) -> bool
         ensures answer { result ≡ fails self.old (call_number self.old) }
         ensures cause { HasCause (fault_count self.old) (fault_count self.new) result }
         ensures number { call_number self.new ≡ min (call_number self.old + 1) last_count }
@@ -57,5 +79,15 @@ impl Calls {
         ensures never { NeverFails self.now → result ≡ 0 }
     {
         self.faults
+    }
+}
+
+impl Failures for Calls {
+    ghost use Rattle.outside_mem.specs.Calls.{fault_count};
+
+    ghost count = { fault_count };
+
+    fn next_fails(&mut self) -> bool {
+        self.count_call()
     }
 }

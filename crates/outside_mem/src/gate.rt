@@ -1,6 +1,6 @@
 ghost use Rattle.std.specs.Prelude.{◌≡◌, IfOk};
 
-use crate::calls::Calls;
+use crate::calls::{Calls, Failures, NoFailures};
 use mvn_outside::{Gate, GateFault, GoalAnswer, GoalRequest};
 use mvn_shared::{List, Mem};
 use std::alloc::Global;
@@ -9,14 +9,18 @@ use std::vec::IntoIter;
 /// Goals in memory: it gives its answers in order, one for each call that doesn't fail, and then `Done`. It doesn't
 /// tell them as a function of requests.
 #[derive(Drop)]
-pub struct MemGate {
+pub struct MemGate<F> {
     answers: IntoIter<GoalAnswer>,
-    calls: Calls,
+    calls: F,
 }
 
-impl MemGate {
+impl MemGate<Calls> {
+    ghost use Rattle.outside_mem.specs.Gate.{gate_answers};
+
     /// These answers, in order. The calls with the numbers fail, from 0 on.
-    pub fn new(alloc: Global, answers: List<GoalAnswer>, failing: &List<u64>) -> Mem<MemGate> {
+    pub fn new(alloc: Global, answers: List<GoalAnswer>, failing: &List<u64>) -> Mem<MemGate<Calls>>
+        ensures { IfOk result (λ gate. gate_answers gate ≡ answers) }
+    {
         let calls = Calls::new(alloc, failing)?;
         Ok(MemGate {
             answers: answers.into_vec().into_iter(),
@@ -25,13 +29,26 @@ impl MemGate {
     }
 }
 
-impl Gate for MemGate {
+impl MemGate<NoFailures> {
+    ghost use Rattle.outside_mem.specs.Gate.{gate_answers};
+
+    /// These answers, in order. No call fails.
+    pub fn without_failures(answers: List<GoalAnswer>) -> MemGate<NoFailures>
+        ensures { gate_answers result ≡ answers }
+    {
+        MemGate {
+            answers: answers.into_vec().into_iter(),
+            calls: NoFailures,
+        }
+    }
+}
+
+impl<F: Failures> Gate for MemGate<F> {
     ghost use Rattle.std.specs.Prelude.{None};
-    ghost use Rattle.outside_mem.specs.Calls.{fault_count};
 
     ghost answers = { λ _. None };
 
-    ghost faults = { λ gate. fault_count gate.calls };
+    ghost faults = { λ gate. F.count gate.calls };
 
     ghost one_answer = { λ _. tt };
 

@@ -5,14 +5,14 @@ pub mod area;
 pub mod calls;
 pub mod gate;
 pub mod pieces;
+mod reading;
 pub mod remote;
 pub mod shelf;
 pub mod sink;
 pub mod tree;
-mod versions;
 
 pub use area::MemArea;
-pub use calls::Calls;
+pub use calls::{Calls, Failures, NoFailures};
 pub use gate::MemGate;
 pub use pieces::Piece;
 pub use remote::{MemFile, MemRemote};

@@ -1,8 +1,8 @@
 ghost use Rattle.std.specs.Prelude.{◌≡◌, IfOk};
 ghost use Rattle.outside_mem.specs.FilesNamed.{files_named};
 
-use crate::calls::Calls;
-use crate::versions::list_versions;
+use crate::calls::{Calls, Failures, NoFailures};
+use crate::reading::{read_within, versions_in};
 use mvn_base::FileName;
 use mvn_outside::{ListFault, ReadFault, Remote};
 use mvn_shared::{Bytes, FileMap, List, Mem, Text};
@@ -29,17 +29,17 @@ pub(crate) fn file_map(alloc: Global, files: List<MemFile>) -> Mem<FileMap>
 
 /// A repository in memory. It tells its files.
 #[derive(Drop)]
-pub struct MemRemote {
+pub struct MemRemote<F> {
     alloc: Global,
     files: FileMap,
-    calls: Calls,
+    calls: F,
 }
 
-impl MemRemote {
+impl MemRemote<Calls> {
     ghost use Rattle.outside_mem.specs.Remote.{remote_files};
 
     /// The repository of these files, of which a later one of a name counts. The calls with the numbers fail, from 0 on.
-    pub fn new(alloc: Global, files: List<MemFile>, failing: &List<u64>) -> Mem<MemRemote>
+    pub fn new(alloc: Global, files: List<MemFile>, failing: &List<u64>) -> Mem<MemRemote<Calls>>
         ensures { IfOk result (λ remote. remote_files remote ≡ files_named files) }
     {
         let calls = Calls::new(alloc, failing)?;
@@ -52,36 +52,40 @@ impl MemRemote {
     }
 }
 
-impl Remote for MemRemote {
+impl MemRemote<NoFailures> {
+    ghost use Rattle.outside_mem.specs.Remote.{remote_files};
+
+    /// The repository of these files, of which a later one of a name counts. No call fails.
+    pub fn without_failures(alloc: Global, files: List<MemFile>) -> Mem<MemRemote<NoFailures>>
+        ensures { IfOk result (λ remote. remote_files remote ≡ files_named files) }
+    {
+        let files = file_map(alloc, files)?;
+        Ok(MemRemote {
+            alloc,
+            files,
+            calls: NoFailures,
+        })
+    }
+}
+
+impl<F: Failures> Remote for MemRemote<F> {
     ghost use Rattle.std.specs.Prelude.{Some};
-    ghost use Rattle.outside_mem.specs.Calls.{fault_count};
 
     ghost files = { λ remote. Some remote.files };
 
-    ghost faults = { λ remote. fault_count remote.calls };
+    ghost faults = { λ remote. F.count remote.calls };
 
     fn fetch(&mut self, name: &FileName, limit: u64) -> Result<Option<Bytes>, ReadFault> {
         if self.calls.next_fails() {
             return Err(ReadFault::Failed);
         }
-        match self.files.get(name.as_text()) {
-            None => Ok(None),
-            Some(bytes) => {
-                if bytes.len() as u64 > limit {
-                    return Err(ReadFault::TooLarge);
-                }
-                match bytes.clone() {
-                    Ok(copy) => Ok(Some(copy)),
-                    Err(_) => Err(ReadFault::Memory),
-                }
-            }
-        }
+        read_within(&self.files, name.as_text(), limit)
     }
 
     fn versions(&mut self, group: &Text, artifact: &Text) -> Result<List<Text>, ListFault> {
         if self.calls.next_fails() {
             return Err(ListFault::Failed);
         }
-        list_versions(self.alloc, &self.files, group, artifact)
+        versions_in(self.alloc, &self.files, group, artifact)
     }
 }

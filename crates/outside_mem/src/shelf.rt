@@ -6,9 +6,9 @@ ghost use Rattle.mvn_outside.specs.Shelf.{with_publish, published, files_now};
 ghost use Rattle.outside_mem.specs.FilesNamed.{files_named};
 
 use crate::area::MemArea;
-use crate::calls::Calls;
+use crate::calls::{Calls, Failures, NoFailures};
+use crate::reading::{read_within, versions_in};
 use crate::remote::{MemFile, file_map};
-use crate::versions::list_versions;
 use mvn_base::FileName;
 use mvn_outside::{DeviceFault, ListFault, Published, ReadFault, Shelf};
 use mvn_shared::{Bytes, FileMap, List, Mem, Text};
@@ -16,23 +16,23 @@ use std::alloc::Global;
 
 /// A local repository in memory. It tells its files at the opening, its publishes and how many of them are settled.
 #[derive(Drop)]
-pub struct MemShelf {
+pub struct MemShelf<F> {
     alloc: Global,
     opening: FileMap,
     files: FileMap,
     publishes: Vec<Published>,
     settled: u64,
-    calls: Calls,
+    calls: F,
     ghost current: { files ≡ fold with_publish opening publishes.items } by { Coded-set files_code _ _ },
     ghost within: { settled ≤ length publishes.items },
 }
 
-impl MemShelf {
-    ghost use Rattle.outside_mem.specs.Shelf.{shelf_told, shelf_calls};
+impl MemShelf<Calls> {
+    ghost use Rattle.outside_mem.specs.Shelf.{shelf_told};
 
     /// The repository of these files, of which a later one of a name counts, with no publish. The calls with the numbers
     /// fail, from 0 on.
-    pub fn new(alloc: Global, files: List<MemFile>, failing: &List<u64>) -> Mem<MemShelf>
+    pub fn new(alloc: Global, files: List<MemFile>, failing: &List<u64>) -> Mem<MemShelf<Calls>>
         ensures opening { IfOk result (λ shelf. (shelf_told shelf).opening ≡ files_named files) }
         ensures publishes { IfOk result (λ shelf. (shelf_told shelf).publishes ≡ []) }
         ensures settled { IfOk result (λ shelf. (shelf_told shelf).settled ≡ 0) }
@@ -49,6 +49,32 @@ impl MemShelf {
             calls,
         })
     }
+}
+
+impl MemShelf<NoFailures> {
+    ghost use Rattle.outside_mem.specs.Shelf.{shelf_told};
+
+    /// The repository of these files, of which a later one of a name counts, with no publish. No call fails.
+    pub fn without_failures(alloc: Global, files: List<MemFile>) -> Mem<MemShelf<NoFailures>>
+        ensures opening { IfOk result (λ shelf. (shelf_told shelf).opening ≡ files_named files) }
+        ensures publishes { IfOk result (λ shelf. (shelf_told shelf).publishes ≡ []) }
+        ensures settled { IfOk result (λ shelf. (shelf_told shelf).settled ≡ 0) }
+    {
+        let opening = file_map(alloc, files.clone()?)?;
+        let files = file_map(alloc, files)?;
+        Ok(MemShelf {
+            alloc,
+            opening,
+            files,
+            publishes: Vec::new(alloc),
+            settled: 0,
+            calls: NoFailures,
+        })
+    }
+}
+
+impl<F> MemShelf<F> {
+    ghost use Rattle.outside_mem.specs.Shelf.{shelf_told, shelf_calls};
 
     /// The names of its files, ascending by bytes. Costs one pass.
     pub fn names(&self) -> Mem<Vec<Text>>
@@ -79,16 +105,15 @@ impl MemShelf {
     }
 }
 
-impl Shelf for MemShelf {
+impl<F: Failures> Shelf for MemShelf<F> {
     ghost use Rattle.std.specs.Prelude.{Some};
-    ghost use Rattle.outside_mem.specs.Calls.{fault_count};
     ghost use Rattle.outside_mem.specs.Shelf.{shelf_told};
 
-    type Area = MemArea;
+    type Area = MemArea<F>;
 
     ghost told = { λ shelf. Some (shelf_told shelf) };
 
-    ghost faults = { λ shelf. fault_count shelf.calls };
+    ghost faults = { λ shelf. F.count shelf.calls };
 
     fn has(&mut self, name: &FileName) -> Result<bool, DeviceFault> {
         if self.calls.next_fails() {
@@ -101,30 +126,19 @@ impl Shelf for MemShelf {
         if self.calls.next_fails() {
             return Err(ReadFault::Failed);
         }
-        match self.files.get(name.as_text()) {
-            None => Ok(None),
-            Some(bytes) => {
-                if bytes.len() as u64 > limit {
-                    return Err(ReadFault::TooLarge);
-                }
-                match bytes.clone() {
-                    Ok(copy) => Ok(Some(copy)),
-                    Err(_) => Err(ReadFault::Memory),
-                }
-            }
-        }
+        read_within(&self.files, name.as_text(), limit)
     }
 
     fn versions(&mut self, group: &Text, artifact: &Text) -> Result<List<Text>, ListFault> {
         if self.calls.next_fails() {
             return Err(ListFault::Failed);
         }
-        list_versions(self.alloc, &self.files, group, artifact)
+        versions_in(self.alloc, &self.files, group, artifact)
     }
 
     fn publish(
         &mut self,
-        area: &mut MemArea,
+        area: &mut MemArea<F>,
         piece: u64,
         name: &FileName,
     ) -> Result<(), DeviceFault> {

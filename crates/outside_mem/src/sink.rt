@@ -1,22 +1,22 @@
 ghost use Rattle.std.specs.Prelude.{◌≡◌, [], IfOk};
 
-use crate::calls::Calls;
+use crate::calls::{Calls, Failures, NoFailures};
 use mvn_outside::{DeviceFault, Sink};
 use mvn_shared::{List, Mem};
 use std::alloc::Global;
 
 /// A sink in memory. It tells what was written.
 #[derive(Drop)]
-pub struct MemSink {
+pub struct MemSink<F> {
     bytes: Vec<u8>,
-    calls: Calls,
+    calls: F,
 }
 
-impl MemSink {
+impl MemSink<Calls> {
     ghost use Rattle.outside_mem.specs.Sink.{sink_bytes};
 
     /// An empty sink. The writes with these numbers fail, from 0 on.
-    pub fn new(alloc: Global, failing: &List<u64>) -> Mem<MemSink>
+    pub fn new(alloc: Global, failing: &List<u64>) -> Mem<MemSink<Calls>>
         ensures { IfOk result (λ sink. sink_bytes sink ≡ []) }
     {
         let calls = Calls::new(alloc, failing)?;
@@ -25,6 +25,24 @@ impl MemSink {
             calls,
         })
     }
+}
+
+impl MemSink<NoFailures> {
+    ghost use Rattle.outside_mem.specs.Sink.{sink_bytes};
+
+    /// An empty sink of which no write fails.
+    pub fn without_failures(alloc: Global) -> MemSink<NoFailures>
+        ensures { sink_bytes result ≡ [] }
+    {
+        MemSink {
+            bytes: Vec::new(alloc),
+            calls: NoFailures,
+        }
+    }
+}
+
+impl<F> MemSink<F> {
+    ghost use Rattle.outside_mem.specs.Sink.{sink_bytes};
 
     /// What was written so far. Takes no memory.
     pub fn bytes(&self) -> &[u8]
@@ -34,13 +52,12 @@ impl MemSink {
     }
 }
 
-impl Sink for MemSink {
+impl<F: Failures> Sink for MemSink<F> {
     ghost use Rattle.std.specs.Prelude.{Some};
-    ghost use Rattle.outside_mem.specs.Calls.{fault_count};
 
     ghost written = { λ sink. Some sink.bytes.items };
 
-    ghost faults = { λ sink. fault_count sink.calls };
+    ghost faults = { λ sink. F.count sink.calls };
 
     fn write(&mut self, bytes: &[u8]) -> Result<usize, DeviceFault> {
         if self.calls.next_fails() {

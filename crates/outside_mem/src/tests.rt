@@ -2,11 +2,11 @@
 ghost use Rattle.std.specs.Prelude.{IfOk};
 ghost use Rattle.mvn_outside.specs.Goals.{HasOwnSlots};
 
-use crate::{MemArea, MemFile, MemGate, MemRemote, MemShelf};
+use crate::{Calls, MemArea, MemFile, MemGate, MemRemote, MemShelf, MemSink, MemTree};
 use mvn_base::{Gav, Phase, file_of, valid_group, valid_name, valid_version};
 use mvn_outside::{
-    Area, AreaFault, Gate, GoalAnswer, GoalCall, GoalRequest, ListFault, Need, ReadFault, Remote,
-    Shelf, Slot,
+    Area, AreaFault, Files, Gate, GoalAnswer, GoalCall, GoalRequest, ListFault, Need, ReadFault,
+    Remote, Shelf, Sink, Slot, SourceFile, Tree,
 };
 use mvn_shared::{Bytes, List, Mem, Text};
 use std::test::Fail;
@@ -33,7 +33,7 @@ fn file(rt: &HostRuntime, artifact: &str, version: &str, extension: &str) -> Res
 }
 
 // A repository of four files, whose calls with the numbers fail.
-fn remote(rt: &HostRuntime, failing: &[u64]) -> Result<MemRemote, Fail> {
+fn remote(rt: &HostRuntime, failing: &[u64]) -> Result<MemRemote<Calls>, Fail> {
     let alloc = rt.alloc();
     let mut files = Vec::new(alloc);
     for (artifact, version, extension) in [
@@ -68,7 +68,7 @@ fn a_remote_gives_files_within_the_limit(rt: HostRuntime) -> Result<(), Fail> {
 }
 
 // The versions of org.demo:a that a listing gives, with a space behind each.
-fn listed(rt: &HostRuntime, remote: &mut MemRemote) -> Result<String, Fail> {
+fn listed(rt: &HostRuntime, remote: &mut MemRemote<Calls>) -> Result<String, Fail> {
     let alloc = rt.alloc();
     let group = Text::from_str(alloc, "org.demo")?;
     let artifact = Text::from_str(alloc, "a")?;
@@ -117,7 +117,7 @@ fn a_call_that_fails_leaves_the_pieces(rt: HostRuntime) -> Result<(), Fail> {
 }
 
 // Publishes the bytes under the name, through a piece of the area; says whether it could.
-fn publish(shelf: &mut MemShelf, area: &mut MemArea, file: &MemFile) -> bool {
+fn publish(shelf: &mut MemShelf<Calls>, area: &mut MemArea<Calls>, file: &MemFile) -> bool {
     let Ok(piece) = area.begin() else {
         return false;
     };
@@ -131,7 +131,7 @@ fn publish(shelf: &mut MemShelf, area: &mut MemArea, file: &MemFile) -> bool {
 }
 
 // The number of bytes under the name, if a file is there.
-fn size(shelf: &mut MemShelf, file: &MemFile) -> Option<usize> {
+fn size(shelf: &mut MemShelf<Calls>, file: &MemFile) -> Option<usize> {
     match shelf.read(&file.name, 8) {
         Ok(Some(bytes)) => Some(bytes.len()),
         _ => None,
@@ -206,5 +206,129 @@ fn a_gate_gives_its_answers_in_order(rt: HostRuntime) -> Result<(), Fail> {
         };
         assert_eq!(rt; answer, wanted);
     }
+    Ok(())
+}
+
+// The numbers of the calls that fail.
+fn numbers(rt: &HostRuntime, failing: &[u64]) -> Mem<List<u64>> {
+    Ok(List::of(Vec::from_slice(rt.alloc(), failing)?))
+}
+
+// A tree of one POM of three bytes.
+fn sources(rt: &HostRuntime) -> Mem<List<SourceFile>> {
+    let alloc = rt.alloc();
+    let mut files = List::new(alloc);
+    files.push(SourceFile {
+        path: Text::from_str(alloc, "a/pom.xml")?,
+        bytes: Bytes::from_slice(alloc, b"pom")?,
+    })?;
+    Ok(files)
+}
+
+// Whether a look, a read and a listing of a tree fail, if the calls with these numbers do.
+fn fails_of_a_tree(rt: &HostRuntime, failing: &[u64]) -> Result<(bool, bool, bool), Fail> {
+    let alloc = rt.alloc();
+    let mut tree = MemTree::new(alloc, sources(rt)?, &numbers(rt, failing)?)?;
+    let path = Text::from_str(alloc, "a/pom.xml")?;
+    let has = tree.has(&path).is_err();
+    let read = tree.read(&path, 3).is_err();
+    let list = tree.list(&path).is_err();
+    Ok((has, read, list))
+}
+
+// Whether a look, a read and a settling of a repository fail, if the calls with these numbers do.
+fn fails_of_a_shelf(rt: &HostRuntime, failing: &[u64]) -> Result<(bool, bool, bool), Fail> {
+    let mut shelf = MemShelf::new(rt.alloc(), List::new(rt.alloc()), &numbers(rt, failing)?)?;
+    let name = file(rt, "a", "1.0", "pom")?.name;
+    let has = shelf.has(&name).is_err();
+    let read = shelf.read(&name, 3).is_err();
+    let settle = shelf.settle().is_err();
+    Ok((has, read, settle))
+}
+
+#[test]
+fn each_call_of_a_tree_and_of_a_shelf_may_fail(rt: HostRuntime) -> Result<(), Fail> {
+    for (number, wanted) in [
+        (9u64, (false, false, false)),
+        (0, (true, false, false)),
+        (1, (false, true, false)),
+        (2, (false, false, true)),
+    ] {
+        assert_eq!(rt; fails_of_a_tree(&rt, &[number])?, wanted, "{number}");
+        assert_eq!(rt; fails_of_a_shelf(&rt, &[number])?, wanted, "{number}");
+    }
+    Ok(())
+}
+
+#[test]
+fn a_write_may_fail(rt: HostRuntime) -> Result<(), Fail> {
+    let mut sink = MemSink::new(rt.alloc(), &numbers(&rt, &[0])?)?;
+    assert_eq!(rt; sink.write(b"one").is_err(), true);
+    assert_eq!(rt; sink.write(b"two").is_err(), false);
+    assert_eq!(rt; sink.bytes(), b"two".as_slice());
+    Ok(())
+}
+
+// Whether an append, a seal and a discard of new pieces fail, if the calls with these numbers do.
+fn fails_of_a_piece(rt: &HostRuntime, failing: &[u64]) -> Result<(bool, bool, bool), Fail> {
+    let mut area = MemArea::new(rt.alloc(), &numbers(rt, failing)?)?;
+    let Ok(piece) = area.begin() else {
+        return Err(Fail::new("a piece"));
+    };
+    let append = area.append(piece, b"bytes").is_err();
+    let seal = area.seal(piece).is_err();
+    let Ok(other) = area.begin() else {
+        return Err(Fail::new("another piece"));
+    };
+    let discard = area.discard(other).is_err();
+    Ok((append, seal, discard))
+}
+
+#[test]
+fn each_call_of_an_area_may_fail(rt: HostRuntime) -> Result<(), Fail> {
+    for (number, wanted) in [
+        (9u64, (false, false, false)),
+        (1, (true, false, false)),
+        (2, (false, true, false)),
+        (4, (false, false, true)),
+    ] {
+        assert_eq!(rt; fails_of_a_piece(&rt, &[number])?, wanted, "{number}");
+    }
+    Ok(())
+}
+
+// Whether a tree and a sink without failures answer.
+fn files_answer(rt: &HostRuntime) -> Result<(bool, bool), Fail> {
+    let mut tree = MemTree::without_failures(rt.alloc(), sources(rt)?)?;
+    let mut sink = MemSink::without_failures(rt.alloc());
+    let has = tree.has(&Text::from_str(rt.alloc(), "a")?).is_ok();
+    let write = sink.write(b"one").is_ok();
+    Ok((has, write))
+}
+
+// Whether a remote, a repository and an area without failures answer.
+fn repositories_answer(rt: &HostRuntime) -> Result<(bool, bool, bool), Fail> {
+    let name = file(rt, "a", "1.0", "pom")?.name;
+    let mut remote = MemRemote::without_failures(rt.alloc(), List::new(rt.alloc()))?;
+    let mut shelf = MemShelf::without_failures(rt.alloc(), List::new(rt.alloc()))?;
+    let mut area = MemArea::without_failures(rt.alloc());
+    let fetch = remote.fetch(&name, 3).is_ok();
+    let has = shelf.has(&name).is_ok();
+    let begin = area.begin().is_ok();
+    Ok((fetch, has, begin))
+}
+
+// Whether a gate without failures answers.
+fn gate_answers(rt: &HostRuntime) -> Result<bool, Fail> {
+    let mut gate = MemGate::without_failures(List::new(rt.alloc()));
+    let request = request(rt)?;
+    Ok(gate.call(&request).is_ok())
+}
+
+#[test]
+fn objects_without_failures_answer(rt: HostRuntime) -> Result<(), Fail> {
+    assert_eq!(rt; files_answer(&rt)?, (true, true));
+    assert_eq!(rt; repositories_answer(&rt)?, (true, true, true));
+    assert_eq!(rt; gate_answers(&rt)?, true);
     Ok(())
 }

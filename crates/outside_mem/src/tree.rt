@@ -1,6 +1,8 @@
 ghost use Rattle.std.specs.Prelude.{◌≡◌, IfOk};
+ghost use Rattle.outside_mem.specs.Tree.{files_of};
 
-use crate::calls::Calls;
+use crate::calls::{Calls, Failures, NoFailures};
+use crate::reading::read_within;
 use mvn_outside::{DeviceFault, Files, ListFault, ReadFault, SourceFile, Tree};
 use mvn_shared::{Bytes, FileMap, List, Mem, Text};
 use std::alloc::Global;
@@ -10,42 +12,65 @@ const MOST_FILES: usize = 65536;
 
 /// A project's folder in memory. It tells its files.
 #[derive(Drop)]
-pub struct MemTree {
+pub struct MemTree<F> {
     alloc: Global,
     files: FileMap,
-    calls: Calls,
+    calls: F,
 }
 
-impl MemTree {
-    ghost use Rattle.outside_mem.specs.Tree.{tree_files, files_of};
+// The files of a list, put in one after another.
+fn tree_map(alloc: Global, files: List<SourceFile>) -> Mem<FileMap>
+    ensures { IfOk result (λ map. map ≡ files_of files) }
+{
+    let mut map = FileMap::new(alloc);
+    for file in files.into_vec() {
+        let SourceFile { path, bytes } = file;
+        map.insert(path, bytes)?;
+    }
+    Ok(map)
+}
+
+impl MemTree<Calls> {
+    ghost use Rattle.outside_mem.specs.Tree.{tree_files};
 
     /// The tree of these files, of which a later one of a path counts. The calls with the numbers fail, from 0 on.
-    pub fn new(alloc: Global, files: List<SourceFile>, failing: &List<u64>) -> Mem<MemTree>
+    pub fn new(alloc: Global, files: List<SourceFile>, failing: &List<u64>) -> Mem<MemTree<Calls>>
         ensures { IfOk result (λ tree. tree_files tree ≡ files_of files) }
     {
         let calls = Calls::new(alloc, failing)?;
-        let mut map = FileMap::new(alloc);
-        for file in files.into_vec() {
-            let SourceFile { path, bytes } = file;
-            map.insert(path, bytes)?;
-        }
+        let files = tree_map(alloc, files)?;
         Ok(MemTree {
             alloc,
-            files: map,
+            files,
             calls,
         })
     }
 }
 
-impl Files for MemTree {
+impl MemTree<NoFailures> {
+    ghost use Rattle.outside_mem.specs.Tree.{tree_files};
+
+    /// The tree of these files, of which a later one of a path counts. No call fails.
+    pub fn without_failures(alloc: Global, files: List<SourceFile>) -> Mem<MemTree<NoFailures>>
+        ensures { IfOk result (λ tree. tree_files tree ≡ files_of files) }
+    {
+        let files = tree_map(alloc, files)?;
+        Ok(MemTree {
+            alloc,
+            files,
+            calls: NoFailures,
+        })
+    }
+}
+
+impl<F: Failures> Files for MemTree<F> {
     ghost use Rattle.std.specs.Prelude.{◌≡◌, Some};
     ghost use Rattle.std.proofs.Common.{ap};
     ghost use Rattle.mvn_shared.specs.Files.{is_there};
-    ghost use Rattle.outside_mem.specs.Calls.{fault_count};
 
     ghost there = { λ tree. Some (is_there tree.files) };
 
-    ghost faults = { λ tree. fault_count tree.calls };
+    ghost faults = { λ tree. F.count tree.calls };
 
     ghost tells_same = { λ before now. now.files ≡ before.files };
 
@@ -59,7 +84,7 @@ impl Files for MemTree {
     }
 }
 
-impl Tree for MemTree {
+impl<F: Failures> Tree for MemTree<F> {
     ghost use Rattle.std.specs.Prelude.{Some, refl};
     ghost use Rattle.std.proofs.Common.{ap};
 
@@ -73,18 +98,7 @@ impl Tree for MemTree {
         if self.calls.next_fails() {
             return Err(ReadFault::Failed);
         }
-        match self.files.get(path) {
-            None => Ok(None),
-            Some(bytes) => {
-                if bytes.len() as u64 > limit {
-                    return Err(ReadFault::TooLarge);
-                }
-                match bytes.clone() {
-                    Ok(copy) => Ok(Some(copy)),
-                    Err(_) => Err(ReadFault::Memory),
-                }
-            }
-        }
+        read_within(&self.files, path, limit)
     }
 
     fn list(&mut self, folder: &Text) -> Result<List<Text>, ListFault> {

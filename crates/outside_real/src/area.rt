@@ -2,13 +2,14 @@ ghost use Rattle.std.specs.Prelude.{◌≡◌, ◌<◌, ◌≤◌, length, IfOk}
 ghost use Rattle.std.specs.FinMap as map;
 
 use crate::count::raised;
-use crate::reading::is_absent;
+use crate::fault::{fault_of, is_absent};
+use crate::folders::{make_folders, sync_folders};
 use mvn_outside::{Area, AreaFault};
 use mvn_shared::{Mem, Text};
-use std::collections::BTreeMap;
-use std::fs::{self, OpenFile, OpenOptions};
+use std::collections::{BTreeMap, BTreeSet};
+use std::fs::{OpenFile, OpenOptions};
 use std::io::{ErrorKind, Write};
-use std::{io, rt};
+use std::rt;
 
 /// One worker's staging folder on a disk. It tells which pieces are there, and nothing of their bytes. A piece is a file
 /// whose name is its number.
@@ -19,14 +20,6 @@ pub struct RealArea<'a, R: rt::Files + AllocGlobal + Clone + Drop> {
     pieces: BTreeMap<u64, bool>,
     next: u64,
     faults: u64,
-}
-
-// An error of the system, as a fault.
-fn area_fault(e: &io::Error) -> AreaFault {
-    match e.kind() {
-        ErrorKind::OutOfMemory => AreaFault::Memory,
-        _ => AreaFault::Failed,
-    }
 }
 
 // One write to a stream: at least one byte where there is one. A call that a signal cut off is made again.
@@ -43,7 +36,7 @@ fn write_some<F: Write>(file: &mut F, bytes: &[u8]) -> Result<usize, AreaFault>
                 return Err(AreaFault::Failed);
             }
             Err(e) => if e.kind() != ErrorKind::Interrupted {
-                return Err(area_fault(&e));
+                return Err(AreaFault::from(fault_of(&e)));
             },
         }
     }
@@ -55,7 +48,9 @@ impl<'a, R: rt::Files + AllocGlobal + Clone + Drop> RealArea<'a, R> {
 
     /// The staging folder at a path of the system, which need not be there. What a stopped run left in it stays until
     /// it is swept.
-    pub fn new(rt: &'a R, folder: Text) -> RealArea<'a, R> {
+    pub fn new(rt: &'a R, folder: Text) -> RealArea<'a, R>
+        ensures { area_faults result ≡ 0 }
+    {
         let pieces = BTreeMap::new(rt.alloc());
         RealArea {
             rt,
@@ -80,15 +75,17 @@ impl<'a, R: rt::Files + AllocGlobal + Clone + Drop> RealArea<'a, R> {
         self.pieces.remove(&piece);
     }
 
-    // Makes the folder and an empty file.
+    // Makes the folder, so that it stays where it is new, and an empty file.
     fn create(&self, piece: u64) -> Result<(), AreaFault> {
         let path = self.path_of(piece)?;
-        fs::create_dir_all(self.rt, self.folder.as_str()).map_err(|e| area_fault(&e))?;
+        let mut changed = BTreeSet::new(self.rt.alloc());
+        make_folders(self.rt, self.folder.as_str(), &mut changed)?;
+        sync_folders(self.rt, &changed)?;
         let mut how = OpenOptions::new();
         how.write(true).create(true).truncate(true);
         self.rt
             .open_file(&how, path.as_str())
-            .map_err(|e| area_fault(&e))?;
+            .map_err(|e| AreaFault::from(fault_of(&e)))?;
         Ok(())
     }
 
@@ -101,7 +98,7 @@ impl<'a, R: rt::Files + AllocGlobal + Clone + Drop> RealArea<'a, R> {
         let mut file = self
             .rt
             .open_file(OpenOptions::new().append(true), path.as_str())
-            .map_err(|e| area_fault(&e))?;
+            .map_err(|e| AreaFault::from(fault_of(&e)))?;
         write_some(&mut file, bytes)
     }
 
@@ -111,8 +108,8 @@ impl<'a, R: rt::Files + AllocGlobal + Clone + Drop> RealArea<'a, R> {
         let file = self
             .rt
             .open_file(OpenOptions::new().append(true), path.as_str())
-            .map_err(|e| area_fault(&e))?;
-        file.sync_all().map_err(|e| area_fault(&e))
+            .map_err(|e| AreaFault::from(fault_of(&e)))?;
+        file.sync_all().map_err(|e| AreaFault::from(fault_of(&e)))
     }
 
     // Removes a file, if it is there.
@@ -123,7 +120,7 @@ impl<'a, R: rt::Files + AllocGlobal + Clone + Drop> RealArea<'a, R> {
             Err(e) => if is_absent(&e) {
                 Ok(())
             } else {
-                Err(area_fault(&e))
+                Err(AreaFault::from(fault_of(&e)))
             },
         }
     }
@@ -138,7 +135,7 @@ impl<'a, R: rt::Files + AllocGlobal + Clone + Drop> RealArea<'a, R> {
             Err(e) => if is_absent(&e) {
                 Ok(())
             } else {
-                Err(area_fault(&e))
+                Err(AreaFault::from(fault_of(&e)))
             },
         }
     }

@@ -1,23 +1,101 @@
-// The folders of a repository on a disk.
-use crate::reading::full_path;
+// The folders of the system: their paths, and how their names come to the disk.
+ghost use Rattle.std.specs.Prelude.{◌≡◌, IfOk};
+ghost use Rattle.std.specs.String.{string_bytes};
+ghost use Rattle.outside_real.specs.Paths.{full_path, is_step, is_inside};
+
+use crate::fault::{fault_of, is_absent};
 use mvn_outside::DeviceFault;
-use mvn_shared::Text;
+use mvn_shared::{Mem, Text};
+use std::alloc::Global;
 use std::collections::BTreeSet;
 use std::fs::{OpenFile, OpenOptions};
 use std::io::ErrorKind;
 use std::{io, rt};
 
-/// Whether a path stays in the repository and out of its staging folder: no step is empty, `.`, `..` or `.staging`.
-pub fn is_inside(path: &str) -> bool {
-    path.split('/').all(|step| step != "" && step != "." && step != ".." && step != ".staging")
+/// A path of the system: the folder, and a path below it.
+pub(crate) fn full_path(alloc: Global, root: &str, path: &str) -> Mem<String>
+    ensures { IfOk result (λ full. string_bytes full ≡ full_path root.now path.now) }
+{
+    if path.is_empty() {
+        return Ok(String::from_str(alloc, root)?);
+    }
+    Ok(format!(in alloc; "{root}/{path}")?)
 }
 
-/// The path of a path's folder, empty where it has none.
-pub fn parent_of(path: &str) -> &str {
+#[tactic(auto, unfolding(crate::specs::Paths::is_step))]
+fn is_step(step: &[u8]) -> bool
+    ensures { result ≡ is_step step.now }
+{
+    !step.is_empty()
+        && step != b".".as_slice()
+        && step != b"..".as_slice()
+        && step != b".staging".as_slice()
+}
+
+/// Whether a path stays in the repository and out of its staging folder: no step is empty, `.`, `..` or `.staging`.
+pub(crate) fn is_inside(path: &[u8]) -> bool
+    ensures { result ≡ is_inside path.now }
+{
+    path.split(|b| *b == b'/').all(|step| is_step(step))
+}
+
+/// The folder of a path of the system.
+pub(crate) fn parent_of(path: &str) -> &str {
     match path.rsplit_once('/') {
-        Some((folder, _)) => folder,
-        None => "",
+        Some((folder, _)) => if folder.is_empty() { "/" } else { folder },
+        None => ".",
     }
+}
+
+// Whether a folder is there, itself or through a link.
+fn is_folder<R: rt::Files>(rt: &R, path: &str) -> Result<bool, DeviceFault> {
+    match rt.metadata(path) {
+        Ok(metadata) => Ok(metadata.is_dir()),
+        Err(e) => if is_absent(&e) {
+            Ok(false)
+        } else {
+            Err(fault_of(&e))
+        },
+    }
+}
+
+// The folders that aren't there, of those from a path upwards.
+fn missing_folders<'a, R: rt::Files>(
+    rt: &R,
+    alloc: Global,
+    path: &'a str,
+) -> Result<Vec<&'a str>, DeviceFault> {
+    let mut missing = Vec::new(alloc);
+    let mut folder = path;
+    for _ in 0..path.len() {
+        if is_folder(rt, folder)? {
+            break;
+        }
+        missing.push(folder).map_err(|_| DeviceFault::Memory)?;
+        folder = parent_of(folder);
+    }
+    Ok(missing)
+}
+
+/// Makes a folder and those above it that aren't there, and notes in `changed` the folder of each that it makes. Costs one
+/// look where the folder is there.
+pub(crate) fn make_folders<R: rt::Files + AllocGlobal>(
+    rt: &R,
+    path: &str,
+    changed: &mut BTreeSet<Text>,
+) -> Result<(), DeviceFault> {
+    let alloc = rt.alloc();
+    let missing = missing_folders(rt, alloc, path)?;
+    for folder in missing.iter().rev() {
+        let above = Text::from_str(alloc, parent_of(folder))?;
+        changed.insert(above).map_err(|_| DeviceFault::Memory)?;
+        if let Err(e) = rt.create_dir(folder) {
+            if e.kind() != ErrorKind::AlreadyExists {
+                return Err(fault_of(&e));
+            }
+        }
+    }
+    Ok(())
 }
 
 // Brings one folder's names to the disk.
@@ -26,28 +104,14 @@ fn sync_folder<R: rt::Files>(rt: &R, path: &str) -> Result<(), io::Error> {
         .sync_all()
 }
 
-/// Brings the names of these folders, and of all above them up to the root, to the disk. Costs one call for each folder
-/// on the way.
-pub fn sync_folders<R: rt::Files + AllocGlobal>(
+/// Brings the names of these folders to the disk. Costs one call for each.
+pub(crate) fn sync_folders<R: rt::Files>(
     rt: &R,
-    root: &str,
     folders: &BTreeSet<Text>,
 ) -> Result<(), DeviceFault> {
-    let alloc = rt.alloc();
     for folder in folders {
-        let mut below = folder.as_str();
-        for _ in 0..u64::MAX {
-            let path = full_path(alloc, root, below)?;
-            if let Err(e) = sync_folder(rt, path.as_str()) {
-                return Err(match e.kind() {
-                    ErrorKind::OutOfMemory => DeviceFault::Memory,
-                    _ => DeviceFault::Failed,
-                });
-            }
-            if below.is_empty() {
-                break;
-            }
-            below = parent_of(below);
+        if let Err(e) = sync_folder(rt, folder.as_str()) {
+            return Err(fault_of(&e));
         }
     }
     Ok(())

@@ -4,6 +4,7 @@
 
 pub mod area;
 mod count;
+mod fault;
 mod folders;
 mod reading;
 pub mod remote;

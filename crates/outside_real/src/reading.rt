@@ -1,39 +1,16 @@
 // Reading a file of the system, up to a limit.
 ghost use Rattle.std.specs.Prelude.{◌≤◌, IfOk, IfSome, length, vec_len};
 
+use crate::fault::{fault_of, is_absent};
 use mvn_outside::ReadFault;
-use mvn_shared::{Bytes, Mem};
+use mvn_shared::Bytes;
 use std::alloc::Global;
 use std::fs::OpenOptions;
 use std::io::{ErrorKind, Read};
-use std::{io, rt};
+use std::rt;
 
 /// How many bytes are asked of the system at a time.
 const PART: usize = 65536;
-
-/// A path of the system: the folder, and a path below it.
-pub fn full_path(alloc: Global, root: &str, path: &str) -> Mem<String> {
-    if path.is_empty() {
-        return Ok(String::from_str(alloc, root)?);
-    }
-    Ok(format!(in alloc; "{root}/{path}")?)
-}
-
-/// Whether an error says that no such file is there.
-pub fn is_absent(e: &io::Error) -> bool {
-    matches!(
-        e.kind(),
-        ErrorKind::NotFound | ErrorKind::NotADirectory | ErrorKind::InvalidFilename
-    )
-}
-
-/// An error of the system, as a fault.
-pub fn fault_of(e: &io::Error) -> ReadFault {
-    match e.kind() {
-        ErrorKind::OutOfMemory => ReadFault::Memory,
-        _ => ReadFault::Failed,
-    }
-}
 
 // The next bytes, none at the end. A call that a signal cut off is made again.
 fn read_some<F: Read>(file: &mut F, part: &mut [u8]) -> Result<usize, ReadFault>
@@ -44,7 +21,7 @@ fn read_some<F: Read>(file: &mut F, part: &mut [u8]) -> Result<usize, ReadFault>
             Ok(count) => return Ok(count),
             Err(e) => {
                 if e.kind() != ErrorKind::Interrupted {
-                    return Err(fault_of(&e));
+                    return Err(ReadFault::from(fault_of(&e)));
                 }
             }
         }
@@ -74,7 +51,7 @@ fn read_rest<F: Read>(alloc: Global, file: &mut F, limit: u64) -> Result<Vec<u8>
 }
 
 /// The bytes of the file at a path of the system, up to a limit; nothing where there is no file. A folder is none.
-pub fn read_file<R: rt::Files>(
+pub(crate) fn read_file<R: rt::Files>(
     rt: &R,
     alloc: Global,
     path: &str,
@@ -94,7 +71,7 @@ pub fn read_file<R: rt::Files>(
         Err(e) => return if is_absent(&e) {
             Ok(None)
         } else {
-            Err(fault_of(&e))
+            Err(ReadFault::from(fault_of(&e)))
         },
     }
     let mut file = match rt.open_file(OpenOptions::new().read(true), path) {
@@ -102,7 +79,7 @@ pub fn read_file<R: rt::Files>(
         Err(e) => return if is_absent(&e) {
             Ok(None)
         } else {
-            Err(fault_of(&e))
+            Err(ReadFault::from(fault_of(&e)))
         },
     };
     let bytes = read_rest(alloc, &mut file, limit)?;

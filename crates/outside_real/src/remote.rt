@@ -2,7 +2,8 @@ ghost use Rattle.std.specs.Prelude.{◌≡◌, ◌≤◌, true, IfOk, IfSome, le
 ghost use Rattle.mvn_base.specs.Names.{is_group, is_name};
 
 use crate::count::raised;
-use crate::reading::{full_path, read_file};
+use crate::folders::full_path;
+use crate::reading::read_file;
 use crate::versions::versions_below;
 use mvn_base::FileName;
 use mvn_outside::{ListFault, ReadFault, Remote};
@@ -18,8 +19,13 @@ pub struct RealRemote<'a, R: rt::Files + AllocGlobal + Clone + Drop> {
 }
 
 impl<'a, R: rt::Files + AllocGlobal + Clone + Drop> RealRemote<'a, R> {
+    ghost use Rattle.std.specs.Prelude.{◌≡◌};
+    ghost use Rattle.outside_real.specs.Remote.{remote_faults};
+
     /// The folder at a path of the system.
-    pub fn new(rt: &'a R, root: Text) -> RealRemote<'a, R> {
+    pub fn new(rt: &'a R, root: Text) -> RealRemote<'a, R>
+        ensures { remote_faults result ≡ 0 }
+    {
         RealRemote {
             rt,
             root,

@@ -3,44 +3,38 @@ ghost use Rattle.mvn_base.specs.Names.{is_group, is_name};
 
 use crate::area::RealArea;
 use crate::count::raised;
-use crate::folders::{is_inside, parent_of, sync_folders};
-use crate::reading::{full_path, is_absent, read_file};
+use crate::fault::{fault_of, is_absent};
+use crate::folders::{full_path, is_inside, make_folders, parent_of, sync_folders};
+use crate::reading::read_file;
 use crate::versions::versions_below;
 use mvn_base::FileName;
 use mvn_outside::{DeviceFault, ListFault, ReadFault, Shelf};
 use mvn_shared::{Bytes, List, Mem, Text};
 use std::collections::BTreeSet;
-use std::io::ErrorKind;
-use std::{fs, io, rt};
+use std::rt;
 
 /// The local repository as a folder on a disk. It tells nothing of what stands there. A publish renames a piece over its
-/// name; `settle` brings the folders of all names to the disk.
+/// name; `settle` brings the folders whose names have changed to the disk.
 #[derive(Drop)]
 pub struct RealShelf<'a, R: rt::Files + AllocGlobal + Clone + Drop> {
     rt: &'a R,
     root: Text,
-    published: BTreeSet<Text>,
+    changed: BTreeSet<Text>,
     faults: u64,
-}
-
-// An error of the system, as a fault.
-fn device_fault(e: &io::Error) -> DeviceFault {
-    match e.kind() {
-        ErrorKind::OutOfMemory => DeviceFault::Memory,
-        _ => DeviceFault::Failed,
-    }
 }
 
 impl<'a, R: rt::Files + AllocGlobal + Clone + Drop> RealShelf<'a, R> {
     ghost use Rattle.outside_real.specs.Shelf.{shelf_faults};
 
     /// The folder at a path of the system, which need not be there.
-    pub fn new(rt: &'a R, root: Text) -> RealShelf<'a, R> {
-        let published = BTreeSet::new(rt.alloc());
+    pub fn new(rt: &'a R, root: Text) -> RealShelf<'a, R>
+        ensures { shelf_faults result ≡ 0 }
+    {
+        let changed = BTreeSet::new(rt.alloc());
         RealShelf {
             rt,
             root,
-            published,
+            changed,
             faults: 0,
         }
     }
@@ -65,30 +59,26 @@ impl<'a, R: rt::Files + AllocGlobal + Clone + Drop> RealShelf<'a, R> {
             Err(e) => if is_absent(&e) {
                 Ok(false)
             } else {
-                Err(device_fault(&e))
+                Err(fault_of(&e))
             },
         }
     }
 
-    // Makes the name's folders and renames the file over it, whose folder is noted first.
+    // Makes the name's folders and renames the file over it; the folders whose names change are noted first.
     fn rename(&mut self, from: &str, name: &FileName) -> Result<(), DeviceFault>
         ensures { shelf_faults self.new ≡ shelf_faults self.old }
     {
         let path = name.as_text();
-        if !is_inside(path.as_str()) {
+        if !is_inside(path.as_bytes()) {
             return Err(DeviceFault::Failed);
         }
-        let alloc = self.rt.alloc();
-        let folder = Text::from_str(alloc, parent_of(path.as_str()))?;
-        let full = full_path(alloc, self.root.as_str(), folder.as_str())?;
-        fs::create_dir_all(self.rt, full.as_str()).map_err(|e| device_fault(&e))?;
-        self.published
-            .insert(folder)
-            .map_err(|_| DeviceFault::Memory)?;
         let to = self.path_of(name)?;
-        self.rt
-            .rename(from, to.as_str())
-            .map_err(|e| device_fault(&e))
+        let folder = parent_of(to.as_str());
+        make_folders(self.rt, folder, &mut self.changed)?;
+        self.changed
+            .insert(Text::from_str(self.rt.alloc(), folder)?)
+            .map_err(|_| DeviceFault::Memory)?;
+        self.rt.rename(from, to.as_str()).map_err(|e| fault_of(&e))
     }
 }
 
@@ -157,9 +147,9 @@ impl<'a, R: rt::Files + AllocGlobal + Clone + Drop> Shelf for RealShelf<'a, R> {
     }
 
     fn settle(&mut self) -> Result<(), DeviceFault> {
-        match sync_folders(self.rt, self.root.as_str(), &self.published) {
+        match sync_folders(self.rt, &self.changed) {
             Ok(()) => {
-                self.published.clear();
+                self.changed.clear();
                 Ok(())
             }
             Err(DeviceFault::Memory) => Err(DeviceFault::Memory),

@@ -10,7 +10,13 @@ pub struct RealSink<W: Write + Drop> {
 }
 
 impl<W: Write + Drop> RealSink<W> {
-    pub fn new(out: W) -> RealSink<W> {
+    ghost use Rattle.std.specs.Prelude.{◌≡◌};
+    ghost use Rattle.outside_real.specs.Sink.{sink_faults};
+
+    /// The sink over this stream.
+    pub fn new(out: W) -> RealSink<W>
+        ensures { sink_faults result ≡ 0 }
+    {
         RealSink { out, faults: 0 }
     }
 }

@@ -1,9 +1,10 @@
 // A real repository, its staging and a real remote, over folders that the test makes.
 use crate::{RealArea, RealRemote, RealShelf};
 use mvn_base::{FileName, Gav, file_of, valid_group, valid_name, valid_version};
-use mvn_outside::{Area, ReadFault, Remote, Shelf};
+use mvn_outside::{Area, AreaFault, ReadFault, Remote, Shelf};
 use mvn_shared::{Bytes, Text};
-use std::fs;
+use std::fs::{self, Permissions};
+use std::os::unix::fs::{PermissionsExt, symlink};
 use std::test::Fail;
 
 // A new folder of the system.
@@ -149,4 +150,62 @@ fn listed(rt: &HostRuntime, remote: &mut RealRemote<'_, HostRuntime>) -> Result<
         text.push(' ')?;
     }
     Ok(text)
+}
+
+// Whether bytes can't be added to a new piece.
+fn append_fails(rt: &HostRuntime, folder: &str) -> Result<bool, Fail> {
+    let (_, mut area) = open(rt, folder)?;
+    let Ok(piece) = area.begin() else {
+        return Err(Fail::new("a piece"));
+    };
+    Ok(matches!(area.append(piece, b"bytes"), Err(AreaFault::Failed)))
+}
+
+#[test]
+fn a_full_disk_is_a_fault_of_the_area(rt: HostRuntime) -> Result<(), Fail> {
+    let folder = new_folder(&rt, "full")?;
+    let root = folder.as_str();
+    let staging = format!(in rt.alloc(); "{root}/.staging/0")?;
+    fs::create_dir_all(&rt, staging.as_str())?;
+    let piece = format!(in rt.alloc(); "{staging}/0")?;
+    assert_eq!(rt; append_fails(&rt, root)?, false);
+    fs::remove_file(&rt, piece.as_str())?;
+    symlink(&rt, "/dev/full", piece.as_str())?;
+    assert_eq!(rt; append_fails(&rt, root)?, true);
+    fs::remove_dir_all(&rt, root)?;
+    Ok(())
+}
+
+// A folder that nothing may be made in; whether that holds of who runs the test.
+fn locked_folder(rt: &HostRuntime, path: &str) -> Result<bool, Fail> {
+    fs::create_dir(rt, path)?;
+    fs::set_permissions(rt, path, Permissions::from_mode(0o555))?;
+    let probe = format!(in rt.alloc(); "{path}/probe")?;
+    Ok(fs::create_dir(rt, probe.as_str()).is_err())
+}
+
+#[test]
+fn a_lost_permission_is_a_fault_and_loses_nothing(rt: HostRuntime) -> Result<(), Fail> {
+    let folder = new_folder(&rt, "locked")?;
+    let root = folder.as_str();
+    let group = format!(in rt.alloc(); "{root}/org")?;
+    let locked = locked_folder(&rt, group.as_str())?;
+    assert_eq!(rt; publish(&rt, root, "1.0", b"new")?, !locked);
+    fs::set_permissions(&rt, group.as_str(), Permissions::from_mode(0o755))?;
+    let name = name_of(&rt, "1.0", "pom")?;
+    let (mut shelf, _) = open(&rt, root)?;
+    assert_eq!(rt; shelf.has(&name)?, !locked);
+    fs::remove_dir_all(&rt, root)?;
+    Ok(())
+}
+
+#[test]
+fn a_new_repository_makes_its_folders(rt: HostRuntime) -> Result<(), Fail> {
+    let folder = new_folder(&rt, "new")?;
+    let root = format!(in rt.alloc(); "{folder}/deep/er/repository")?;
+    assert_eq!(rt; publish(&rt, root.as_str(), "1.0", b"new")?, true);
+    let (mut shelf, _) = open(&rt, root.as_str())?;
+    assert_eq!(rt; shelf.has(&name_of(&rt, "1.0", "pom")?)?, true);
+    fs::remove_dir_all(&rt, folder.as_str())?;
+    Ok(())
 }

@@ -1,4 +1,5 @@
 // Each real object over a folder that the test makes.
+use crate::folders::{is_inside, parent_of};
 use crate::{RealSink, RealTree};
 use mvn_outside::{DeviceFault, Files, ReadFault, Sink, Tree, write_all};
 use mvn_shared::{Mem, Text};
@@ -112,5 +113,23 @@ fn a_full_device_is_a_fault_of_the_sink(rt: HostRuntime) -> Result<(), Fail> {
     assert!(rt; matches!(write_all(&mut sink, b"report"), Err(DeviceFault::Failed)));
     let mut sink = RealSink::new(Vec::new(rt.alloc()));
     assert_eq!(rt; sink.write(b"report")?, 6);
+    Ok(())
+}
+
+#[test]
+fn paths_stay_in_the_repository(rt: HostRuntime) -> Result<(), Fail> {
+    for (path, inside, parent) in [
+        ("org/demo/a-1.pom", true, "org/demo"),
+        ("a", true, "."),
+        ("/a", false, "/"),
+        ("org/../a", false, "org/.."),
+        ("./a", false, "."),
+        ("org//a", false, "org/"),
+        (".staging/0", false, ".staging"),
+        ("org/.stagings", true, "org"),
+    ] {
+        assert_eq!(rt; is_inside(path.as_bytes()), inside, "{path}");
+        assert_eq!(rt; parent_of(path), parent, "{path}");
+    }
     Ok(())
 }

@@ -1,7 +1,8 @@
 ghost use Rattle.std.specs.Prelude.{◌≤◌, IfOk, IfSome, length};
 
 use crate::count::raised;
-use crate::reading::{full_path, read_file};
+use crate::folders::full_path;
+use crate::reading::read_file;
 use crate::walk::files_below;
 use mvn_outside::{DeviceFault, Files, ListFault, ReadFault, Tree};
 use mvn_shared::{Bytes, List, Text};
@@ -19,8 +20,13 @@ pub struct RealTree<'a, R: rt::Files + AllocGlobal + Clone + Drop> {
 }
 
 impl<'a, R: rt::Files + AllocGlobal + Clone + Drop> RealTree<'a, R> {
+    ghost use Rattle.std.specs.Prelude.{◌≡◌};
+    ghost use Rattle.outside_real.specs.Tree.{tree_faults};
+
     /// The folder at a path of the system, such as `.`.
-    pub fn new(rt: &'a R, root: Text) -> RealTree<'a, R> {
+    pub fn new(rt: &'a R, root: Text) -> RealTree<'a, R>
+        ensures { tree_faults result ≡ 0 }
+    {
         RealTree {
             rt,
             root,

@@ -4,7 +4,7 @@ ghost use Rattle.mvn_base.specs.Names.{is_group, is_name};
 
 use crate::walk::files_below;
 use mvn_base::artifact_folder;
-use mvn_outside::{ListFault, MOST_VERSIONS, versions_among};
+use mvn_outside::{ListFault, list_versions};
 use mvn_shared::{List, Text};
 use std::rt;
 
@@ -13,7 +13,7 @@ const MOST_FILES: usize = 65536;
 
 /// The versions whose POMs stand below the artifact's folder, in the order of the POMs' names. Costs one look at each
 /// file of the artifact, and a sort.
-pub fn versions_below<R: rt::Files + AllocGlobal + Clone + Drop>(
+pub(crate) fn versions_below<R: rt::Files + AllocGlobal + Clone + Drop>(
     rt: &R,
     root: &str,
     group: &Text,
@@ -25,9 +25,5 @@ pub fn versions_below<R: rt::Files + AllocGlobal + Clone + Drop>(
     let alloc = rt.alloc();
     let folder = artifact_folder(alloc, group, artifact)?;
     let names = files_below(rt, root, folder.as_str(), MOST_FILES)?;
-    let versions = versions_among(alloc, &names, group, artifact)?;
-    if versions.len() > MOST_VERSIONS {
-        return Err(ListFault::TooMany);
-    }
-    Ok(List::of(versions))
+    list_versions(alloc, &names, group, artifact)
 }

@@ -1,17 +1,11 @@
 // The files below a folder of the system.
-use crate::reading::{fault_of, full_path, is_absent};
-use mvn_outside::{ListFault, ReadFault};
+use crate::fault::{fault_of, is_absent};
+use crate::folders::full_path;
+use mvn_outside::ListFault;
 use mvn_shared::{Mem, Text};
 use std::alloc::Global;
 use std::fs::DirEntry;
-use std::{fs, io, rt};
-
-fn list_fault(e: &io::Error) -> ListFault {
-    match fault_of(e) {
-        ReadFault::Memory => ListFault::Memory,
-        _ => ListFault::Failed,
-    }
-}
+use std::{fs, rt};
 
 // A path below the root: a folder's, and a name in it.
 fn below(alloc: Global, folder: &str, name: &str) -> Mem<String> {
@@ -28,7 +22,7 @@ fn is_folder<R: rt::Files>(rt: &R, path: &str) -> Result<bool, ListFault> {
         Err(e) => if is_absent(&e) {
             Ok(false)
         } else {
-            Err(list_fault(&e))
+            Err(ListFault::from(fault_of(&e)))
         },
     }
 }
@@ -48,7 +42,9 @@ fn take_entry<R: rt::Files + Clone + Drop>(
     entry: &DirEntry<R, Global>,
     most: usize,
 ) -> Result<(), ListFault> {
-    let kind = entry.file_type().map_err(|e| list_fault(&e))?;
+    let kind = entry
+        .file_type()
+        .map_err(|e| ListFault::from(fault_of(&e)))?;
     let path = below(alloc, folder, entry.file_name())?;
     if kind.is_dir() {
         return found.folders.push(path).map_err(|_| ListFault::Memory);
@@ -74,11 +70,11 @@ fn take_folder<R: rt::Files + AllocGlobal + Clone + Drop>(
 ) -> Result<(), ListFault> {
     let alloc = rt.alloc();
     let full = full_path(alloc, root, folder)?;
-    let entries = fs::read_dir(rt, full.as_str()).map_err(|e| list_fault(&e))?;
+    let entries = fs::read_dir(rt, full.as_str()).map_err(|e| ListFault::from(fault_of(&e)))?;
     for entry in entries {
         match entry {
             Ok(entry) => take_entry(alloc, found, folder, &entry, most)?,
-            Err(e) => return Err(list_fault(&e)),
+            Err(e) => return Err(ListFault::from(fault_of(&e))),
         }
     }
     Ok(())
@@ -86,7 +82,7 @@ fn take_folder<R: rt::Files + AllocGlobal + Clone + Drop>(
 
 /// The files below a folder, as paths below the root, ascending by bytes; none where it is no folder. Links are left
 /// out. Costs one look at each entry, and a sort.
-pub fn files_below<R: rt::Files + AllocGlobal + Clone + Drop>(
+pub(crate) fn files_below<R: rt::Files + AllocGlobal + Clone + Drop>(
     rt: &R,
     root: &str,
     folder: &str,

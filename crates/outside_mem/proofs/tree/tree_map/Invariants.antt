@@ -1,7 +1,7 @@
 use Rattle.std.proofs.Common.{◌≡◌, fold}
 use Rattle.std.specs.Vec.Iter.{into_iter_items}
 use Rattle.outside_mem.specs.Tree.{with_file, files_of}
-use Rattle.outside_mem.proofs.tree.MemTree.new.Given as goal
+use Rattle.outside_mem.proofs.tree.tree_map.Given as goal
 
 -- the map so far, with what is left, is that of all
 abbrev pub invariant-loop-file : goal.invariant-loop-file

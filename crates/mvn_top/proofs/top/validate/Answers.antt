@@ -2,7 +2,7 @@ use Rattle.std.proofs.Common.{◌≡◌, ◌∙◌, sym, ap, inl, arith}
 use Rattle.mvn_shared.specs.Told.{gains}
 use Rattle.mvn_top.specs.declared.outcome.Outcome.{Outcome}
 use Rattle.mvn_top.proofs.Outcomes.{whole_of_files, fault_risen, outcome_bound}
-use Rattle.mvn_top.proofs.top.mvn.Goals as goal
+use Rattle.mvn_top.proofs.top.validate.Goals as goal
 
 pub returns-in-Ok-write_all-clause-outcome : goal.returns-in-Ok-write_all-clause-outcome
 returns-in-Ok-write_all-clause-outcome g c =

@@ -1,0 +1,131 @@
+// What the program takes from its surroundings: its words, and the variables of the environment.
+use mvn_base::{Machine, Pair};
+use mvn_shared::{Bytes, List, Mem, OutOfMemory, Text, TextError};
+use std::alloc::Global;
+use std::collections::BTreeMap;
+use std::env::FillError;
+use std::rt::Env;
+
+/// How many bytes a word or a variable may have, tried one after another. The system's own limit lies below the last.
+const SIZES: [usize; 4] = [256, 4096, 131_072, 4_194_304];
+
+/// Which bytes are asked for.
+#[derive(Clone, Copy)]
+enum Wanted {
+    /// The word with this number; the program's name is 0.
+    Word(usize),
+    /// The variable with this number, as `NAME=value`.
+    Variable(usize),
+}
+
+impl Wanted {
+    fn fill<R: Env>(self, rt: &R, bytes: &mut [u8]) -> Result<usize, FillError> {
+        match self {
+            Wanted::Word(i) => rt.arg(i, bytes),
+            Wanted::Variable(i) => rt.var_at(i, bytes),
+        }
+    }
+}
+
+// The bytes of a word or a variable; nothing behind the last.
+fn bytes_of<R: Env>(rt: &R, alloc: Global, wanted: Wanted) -> Mem<Option<Vec<u8>>> {
+    for size in SIZES {
+        let mut bytes = vec![in alloc; 0u8; size]?;
+        match wanted.fill(rt, &mut bytes) {
+            Ok(len) => {
+                bytes.truncate(len);
+                return Ok(Some(bytes));
+            }
+            Err(FillError::NotPresent) => return Ok(None),
+            Err(FillError::TooLong) => {}
+        }
+    }
+    Err(OutOfMemory)
+}
+
+/// The words behind the program's name.
+pub fn words<R: Env>(rt: &R, alloc: Global) -> Mem<Vec<Bytes>> {
+    let mut words = Vec::new(alloc);
+    for i in 1..usize::MAX {
+        let Some(word) = bytes_of(rt, alloc, Wanted::Word(i))? else {
+            break;
+        };
+        words.push(Bytes::of(word))?;
+    }
+    Ok(words)
+}
+
+// A text of these bytes, where they are one.
+fn text_of(alloc: Global, bytes: &[u8]) -> Mem<Option<Text>> {
+    match Text::from_slice(alloc, bytes) {
+        Ok(text) => Ok(Some(text)),
+        Err(TextError::NotUtf8) => Ok(None),
+        Err(TextError::Memory) => Err(OutOfMemory),
+    }
+}
+
+// Puts a variable in, where its name and its value are texts and none of its name is there.
+fn put_variable(alloc: Global, variables: &mut BTreeMap<Text, Text>, entry: &[u8]) -> Mem<()> {
+    let Some(at) = entry.iter().position(|b| *b == b'=') else {
+        return Ok(());
+    };
+    let name = text_of(alloc, &entry[..at])?;
+    let value = text_of(alloc, &entry[at + 1..])?;
+    if let (Some(name), Some(value)) = (name, value) {
+        if !variables.contains_key(&name) {
+            variables.insert(name, value)?;
+        }
+    }
+    Ok(())
+}
+
+/// The variables of the environment whose name and value are texts; of two with one name the first counts.
+pub fn variables<R: Env>(rt: &R, alloc: Global) -> Mem<BTreeMap<Text, Text>> {
+    let mut variables = BTreeMap::new(alloc);
+    for i in 0..usize::MAX {
+        let Some(entry) = bytes_of(rt, alloc, Wanted::Variable(i))? else {
+            break;
+        };
+        put_variable(alloc, &mut variables, &entry)?;
+    }
+    Ok(variables)
+}
+
+/// The value of a variable, or the text that stands for it where there is none.
+pub fn variable_or(
+    alloc: Global,
+    variables: &BTreeMap<Text, Text>,
+    name: &str,
+    other: &str,
+) -> Mem<Text> {
+    match variables.get(&Text::from_str(alloc, name)?) {
+        Some(value) => Ok(value.clone()?),
+        None => Text::from_str(alloc, other),
+    }
+}
+
+// The variables as pairs, ascending by name.
+fn pairs(alloc: Global, variables: &BTreeMap<Text, Text>) -> Mem<List<Pair>> {
+    let mut pairs = List::new(alloc);
+    for (name, value) in variables {
+        pairs.push(Pair {
+            name: name.clone()?,
+            value: value.clone()?,
+        })?;
+    }
+    Ok(pairs)
+}
+
+/// What a project may ask of this machine.
+pub fn machine(alloc: Global, variables: &BTreeMap<Text, Text>) -> Mem<Machine> {
+    Ok(Machine {
+        root: variable_or(alloc, variables, "PWD", ".")?,
+        env: pairs(alloc, variables)?,
+        system: List::new(alloc),
+        jdk: variable_or(alloc, variables, "MVN_JDK", "")?,
+        os_name: Text::from_str(alloc, "linux")?,
+        os_family: Text::from_str(alloc, "unix")?,
+        os_arch: Text::from_str(alloc, "")?,
+        os_version: Text::from_str(alloc, "")?,
+    })
+}

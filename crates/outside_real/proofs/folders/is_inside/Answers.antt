@@ -1,0 +1,11 @@
+use Rattle.std.proofs.Common.{rules, tests}
+use Rattle.std.proofs.lemmas.Iterator.Search.{all_from_yields_List}
+use Rattle.std.proofs.lemmas.Iterator.Splits.{YieldsList-from_slice_split}
+use Rattle.outside_real.specs.Paths.{is_slash, is_step}
+use Rattle.outside_real.proofs.folders.is_inside.Goals as goal
+
+pub returns : goal.returns
+returns c =
+    all_from_yields_List is_step _ _ _ c.all.ensures.ran
+    (YieldsList-from_slice_split _ is_slash c.args.path.now c.split.ensures.rest c.split.ensures.done c.split.ensures.closure (λ x b q k. search (rules, tests)))
+    (λ x b q k. search (rules, tests))

@@ -1,4 +1,4 @@
-ghost use Rattle.std.specs.Prelude.{◌≡◌, IfOk, OnOk, OnErr};
+ghost use Rattle.std.specs.Prelude.{◌≡◌, length, IfOk, OnOk, OnErr};
 ghost use Rattle.std.specs.FinMap as map;
 ghost use Rattle.std.specs.Option.{option_copied};
 ghost use Rattle.mvn_shared.specs.Files.{is_below, names_below, is_there};
@@ -51,6 +51,13 @@ impl FileMap {
     {
         self.files.insert(name, bytes)?;
         Ok(())
+    }
+
+    /// The number of names. Takes no memory, and constant time.
+    pub fn len(&self) -> usize
+        ensures { result ≡ length (map.keys self.now) }
+    {
+        self.files.len()
     }
 
     /// Every name, ascending by bytes. Costs one pass.

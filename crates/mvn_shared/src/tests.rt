@@ -52,6 +52,7 @@ fn files_lie_below_their_folders(rt: HostRuntime) -> Result<(), Fail> {
         }
         assert_eq!(rt; found.as_str(), names);
     }
+    assert_eq!(rt; files.len(), 5);
     assert_eq!(rt; files.is_there(&Text::from_str(alloc, "src-x")?), true);
     assert_eq!(rt; files.is_there(&Text::from_str(alloc, "sr")?), false);
     assert_eq!(rt;

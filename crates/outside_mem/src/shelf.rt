@@ -76,11 +76,11 @@ impl MemShelf<NoFailures> {
 impl<F> MemShelf<F> {
     ghost use Rattle.outside_mem.specs.Shelf.{shelf_told, shelf_calls};
 
-    /// The names of its files, ascending by bytes. Costs one pass.
-    pub fn names(&self) -> Mem<Vec<Text>>
-        ensures { IfOk result (λ names. names.items ≡ map.keys (files_now (shelf_told self.now))) }
+    /// The number of names that hold a file. Takes no memory, and constant time.
+    pub fn names(&self) -> u64
+        ensures { result ≡ length (map.keys (files_now (shelf_told self.now))) }
     {
-        self.files.names(self.alloc)
+        self.files.len() as u64
     }
 
     // Puts the bytes under the name, and notes the publish; where memory is short nothing has changed.

@@ -156,7 +156,7 @@ fn a_publish_gives_its_name_whole_new_bytes(rt: HostRuntime) -> Result<(), Fail>
     assert_eq!(rt; publish(&mut shelf, &mut area, &other), true);
     assert_eq!(rt; (size(&mut shelf, &new), area.pieces()), (Some(7), 1));
     assert_eq!(rt; shelf.settle().is_ok(), true);
-    assert_eq!(rt; shelf.names()?.len(), 2);
+    assert_eq!(rt; shelf.names(), 2);
     Ok(())
 }
 

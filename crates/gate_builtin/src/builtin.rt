@@ -1,10 +1,12 @@
-ghost use Rattle.std.specs.Prelude.{◌≡◌, ◌∷◌, find, IfOk};
+ghost use Rattle.std.specs.Prelude.{◌≡◌, ◌∷◌, ◌++◌, ℕ, List, find, flat_map, IfOk};
 ghost use Rattle.std.specs.Option.{option_map};
-ghost use Rattle.mvn_outside.specs.Goals.{HasOwnSlots};
+ghost use Rattle.sha2.specs.Sha256.{sha256};
+ghost use Rattle.mvn_outside.specs.Requests.{entry_bytes, request_text};
 ghost use Rattle.gate_builtin.specs.Builtin.{is_named, text_of, failure_text, failure_in, digest_text, output_for, builtin};
 
 use mvn_outside::{
-    Gate, GateFault, GoalAnswer, GoalRequest, Slot, SourceFile, line_of, request_bytes,
+    Gate, GateFault, GoalAnswer, GoalRequest, OwnBytes, PathEntry, Slot, SourceFile, line_of,
+    request_line,
 };
 use mvn_shared::{Bytes, Mem, Text};
 use sha2::{Digest, Sha256};
@@ -85,14 +87,54 @@ fn failure_of(alloc: Global, goal: &Text, sources: &[SourceFile]) -> Mem<Option<
     }
 }
 
-// The digest of a request's bytes, in hexadecimal digits and with a line feed.
+// Feeds the hasher with the bytes of sources.
+fn feed_sources<D: Digest>(hasher: &mut D, sources: &[SourceFile])
+    ensures { (m : List ℕ) → D.holds hasher.old m → D.holds hasher.new (m ++ flat_map (λ s. s.bytes) sources.now) }
+{
+    for file in sources {
+        hasher.update(file.bytes.as_slice());
+    }
+}
+
+// Feeds the hasher with the bytes of a module's own outputs.
+fn feed_own<D: Digest>(hasher: &mut D, own: &[OwnBytes])
+    ensures { (m : List ℕ) → D.holds hasher.old m → D.holds hasher.new (m ++ flat_map (λ o. o.bytes) own.now) }
+{
+    for output in own {
+        hasher.update(output.bytes.as_slice());
+    }
+}
+
+// Feeds the hasher with the bytes of the entries of a classpath.
+fn feed_entries<D: Digest>(hasher: &mut D, entries: &[PathEntry])
+    ensures { (m : List ℕ) → D.holds hasher.old m → D.holds hasher.new (m ++ flat_map (λ e. entry_bytes e.bytes) entries.now) }
+{
+    for entry in entries {
+        if let Some(found) = &entry.bytes {
+            hasher.update(found.as_slice());
+        }
+    }
+}
+
+// The digest of a request's bytes. Only its line is built; the other bytes are fed from where they stand.
+fn request_digest(alloc: Global, request: &GoalRequest) -> Mem<[u8; 32]>
+    ensures { IfOk result (λ digest. digest ≡ sha256 (request_text request.now)) }
+{
+    let line = request_line(alloc, request)?;
+    let mut hasher = Sha256::new();
+    hasher.update(line.as_slice());
+    feed_sources(&mut hasher, request.sources.as_slice());
+    feed_own(&mut hasher, request.own.as_slice());
+    feed_entries(&mut hasher, request.classpath.as_slice());
+    Ok(hasher.finalize())
+}
+
+// That digest in hexadecimal digits and with a line feed.
 #[tactic(auto, unfolding(crate::specs::Builtin::digest_text))]
 fn digest_text(alloc: Global, request: &GoalRequest) -> Mem<Bytes>
-    requires { HasOwnSlots request.now.own }
     ensures { IfOk result (λ bytes. bytes ≡ digest_text request.now) }
 {
-    let bytes = request_bytes(alloc, request)?;
-    let digest = Sha256::digest(bytes.as_slice());
+    let digest = request_digest(alloc, request)?;
     let mut text = hex::encode(alloc, digest)?.into_bytes();
     text.push(b'\n')?;
     Ok(Bytes::of(text))
@@ -101,7 +143,6 @@ fn digest_text(alloc: Global, request: &GoalRequest) -> Mem<Bytes>
 // The answer to a request.
 #[tactic(auto, unfolding(crate::specs::Builtin::builtin))]
 fn answer(alloc: Global, request: &GoalRequest) -> Mem<GoalAnswer>
-    requires { HasOwnSlots request.now.own }
     ensures { IfOk result (λ answer. answer ≡ builtin request.now) }
 {
     if let Some(text) = failure_of(alloc, &request.call.goal, request.sources.as_slice())? {
@@ -114,13 +155,17 @@ fn answer(alloc: Global, request: &GoalRequest) -> Mem<GoalAnswer>
 }
 
 impl Gate for Builtin {
-    ghost use Rattle.std.specs.Prelude.{Some};
+    ghost use Rattle.std.specs.Prelude.{Some, true, refl};
     ghost use Rattle.gate_builtin.specs.Builtin.{builtin, same_answer};
     ghost use Rattle.gate_builtin.specs.Same.{one_answer};
 
     ghost answers = { λ _. Some (λ request answer. same_answer (builtin request) answer) };
 
     ghost faults = { λ _. 0 };
+
+    ghost never_fails = { λ _. true };
+
+    ghost no_faults = { λ _ _. refl };
 
     ghost one_answer = { λ _. one_answer };
 

@@ -24,6 +24,7 @@ pub fn put<S: Shelf>(
     ensures err { OnErr result ((S.told shelf.new ≡ S.told shelf.old) × (S.Area.pieces area.new ≡ S.Area.pieces area.old)
         × (S.Area.contents area.new ≡ S.Area.contents area.old)) }
     ensures area { S.Area.faults area.new ≡ S.Area.faults area.old }
+    ensures never { (S.never_fails shelf.new ≡ S.never_fails shelf.old) × (S.Area.never_fails area.new ≡ S.Area.never_fails area.old) }
     ensures cause { HasCause (S.faults shelf.old) (S.faults shelf.new) (device_failed result) }
 {
     shelf.publish(area, piece, name)
@@ -33,6 +34,7 @@ pub fn put<S: Shelf>(
 pub fn settle<S: Shelf>(shelf: &mut S) -> Result<(), DeviceFault>
     ensures ok { OnOk result (S.told shelf.new ≡ settled_all (S.told shelf.old)) }
     ensures err { OnErr result (MaySettle (S.told shelf.old) (S.told shelf.new)) }
+    ensures never { S.never_fails shelf.new ≡ S.never_fails shelf.old }
     ensures cause { HasCause (S.faults shelf.old) (S.faults shelf.new) (device_failed result) }
 {
     shelf.settle()

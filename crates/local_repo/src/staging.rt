@@ -15,6 +15,7 @@ pub fn stage<A: Area>(area: &mut A, bytes: &[u8]) -> Result<u64, AreaFault>
     ensures sealed { IfOk result (λ piece. A.pieces area.new ≡ map.insert (A.pieces area.old) piece true) }
     ensures bytes { IfOk result (λ piece. A.contents area.new ≡ staged (A.contents area.old) piece bytes.now) }
     ensures err { OnErr result (KeepsPieces (A.pieces area.old) (A.pieces area.new)) }
+    ensures never { A.never_fails area.new ≡ A.never_fails area.old }
     ensures cause { HasCause (A.faults area.old) (A.faults area.new) (area_failed result) }
 {
     let piece = area.begin()?;
@@ -31,6 +32,7 @@ pub fn stage<A: Area>(area: &mut A, bytes: &[u8]) -> Result<u64, AreaFault>
 pub fn sweep<A: Area>(area: &mut A) -> Result<(), AreaFault>
     ensures ok { OnOk result ((A.pieces area.new ≡ map.empty) × (A.contents area.new ≡ emptied (A.contents area.old))) }
     ensures same { is_some (A.contents area.new) ≡ is_some (A.contents area.old) }
+    ensures never { A.never_fails area.new ≡ A.never_fails area.old }
     ensures cause { HasCause (A.faults area.old) (A.faults area.new) (area_failed result) }
 {
     area.sweep()

@@ -14,7 +14,7 @@ struct Drip {
 }
 
 impl Area for Drip {
-    ghost use Rattle.std.specs.Prelude.{Some};
+    ghost use Rattle.std.specs.Prelude.{Some, false};
     ghost use Rattle.outside_mem.specs.Area.{area_sealed, area_contents, area_calls};
     ghost use Rattle.outside_mem.specs.Calls.{fault_count};
 
@@ -23,6 +23,10 @@ impl Area for Drip {
     ghost contents = { λ drip. Some (area_contents drip.area) };
 
     ghost faults = { λ drip. fault_count (area_calls drip.area) };
+
+    ghost never_fails = { λ _. false };
+
+    ghost no_faults = { λ _ e. cc };
 
     fn begin(&mut self) -> Result<u64, AreaFault> {
         self.area.begin()

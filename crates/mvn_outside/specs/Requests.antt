@@ -87,6 +87,10 @@ entry_bytes (Some bytes) = bytes
 abbrev pub request_payload : GoalRequest → List ℕ
 request_payload request = flat_map (λ s. s.bytes) request.sources ++ flat_map (λ o. o.bytes) request.own ++ flat_map (λ e. entry_bytes e.bytes) request.classpath
 
+-- the line of a request, with a line feed
+abbrev pub request_line : GoalRequest → List ℕ
+request_line request = compact_text (request_data request) ++ 10 ∷ []
+
 -- a request's bytes
 abbrev pub request_text : GoalRequest → List ℕ
-request_text request = compact_text (request_data request) ++ 10 ∷ request_payload request
+request_text request = request_line request ++ request_payload request

@@ -17,12 +17,16 @@ pub trait Area {
     /// The faults so far. The count never falls.
     ghost faults: { Self → ℕ };
 
+    /// Whether no call fails. The count of faults is then the constant 0.
+    ghost never_fails: { Self → Bool };
+
     /// A new open piece without bytes.
     fn begin(&mut self) -> Result<u64, AreaFault>
         ensures fresh { IfOk result (λ piece. map.get (pieces self.old) piece ≡ None) }
         ensures open { IfOk result (λ piece. pieces self.new ≡ map.insert (pieces self.old) piece false) }
         ensures empty { IfOk result (λ piece. contents self.new ≡ begun (contents self.old) piece) }
         ensures err { OnErr result ((pieces self.new ≡ pieces self.old) × (contents self.new ≡ contents self.old)) }
+        ensures never { never_fails self.new ≡ never_fails self.old }
         ensures cause { HasCause (faults self.old) (faults self.new) (area_failed result) };
 
     /// Adds a part from the front of the bytes to an open piece, at least one byte where there is one, and says how
@@ -34,6 +38,7 @@ pub trait Area {
         ensures takes { IfOk result (λ count. contents self.new ≡ extended (contents self.old) piece (take count bytes.now)) }
         ensures pieces { pieces self.new ≡ pieces self.old }
         ensures err { OnErr result (contents self.new ≡ contents self.old) }
+        ensures never { never_fails self.new ≡ never_fails self.old }
         ensures cause { HasCause (faults self.old) (faults self.new) (area_failed result) };
 
     /// Seals an open piece: its bytes are then whole, and stay.
@@ -42,6 +47,7 @@ pub trait Area {
         ensures ok { OnOk result (pieces self.new ≡ map.insert (pieces self.old) piece true) }
         ensures err { OnErr result (pieces self.new ≡ pieces self.old) }
         ensures contents { contents self.new ≡ contents self.old }
+        ensures never { never_fails self.new ≡ never_fails self.old }
         ensures cause { HasCause (faults self.old) (faults self.new) (area_failed result) };
 
     /// Removes a piece.
@@ -49,11 +55,16 @@ pub trait Area {
         requires { IsTrue (is_some (map.get (pieces self.old) piece)) }
         ensures ok { OnOk result ((pieces self.new ≡ map.remove (pieces self.old) piece) × (contents self.new ≡ removed (contents self.old) piece)) }
         ensures err { OnErr result ((pieces self.new ≡ pieces self.old) × (contents self.new ≡ contents self.old)) }
+        ensures never { never_fails self.new ≡ never_fails self.old }
         ensures cause { HasCause (faults self.old) (faults self.new) (area_failed result) };
 
     /// Removes all pieces, leftovers of a stopped run among them. After an `Err` some may be gone.
     fn sweep(&mut self) -> Result<(), AreaFault>
         ensures ok { OnOk result ((pieces self.new ≡ map.empty) × (contents self.new ≡ emptied (contents self.old))) }
         ensures same { is_some (contents self.new) ≡ is_some (contents self.old) }
+        ensures never { never_fails self.new ≡ never_fails self.old }
         ensures cause { HasCause (faults self.old) (faults self.new) (area_failed result) };
+
+    /// Where no call fails, there is no fault.
+    ghost no_faults: { (area : Self) → never_fails area ≡ true → faults area ≡ 0 };
 }

@@ -1,4 +1,4 @@
-ghost use Rattle.std.specs.Prelude.{◌≡◌, ℕ, Bool, List, Option, IfOk, IfSome};
+ghost use Rattle.std.specs.Prelude.{◌≡◌, ℕ, Bool, true, List, Option, IfOk, IfSome};
 ghost use Rattle.mvn_shared.specs.Cause.{HasCause};
 ghost use Rattle.mvn_outside.specs.Faults.{device_failed};
 
@@ -13,6 +13,9 @@ pub trait Files {
     /// The faults so far. The count never falls.
     ghost faults: { Self → ℕ };
 
+    /// Whether no call fails. The count of faults is then the constant 0.
+    ghost never_fails: { Self → Bool };
+
     /// The second tells what the first did.
     ghost tells_same: { Self → Self → Type 0 };
 
@@ -20,7 +23,11 @@ pub trait Files {
     fn has(&mut self, path: &Text) -> Result<bool, DeviceFault>
         ensures tells { IfSome (there self.old) (λ is_there. IfOk result (λ found. found ≡ is_there path.now)) }
         ensures same { tells_same self.old self.new }
+        ensures never { never_fails self.new ≡ never_fails self.old }
         ensures cause { HasCause (faults self.old) (faults self.new) (device_failed result) };
 
     ghost same_there: { (before now : Self) → tells_same before now → there now ≡ there before };
+
+    /// Where no call fails, there is no fault.
+    ghost no_faults: { (files : Self) → never_fails files ≡ true → faults files ≡ 0 };
 }

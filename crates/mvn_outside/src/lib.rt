@@ -27,7 +27,7 @@ pub use goal_table::{GoalRule, goal_rule};
 pub use hand::Hand;
 pub use line::{line_of, split_line};
 pub use remote::Remote;
-pub use request::request_bytes;
+pub use request::{request_bytes, request_line};
 pub use shelf::{Published, Shelf, ShelfTold};
 pub use sink::{Sink, write_all};
 pub use tree::Tree;

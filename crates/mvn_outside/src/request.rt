@@ -4,7 +4,7 @@ ghost use Rattle.std.specs.String.{string_bytes};
 ghost use Rattle.serde_json.specs.View.{view, items_view, items_of};
 ghost use Rattle.serde_json.specs.Written.{compact_text};
 ghost use Rattle.mvn_outside.specs.Goals.{HasOwnSlots};
-ghost use Rattle.mvn_outside.specs.Requests.{setting_object, setting_data, slot_name, source_data, own_data, count_data, entry_data, entry_bytes, plugin_text, request_object, request_data, request_text};
+ghost use Rattle.mvn_outside.specs.Requests.{setting_object, setting_data, slot_name, source_data, own_data, count_data, entry_data, entry_bytes, plugin_text, request_object, request_data, request_line, request_text};
 
 use crate::goal::{GoalCall, GoalRequest, OwnBytes, PathEntry, Slot, SourceFile};
 use mvn_base::Setting;
@@ -169,12 +169,15 @@ fn request_value(alloc: Global, request: &GoalRequest) -> Mem<Value>
     )?)
 }
 
-// The line of a request.
-fn request_line(alloc: Global, request: &GoalRequest) -> Mem<String>
-    ensures { IfOk result (λ line. string_bytes line ≡ compact_text (request_data request.now)) }
+/// The line that a request begins with: compact JSON, and a line feed. Own format. Costs the time and memory of what it
+/// gives.
+pub fn request_line(alloc: Global, request: &GoalRequest) -> Mem<Bytes>
+    ensures { IfOk result (λ line. line ≡ request_line request.now) }
 {
     let value = request_value(alloc, request)?;
-    Ok(value.to_string(alloc)?)
+    let mut bytes = value.to_string(alloc)?.into_bytes();
+    bytes.push(b'\n')?;
+    Ok(Bytes::of(bytes))
 }
 
 fn push_sources(bytes: &mut Vec<u8>, sources: &[SourceFile]) -> Mem<()>
@@ -212,8 +215,7 @@ pub fn request_bytes(alloc: Global, request: &GoalRequest) -> Mem<Bytes>
     requires { HasOwnSlots request.now.own }
     ensures { IfOk result (λ bytes. bytes ≡ request_text request.now) }
 {
-    let mut bytes = request_line(alloc, request)?.into_bytes();
-    bytes.push(b'\n')?;
+    let mut bytes = request_line(alloc, request)?.into_vec();
     push_sources(&mut bytes, request.sources.as_slice())?;
     push_own(&mut bytes, request.own.as_slice())?;
     push_entries(&mut bytes, request.classpath.as_slice())?;

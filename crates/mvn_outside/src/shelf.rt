@@ -42,10 +42,14 @@ pub trait Shelf {
     /// The faults so far. The count never falls.
     ghost faults: { Self → ℕ };
 
+    /// Whether no call fails. The count of faults is then the constant 0.
+    ghost never_fails: { Self → Bool };
+
     /// Whether a file has this name.
     fn has(&mut self, name: &FileName) -> Result<bool, DeviceFault>
         ensures tells { IfSome (told self.old) (λ t. IfOk result (λ found. found ≡ is_some (file_at (files_now t) name.now))) }
         ensures same { told self.new ≡ told self.old }
+        ensures never { never_fails self.new ≡ never_fails self.old }
         ensures cause { HasCause (faults self.old) (faults self.new) (device_failed result) };
 
     /// The bytes of a file of at most `limit` bytes; nothing where no file has the name.
@@ -53,6 +57,7 @@ pub trait Shelf {
         ensures reads { IfSome (told self.old) (λ t. Reads (file_at (files_now t) name.now) limit result) }
         ensures within { IfOk result (λ found. IfSome found (λ bytes. length bytes ≤ limit)) }
         ensures same { told self.new ≡ told self.old }
+        ensures never { never_fails self.new ≡ never_fails self.old }
         ensures cause { HasCause (faults self.old) (faults self.new) (read_failed result) };
 
     /// The valid versions of an artifact whose POMs are there, each once.
@@ -61,6 +66,7 @@ pub trait Shelf {
         requires artifact { is_name artifact.now ≡ true }
         ensures lists { IfSome (told self.old) (λ t. ListsVersions (files_now t) group.now artifact.now result) }
         ensures same { told self.new ≡ told self.old }
+        ensures never { never_fails self.new ≡ never_fails self.old }
         ensures cause { HasCause (faults self.old) (faults self.new) (list_failed result) };
 
     /// Gives a name the bytes of a sealed piece, and takes the piece. After an `Err` names and pieces are as they were.
@@ -77,11 +83,17 @@ pub trait Shelf {
         ensures err { OnErr result ((told self.new ≡ told self.old) × (Self.Area.pieces area.new ≡ Self.Area.pieces area.old)
             × (Self.Area.contents area.new ≡ Self.Area.contents area.old)) }
         ensures area { Self.Area.faults area.new ≡ Self.Area.faults area.old }
+        ensures area_never { Self.Area.never_fails area.new ≡ Self.Area.never_fails area.old }
+        ensures never { never_fails self.new ≡ never_fails self.old }
         ensures cause { HasCause (faults self.old) (faults self.new) (device_failed result) };
 
     /// Makes what was published stay through a stop. The settled number never falls.
     fn settle(&mut self) -> Result<(), DeviceFault>
         ensures ok { OnOk result (told self.new ≡ settled_all (told self.old)) }
         ensures err { OnErr result (MaySettle (told self.old) (told self.new)) }
+        ensures never { never_fails self.new ≡ never_fails self.old }
         ensures cause { HasCause (faults self.old) (faults self.new) (device_failed result) };
+
+    /// Where no call fails, there is no fault.
+    ghost no_faults: { (shelf : Self) → never_fails shelf ≡ true → faults shelf ≡ 0 };
 }

@@ -233,11 +233,15 @@ struct Drip {
 }
 
 impl Sink for Drip {
-    ghost use Rattle.std.specs.Prelude.{Some};
+    ghost use Rattle.std.specs.Prelude.{Some, false};
 
     ghost written = { λ sink. Some sink.bytes.items };
 
     ghost faults = { λ sink. sink.faults };
+
+    ghost never_fails = { λ _. false };
+
+    ghost no_faults = { λ _ e. cc };
 
     fn write(&mut self, bytes: &[u8]) -> Result<usize, DeviceFault> {
         if self.bytes.len() == self.failing {

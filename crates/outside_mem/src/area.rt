@@ -22,7 +22,8 @@ impl MemArea<Calls> {
 
     /// An area without pieces. The calls with the numbers fail, from 0 on.
     pub fn new(alloc: Global, failing: &List<u64>) -> Mem<MemArea<Calls>>
-        ensures { IfOk result (λ area. area_pieces area ≡ []) }
+        ensures value { IfOk result (λ area. area_pieces area ≡ []) }
+        ensures never { failing.now ≡ [] → IfOk result (λ area. ⟦<MemArea<Calls> as Area>⟧.never_fails area ≡ true) }
     {
         let calls = Calls::new(alloc, failing)?;
         Ok(MemArea {
@@ -39,7 +40,8 @@ impl MemArea<NoFailures> {
 
     /// An area without pieces. No call fails.
     pub fn without_failures(alloc: Global) -> MemArea<NoFailures>
-        ensures { area_pieces result ≡ [] }
+        ensures value { area_pieces result ≡ [] }
+        ensures never { ⟦<MemArea<NoFailures> as Area>⟧.never_fails result ≡ true }
     {
         MemArea {
             alloc,
@@ -90,6 +92,10 @@ impl<F: Failures> Area for MemArea<F> {
     ghost contents = { λ area. Some (bytes_of area.pieces.entries) };
 
     ghost faults = { λ area. F.count area.calls };
+
+    ghost never_fails = { λ area. F.never_fails area.calls };
+
+    ghost no_faults = { λ area. F.no_faults area.calls };
 
     // A number is given once; the last of them never.
     fn begin(&mut self) -> Result<u64, AreaFault> {

@@ -1,4 +1,4 @@
-ghost use Rattle.std.specs.Prelude.{◌≡◌, IfOk};
+ghost use Rattle.std.specs.Prelude.{◌≡◌, IfOk, [], true};
 
 use crate::calls::{Calls, Failures, NoFailures};
 use mvn_outside::{Gate, GateFault, GoalAnswer, GoalRequest};
@@ -19,7 +19,8 @@ impl MemGate<Calls> {
 
     /// These answers, in order. The calls with the numbers fail, from 0 on.
     pub fn new(alloc: Global, answers: List<GoalAnswer>, failing: &List<u64>) -> Mem<MemGate<Calls>>
-        ensures { IfOk result (λ gate. gate_answers gate ≡ answers) }
+        ensures value { IfOk result (λ gate. gate_answers gate ≡ answers) }
+        ensures never { failing.now ≡ [] → IfOk result (λ gate. ⟦<MemGate<Calls> as Gate>⟧.never_fails gate ≡ true) }
     {
         let calls = Calls::new(alloc, failing)?;
         Ok(MemGate {
@@ -34,7 +35,8 @@ impl MemGate<NoFailures> {
 
     /// These answers, in order. No call fails.
     pub fn without_failures(answers: List<GoalAnswer>) -> MemGate<NoFailures>
-        ensures { gate_answers result ≡ answers }
+        ensures value { gate_answers result ≡ answers }
+        ensures never { ⟦<MemGate<NoFailures> as Gate>⟧.never_fails result ≡ true }
     {
         MemGate {
             answers: answers.into_vec().into_iter(),
@@ -49,6 +51,10 @@ impl<F: Failures> Gate for MemGate<F> {
     ghost answers = { λ _. None };
 
     ghost faults = { λ gate. F.count gate.calls };
+
+    ghost never_fails = { λ gate. F.never_fails gate.calls };
+
+    ghost no_faults = { λ gate. F.no_faults gate.calls };
 
     ghost one_answer = { λ _. tt };
 

@@ -1,4 +1,4 @@
-ghost use Rattle.std.specs.Prelude.{◌≡◌, IfOk};
+ghost use Rattle.std.specs.Prelude.{◌≡◌, IfOk, [], true};
 ghost use Rattle.outside_mem.specs.FilesNamed.{files_named};
 
 use crate::calls::{Calls, Failures, NoFailures};
@@ -40,7 +40,8 @@ impl MemRemote<Calls> {
 
     /// The repository of these files, of which a later one of a name counts. The calls with the numbers fail, from 0 on.
     pub fn new(alloc: Global, files: List<MemFile>, failing: &List<u64>) -> Mem<MemRemote<Calls>>
-        ensures { IfOk result (λ remote. remote_files remote ≡ files_named files) }
+        ensures value { IfOk result (λ remote. remote_files remote ≡ files_named files) }
+        ensures never { failing.now ≡ [] → IfOk result (λ remote. ⟦<MemRemote<Calls> as Remote>⟧.never_fails remote ≡ true) }
     {
         let calls = Calls::new(alloc, failing)?;
         let files = file_map(alloc, files)?;
@@ -57,7 +58,8 @@ impl MemRemote<NoFailures> {
 
     /// The repository of these files, of which a later one of a name counts. No call fails.
     pub fn without_failures(alloc: Global, files: List<MemFile>) -> Mem<MemRemote<NoFailures>>
-        ensures { IfOk result (λ remote. remote_files remote ≡ files_named files) }
+        ensures value { IfOk result (λ remote. remote_files remote ≡ files_named files) }
+        ensures never { IfOk result (λ remote. ⟦<MemRemote<NoFailures> as Remote>⟧.never_fails remote ≡ true) }
     {
         let files = file_map(alloc, files)?;
         Ok(MemRemote {
@@ -74,6 +76,10 @@ impl<F: Failures> Remote for MemRemote<F> {
     ghost files = { λ remote. Some remote.files };
 
     ghost faults = { λ remote. F.count remote.calls };
+
+    ghost never_fails = { λ remote. F.never_fails remote.calls };
+
+    ghost no_faults = { λ remote. F.no_faults remote.calls };
 
     fn fetch(&mut self, name: &FileName, limit: u64) -> Result<Option<Bytes>, ReadFault> {
         if self.calls.next_fails() {

@@ -1,4 +1,4 @@
-ghost use Rattle.std.specs.Prelude.{◌≡◌, ◌≤◌, [], fold, length, IfOk, OnOk, OnErr};
+ghost use Rattle.std.specs.Prelude.{◌≡◌, ◌≤◌, [], fold, length, IfOk, OnOk, OnErr, true};
 ghost use Rattle.std.specs.FinMap as map;
 ghost use Rattle.std.specs.Coded.{Coded-set};
 ghost use Rattle.mvn_shared.specs.Files.{files_code};
@@ -36,6 +36,7 @@ impl MemShelf<Calls> {
         ensures opening { IfOk result (λ shelf. (shelf_told shelf).opening ≡ files_named files) }
         ensures publishes { IfOk result (λ shelf. (shelf_told shelf).publishes ≡ []) }
         ensures settled { IfOk result (λ shelf. (shelf_told shelf).settled ≡ 0) }
+        ensures never { failing.now ≡ [] → IfOk result (λ shelf. ⟦<MemShelf<Calls> as Shelf>⟧.never_fails shelf ≡ true) }
     {
         let calls = Calls::new(alloc, failing)?;
         let opening = file_map(alloc, files.clone()?)?;
@@ -59,6 +60,7 @@ impl MemShelf<NoFailures> {
         ensures opening { IfOk result (λ shelf. (shelf_told shelf).opening ≡ files_named files) }
         ensures publishes { IfOk result (λ shelf. (shelf_told shelf).publishes ≡ []) }
         ensures settled { IfOk result (λ shelf. (shelf_told shelf).settled ≡ 0) }
+        ensures never { IfOk result (λ shelf. ⟦<MemShelf<NoFailures> as Shelf>⟧.never_fails shelf ≡ true) }
     {
         let opening = file_map(alloc, files.clone()?)?;
         let files = file_map(alloc, files)?;
@@ -114,6 +116,10 @@ impl<F: Failures> Shelf for MemShelf<F> {
     ghost told = { λ shelf. Some (shelf_told shelf) };
 
     ghost faults = { λ shelf. F.count shelf.calls };
+
+    ghost never_fails = { λ shelf. F.never_fails shelf.calls };
+
+    ghost no_faults = { λ shelf. F.no_faults shelf.calls };
 
     fn has(&mut self, name: &FileName) -> Result<bool, DeviceFault> {
         if self.calls.next_fails() {

@@ -1,4 +1,4 @@
-ghost use Rattle.std.specs.Prelude.{◌≡◌, [], IfOk};
+ghost use Rattle.std.specs.Prelude.{◌≡◌, [], IfOk, true};
 
 use crate::calls::{Calls, Failures, NoFailures};
 use mvn_outside::{DeviceFault, Sink};
@@ -17,7 +17,8 @@ impl MemSink<Calls> {
 
     /// An empty sink. The writes with these numbers fail, from 0 on.
     pub fn new(alloc: Global, failing: &List<u64>) -> Mem<MemSink<Calls>>
-        ensures { IfOk result (λ sink. sink_bytes sink ≡ []) }
+        ensures value { IfOk result (λ sink. sink_bytes sink ≡ []) }
+        ensures never { failing.now ≡ [] → IfOk result (λ sink. ⟦<MemSink<Calls> as Sink>⟧.never_fails sink ≡ true) }
     {
         let calls = Calls::new(alloc, failing)?;
         Ok(MemSink {
@@ -32,7 +33,8 @@ impl MemSink<NoFailures> {
 
     /// An empty sink of which no write fails.
     pub fn without_failures(alloc: Global) -> MemSink<NoFailures>
-        ensures { sink_bytes result ≡ [] }
+        ensures value { sink_bytes result ≡ [] }
+        ensures never { ⟦<MemSink<NoFailures> as Sink>⟧.never_fails result ≡ true }
     {
         MemSink {
             bytes: Vec::new(alloc),
@@ -58,6 +60,10 @@ impl<F: Failures> Sink for MemSink<F> {
     ghost written = { λ sink. Some sink.bytes.items };
 
     ghost faults = { λ sink. F.count sink.calls };
+
+    ghost never_fails = { λ sink. F.never_fails sink.calls };
+
+    ghost no_faults = { λ sink. F.no_faults sink.calls };
 
     fn write(&mut self, bytes: &[u8]) -> Result<usize, DeviceFault> {
         if self.calls.next_fails() {

@@ -1,4 +1,4 @@
-ghost use Rattle.std.specs.Prelude.{◌≡◌, IfOk};
+ghost use Rattle.std.specs.Prelude.{◌≡◌, IfOk, [], true};
 ghost use Rattle.outside_mem.specs.Tree.{files_of};
 
 use crate::calls::{Calls, Failures, NoFailures};
@@ -35,7 +35,8 @@ impl MemTree<Calls> {
 
     /// The tree of these files, of which a later one of a path counts. The calls with the numbers fail, from 0 on.
     pub fn new(alloc: Global, files: List<SourceFile>, failing: &List<u64>) -> Mem<MemTree<Calls>>
-        ensures { IfOk result (λ tree. tree_files tree ≡ files_of files) }
+        ensures value { IfOk result (λ tree. tree_files tree ≡ files_of files) }
+        ensures never { failing.now ≡ [] → IfOk result (λ tree. ⟦<MemTree<Calls> as Files>⟧.never_fails tree ≡ true) }
     {
         let calls = Calls::new(alloc, failing)?;
         let files = tree_map(alloc, files)?;
@@ -52,7 +53,8 @@ impl MemTree<NoFailures> {
 
     /// The tree of these files, of which a later one of a path counts. No call fails.
     pub fn without_failures(alloc: Global, files: List<SourceFile>) -> Mem<MemTree<NoFailures>>
-        ensures { IfOk result (λ tree. tree_files tree ≡ files_of files) }
+        ensures value { IfOk result (λ tree. tree_files tree ≡ files_of files) }
+        ensures never { IfOk result (λ tree. ⟦<MemTree<NoFailures> as Files>⟧.never_fails tree ≡ true) }
     {
         let files = tree_map(alloc, files)?;
         Ok(MemTree {
@@ -71,6 +73,10 @@ impl<F: Failures> Files for MemTree<F> {
     ghost there = { λ tree. Some (is_there tree.files) };
 
     ghost faults = { λ tree. F.count tree.calls };
+
+    ghost never_fails = { λ tree. F.never_fails tree.calls };
+
+    ghost no_faults = { λ tree. F.no_faults tree.calls };
 
     ghost tells_same = { λ before now. now.files ≡ before.files };
 

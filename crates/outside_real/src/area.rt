@@ -142,7 +142,7 @@ impl<'a, R: rt::Files + AllocGlobal + Clone + Drop> RealArea<'a, R> {
 }
 
 impl<'a, R: rt::Files + AllocGlobal + Clone + Drop> Area for RealArea<'a, R> {
-    ghost use Rattle.std.specs.Prelude.{None};
+    ghost use Rattle.std.specs.Prelude.{None, false};
     ghost use Rattle.std.specs.FinMap.{from_entries};
 
     ghost pieces = { λ area. from_entries area.pieces.entries };
@@ -150,6 +150,10 @@ impl<'a, R: rt::Files + AllocGlobal + Clone + Drop> Area for RealArea<'a, R> {
     ghost contents = { λ _. None };
 
     ghost faults = { λ area. area.faults };
+
+    ghost never_fails = { λ _. false };
+
+    ghost no_faults = { λ _ e. cc };
 
     // A number is given once; the last of them never.
     fn begin(&mut self) -> Result<u64, AreaFault> {

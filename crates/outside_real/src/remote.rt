@@ -43,11 +43,15 @@ impl<'a, R: rt::Files + AllocGlobal + Clone + Drop> RealRemote<'a, R> {
 }
 
 impl<'a, R: rt::Files + AllocGlobal + Clone + Drop> Remote for RealRemote<'a, R> {
-    ghost use Rattle.std.specs.Prelude.{None};
+    ghost use Rattle.std.specs.Prelude.{None, false};
 
     ghost files = { λ _. None };
 
     ghost faults = { λ remote. remote.faults };
+
+    ghost never_fails = { λ _. false };
+
+    ghost no_faults = { λ _ e. cc };
 
     fn fetch(&mut self, name: &FileName, limit: u64) -> Result<Option<Bytes>, ReadFault> {
         match self.bytes_at(name, limit) {

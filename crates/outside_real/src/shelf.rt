@@ -83,13 +83,17 @@ impl<'a, R: rt::Files + AllocGlobal + Clone + Drop> RealShelf<'a, R> {
 }
 
 impl<'a, R: rt::Files + AllocGlobal + Clone + Drop> Shelf for RealShelf<'a, R> {
-    ghost use Rattle.std.specs.Prelude.{None};
+    ghost use Rattle.std.specs.Prelude.{None, false};
 
     type Area = RealArea<'a, R>;
 
     ghost told = { λ _. None };
 
     ghost faults = { λ shelf. shelf.faults };
+
+    ghost never_fails = { λ _. false };
+
+    ghost no_faults = { λ _ e. cc };
 
     fn has(&mut self, name: &FileName) -> Result<bool, DeviceFault> {
         match self.is_file(name) {

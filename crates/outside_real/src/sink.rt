@@ -22,11 +22,15 @@ impl<W: Write + Drop> RealSink<W> {
 }
 
 impl<W: Write + Drop> Sink for RealSink<W> {
-    ghost use Rattle.std.specs.Prelude.{None};
+    ghost use Rattle.std.specs.Prelude.{None, false};
 
     ghost written = { λ _. None };
 
     ghost faults = { λ sink. sink.faults };
+
+    ghost never_fails = { λ _. false };
+
+    ghost no_faults = { λ _ e. cc };
 
     // A stream that takes no byte has failed: its callers would wait for it.
     fn write(&mut self, bytes: &[u8]) -> Result<usize, DeviceFault> {

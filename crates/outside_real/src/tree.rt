@@ -60,11 +60,15 @@ impl<'a, R: rt::Files + AllocGlobal + Clone + Drop> RealTree<'a, R> {
 }
 
 impl<'a, R: rt::Files + AllocGlobal + Clone + Drop> Files for RealTree<'a, R> {
-    ghost use Rattle.std.specs.Prelude.{None, refl};
+    ghost use Rattle.std.specs.Prelude.{None, refl, false};
 
     ghost there = { λ _. None };
 
     ghost faults = { λ tree. tree.faults };
+
+    ghost never_fails = { λ _. false };
+
+    ghost no_faults = { λ _ e. cc };
 
     ghost tells_same = { λ _ _. Unit {0} };
 

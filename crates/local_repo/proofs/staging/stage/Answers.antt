@@ -34,6 +34,7 @@ loop-done-preserved g c =
           c.in_ok-done.ensures.takes ∙ ap (λ part. extended (g.A.Area.contents c.loop-done.area) piece (take count part)) (take_all_of_drop done bytes)
           ∙ ap (λ t. extended t piece (take count (drop done bytes))) c.loop-done.invariant.so_far
           ∙ one_part_more was piece done count bytes;
+      never = c.append.ensures.never ∙ c.loop-done.invariant.never;
       quiet = c.in_ok-done.ensures.cause ∙ c.loop-done.invariant.quiet;
     }
 

@@ -10,6 +10,7 @@ invariant-loop-done g l = record {
   fresh : map.get (g.A.Area.pieces l.fn.area) l.piece ≡ None;
   begun : g.A.Area.pieces l.area ≡ map.insert (g.A.Area.pieces l.fn.area) l.piece false;
   so_far : g.A.Area.contents l.area ≡ staged (g.A.Area.contents l.fn.area) l.piece (take l.done l.bytes);
+  never : g.A.Area.never_fails l.area ≡ g.A.Area.never_fails l.fn.area;
   quiet : g.A.Area.faults l.area ≡ g.A.Area.faults l.fn.area;
 }
 

@@ -20,5 +20,6 @@ loop-done-preserved g c =
       so_far =
           c.in_ok-done.ensures.takes ∙ ap (λ part. gains (g.O.Sink.written c.loop-done.out) (take count part)) rest ∙ ap (λ t. gains t (take count (drop done text))) c.loop-done.invariant.so_far
           ∙ gains-gains told (take done text) (take count (drop done text)) ∙ ap (gains told) (sym (take-add done count text));
+      never = c.write.ensures.never ∙ c.loop-done.invariant.never;
       quiet = c.in_ok-done.ensures.cause ∙ c.loop-done.invariant.quiet;
     }

@@ -1,0 +1,112 @@
+-- What one answered goal more means for the answers and for how the goals end.
+use Rattle.std.proofs.Common.{◌≡◌, ℕ, ◌+◌, ◌<◌, Bool, true, List, [], ◌∷◌, ◌++◌, length, take, drop, get_or, length-take, slice_get, Option, Some, None, IfSome, ◌⊎◌, inl, inr, unwrap_or, refl, sym, ap, subst, ◌∙◌, arith}
+use Rattle.std.proofs.lemmas.List.{take_more, drop_more, take-append-drop}
+use Rattle.std.proofs.lemmas.Option.{slice_get_read}
+use Rattle.mvn_base.specs.declared.gav.Gav.{Gav}
+use Rattle.mvn_outside.specs.declared.goal.OwnBytes.{OwnBytes}
+use Rattle.mvn_outside.specs.declared.goal.SourceFile.{SourceFile}
+use Rattle.mvn_outside.specs.declared.goal.PathEntry.{PathEntry}
+use Rattle.mvn_outside.specs.declared.goal.GoalCall.{GoalCall}
+use Rattle.mvn_outside.specs.declared.goal.GoalRequest.{GoalRequest}
+use Rattle.mvn_outside.specs.declared.goal.GoalAnswer.{GoalAnswer}
+use Rattle.build_core.specs.declared.plan.PlanModule.{PlanModule}
+use Rattle.build_core.specs.declared.ending.Ending.{Ending}
+use Rattle.build_core.specs.Slots.{GoalsEnd, all_answered, one_goal, run_goals, slots_before, kept_of}
+use Rattle.one_hand.specs.Running.{is_no_pom, HasNoPom, nth_answer, goals_end, bare_request, AreAnswers, OneAnswer, NoAnswer, IsAskedSo, IsBegun}
+use Rattle.one_hand.proofs.Kept.{all_at}
+use Rattle.one_hand.proofs.Steps.{more_runs, one_stops, more_answers}
+
+-- where the goals stand after the first i: their answers, and the request that holds what is kept
+pub record Stands (m : PlanModule) (i : ℕ) (answers : List GoalAnswer) (request : GoalRequest) : Type 0 where
+  pub counted : length answers ≡ i
+  pub runs : run_goals m.budget (nth_answer answers) 0 (take i m.goals) [] ≡ all_answered request.own
+  pub same_module : request.«module» ≡ m.gav
+  pub same_sources : request.sources ≡ m.sources
+  pub no_classpath : request.classpath ≡ []
+
+-- the goal that is next
+pub record IsNext (m : PlanModule) (i : ℕ) (call : GoalCall) : Type 0 where
+  pub within : i < length m.goals
+  pub here : call ≡ get_or m.goals i call
+
+-- it is, in a list that is the module's goals
+pub next_of : (m : PlanModule) (goals : List GoalCall) (i : ℕ) (call : GoalCall) → goals ≡ m.goals → i < length goals → call ≡ get_or goals i call → IsNext m i call
+next_of m goals i call same within here = record { within = subst (λ gs. i < length gs) same within; here = here ∙ ap (λ gs. get_or gs i call) same }
+
+-- its output doesn't go into the POM's slot
+pub no_pom_at : (m : PlanModule) (i : ℕ) (call : GoalCall) → IsNext m i call → HasNoPom m.goals → is_no_pom call ≡ true
+no_pom_at m i call n h = ap is_no_pom n.here ∙ all_at is_no_pom m.goals i call n.within h
+
+at_goal : (m : PlanModule) (i : ℕ) (call : GoalCall) → IsNext m i call → slice_get m.goals i ≡ Some call
+at_goal m i call n = slice_get_read m.goals (length m.goals) i call refl n.within n.here
+
+one_goal_more : (m : PlanModule) (i : ℕ) (call : GoalCall) → IsNext m i call → take (i + 1) m.goals ≡ take i m.goals ++ call ∷ []
+one_goal_more m i call n = take_more m.goals i call n.within ∙ ap (λ x. take i m.goals ++ x ∷ []) (sym n.here)
+
+all_goals : (m : PlanModule) (i : ℕ) (call : GoalCall) → IsNext m i call → (take i m.goals ++ call ∷ []) ++ drop (i + 1) m.goals ≡ m.goals
+all_goals m i call n = ap (λ t. t ++ drop (i + 1) m.goals) (sym (one_goal_more m i call n)) ∙ take-append-drop (i + 1) m.goals
+
+same_request : (m : PlanModule) (i : ℕ) (answers : List GoalAnswer) (request : GoalRequest) (call : GoalCall) → Stands m i answers request → record request { call = call } ≡ bare_request m call request.own
+same_request m i answers request call s =
+    ap (λ (x : Gav). record { «module» = x; call = call; sources = request.sources; own = request.own; classpath = request.classpath }) s.same_module
+    ∙ ap (λ (x : List SourceFile). record { «module» = m.gav; call = call; sources = x; own = request.own; classpath = request.classpath }) s.same_sources
+    ∙ ap (λ (x : List PathEntry). record { «module» = m.gav; call = call; sources = m.sources; own = request.own; classpath = x }) s.no_classpath
+
+if_some_map : {A : Type 0} (P Q : A → Type 0) (o : Option A) → ((a : A) → P a → Q a) → IfSome o P → IfSome o Q
+if_some_map P Q None h p = tt
+if_some_map P Q (Some a) h p = h a p
+
+if_some_both : {A : Type 0} (P R Q : A → Type 0) (o : Option A) → ((a : A) → P a → R a → Q a) → IfSome o P → IfSome o R → IfSome o Q
+if_some_both P R Q None h p r = tt
+if_some_both P R Q (Some a) h p r = h a p r
+
+-- the answers are still those to the requests that the definition names
+pub answers_go_on : (told : Option (GoalRequest → GoalAnswer → Bool)) (m : PlanModule) (i : ℕ) (call : GoalCall) (request : GoalRequest) (before now : List GoalAnswer) (own : List OwnBytes) (stop : Option Ending)
+    → Stands m i before request → IsNext m i call → IfSome told (λ test. AreAnswers test m before)
+    → NoAnswer before now own stop ⊎ OneAnswer told m.budget i call request before now own stop → IfSome told (λ test. AreAnswers test m now)
+answers_go_on told m i call request before now own stop s n h (inl none) = subst (λ kept. IfSome told (λ test. AreAnswers test m kept)) (sym none.0) h
+answers_go_on told m i call request before now own stop s n h (inr (a, grown, asked, end)) =
+    subst (λ kept. IfSome told (λ test. AreAnswers test m kept)) (sym grown)
+    (if_some_both (λ test. AreAnswers test m before) (λ test. test (record request { call = call }) a ≡ true) (λ test. AreAnswers test m (before ++ a ∷ [])) told
+    (λ test all one. more_answers test m before a request.own all
+    (ap (λ j. slots_before m.budget (nth_answer before) j m.goals) s.counted ∙ ap kept_of s.runs)
+    (λ other at. ap (λ (x : GoalCall). test (bare_request m x request.own) a) (ap (λ o. unwrap_or o call) (sym at ∙ ap (slice_get m.goals) s.counted ∙ at_goal m i call n))
+    ∙ ap (λ (r : GoalRequest). test r a) (sym (same_request m i before request call s)) ∙ one))
+    h asked)
+
+-- a stop at this goal is that of all
+pub stop_ends : (told : Option (GoalRequest → GoalAnswer → Bool)) (m : PlanModule) (i : ℕ) (call : GoalCall) (request : GoalRequest) (before now : List GoalAnswer) (own : List OwnBytes) (stop : Ending)
+    → Stands m i before request → IsNext m i call
+    → NoAnswer before now own (Some stop) ⊎ OneAnswer told m.budget i call request before now own (Some stop)
+    → IfSome (goals_end (Some stop) own) (λ end. run_goals m.budget (nth_answer now) 0 m.goals [] ≡ end)
+stop_ends told m i call request before now own stop s n (inl none) = subst (λ o. IfSome o (λ end. run_goals m.budget (nth_answer now) 0 m.goals [] ≡ end)) (sym none.1) tt
+stop_ends told m i call request before now own stop s n (inr (a, grown, asked, end)) =
+    let at : length (take i m.goals) ≡ length before = omega (arith, length-take i m.goals, n.within, s.counted) in
+    subst (λ kept. IfSome (goals_end (Some stop) own) (λ e. run_goals m.budget (nth_answer kept) 0 m.goals [] ≡ e)) (sym grown)
+    (subst (λ gs. IfSome (goals_end (Some stop) own) (λ e. run_goals m.budget (nth_answer (before ++ a ∷ [])) 0 gs [] ≡ e)) (all_goals m i call n)
+    (one_stops m.budget before a (take i m.goals) call (drop (i + 1) m.goals) request.own own stop at s.runs
+    (subst (λ j. IfSome (goals_end (Some stop) own) (λ e. one_goal m.budget j call.slot a request.own all_answered ≡ e)) (sym s.counted) end)))
+
+-- and without a stop the goals stand one further
+pub goes_further : (told : Option (GoalRequest → GoalAnswer → Bool)) (m : PlanModule) (i : ℕ) (call : GoalCall) (request next : GoalRequest) (before now : List GoalAnswer)
+    → Stands m i before request → IsNext m i call → IsAskedSo request next
+    → NoAnswer before now next.own None ⊎ OneAnswer told m.budget i call request before now next.own None → Stands m (i + 1) now next
+goes_further told m i call request next before now s n asked (inl none) = absurd_some none.1
+  where
+    absurd_some : Some (all_answered next.own) ≡ None → Stands m (i + 1) now next
+    absurd_some e = cc
+goes_further told m i call request next before now s n asked (inr (a, grown, test, end)) =
+    let at : length (take i m.goals) ≡ length before = omega (arith, length-take i m.goals, n.within, s.counted) in
+    record {
+      counted = ap length grown ∙ length-snoc before a ∙ ap (λ k. k + 1) s.counted;
+      runs =
+          ap (λ kept. run_goals m.budget (nth_answer kept) 0 (take (i + 1) m.goals) []) grown ∙ ap (λ gs. run_goals m.budget (nth_answer (before ++ a ∷ [])) 0 gs []) (one_goal_more m i call n)
+          ∙ more_runs m.budget before a (take i m.goals) call request.own (all_answered next.own) at s.runs (ap (λ j. one_goal m.budget j call.slot a request.own all_answered) s.counted ∙ end);
+      same_module = asked.0 ∙ s.same_module;
+      same_sources = asked.1 ∙ s.same_sources;
+      no_classpath = asked.2 ∙ s.no_classpath;
+    }
+  where
+    length-snoc : (xs : List GoalAnswer) (x : GoalAnswer) → length (xs ++ x ∷ []) ≡ length xs + 1
+    length-snoc [] x = refl
+    length-snoc (y ∷ xs) x = omega (arith, length-snoc xs x)

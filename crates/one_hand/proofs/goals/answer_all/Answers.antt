@@ -1,0 +1,63 @@
+use Rattle.std.proofs.Common.{◌≡◌, ℕ, ◌+◌, Bool, List, None, Some, Option, IfSome, ◌⊎◌, refl, ap, sym, subst, ◌∙◌, arith}
+use Rattle.mvn_outside.specs.declared.goal.OwnBytes.{OwnBytes}
+use Rattle.mvn_outside.specs.declared.goal.GoalRequest.{GoalRequest}
+use Rattle.mvn_outside.specs.declared.goal.GoalAnswer.{GoalAnswer}
+use Rattle.build_core.specs.declared.ending.Ending.{Ending}
+use Rattle.one_hand.specs.Running.{NoAnswer, OneAnswer}
+use Rattle.one_hand.proofs.Going.{Stands, IsNext, next_of, no_pom_at, answers_go_on, stop_ends, goes_further}
+use Rattle.one_hand.proofs.goals.answer_all.Goals as goal
+
+pub returns-in-Some-clause-end : goal.returns-in-Some-clause-end
+returns-in-Some-clause-end g c =
+    let inv = c.loop-call.invariant in
+    let m = c.args.module.now in
+    let before = c.loop-call.answers in
+    let request = c.loop-call.request in
+    let call = c.call-item.result in
+    let now = c.answer_goal.new.answers in
+    let own = c.answer_goal.new.request.own in
+    let stands : Stands m c.loop-call.call-index before request = record { counted = inv.counted; runs = inv.runs; same_module = inv.asked.0 ∙ c.requires.begun.0; same_sources = inv.asked.1 ∙ c.requires.begun.1; no_classpath = inv.asked.2 ∙ c.requires.begun.2 } in
+    let next : IsNext m c.loop-call.call-index call = next_of m c.as_slice-call-items.result.now c.loop-call.call-index call c.as_slice-call-items.ensures c.loop-call-test.true c.call-item.is in
+    stop_ends (g.G.Gate.answers c.loop-call.gate) m c.loop-call.call-index call request before now own c.in-Some.ending stands next
+    (subst (λ (j : ℕ). NoAnswer before now own (Some c.in-Some.ending) ⊎ OneAnswer (g.G.Gate.answers c.loop-call.gate) m.budget j call request before now own (Some c.in-Some.ending)) inv.numbered c.in-Some.ensures.kept)
+
+pub returns-in-Some-clause-answers : goal.returns-in-Some-clause-answers
+returns-in-Some-clause-answers g c =
+    let inv = c.loop-call.invariant in
+    let m = c.args.module.now in
+    let before = c.loop-call.answers in
+    let request = c.loop-call.request in
+    let call = c.call-item.result in
+    let now = c.answer_goal.new.answers in
+    let own = c.answer_goal.new.request.own in
+    let stands : Stands m c.loop-call.call-index before request = record { counted = inv.counted; runs = inv.runs; same_module = inv.asked.0 ∙ c.requires.begun.0; same_sources = inv.asked.1 ∙ c.requires.begun.1; no_classpath = inv.asked.2 ∙ c.requires.begun.2 } in
+    let next : IsNext m c.loop-call.call-index call = next_of m c.as_slice-call-items.result.now c.loop-call.call-index call c.as_slice-call-items.ensures c.loop-call-test.true c.call-item.is in
+    answers_go_on (g.G.Gate.answers c.args.gate.now) m c.loop-call.call-index call request before now own (Some c.in-Some.ending) stands next inv.answered
+    (subst (λ (t : Option (GoalRequest → GoalAnswer → Bool)). NoAnswer before now own (Some c.in-Some.ending) ⊎ OneAnswer t m.budget c.loop-call.call-index call request before now own (Some c.in-Some.ending)) inv.told
+    (subst (λ (j : ℕ). NoAnswer before now own (Some c.in-Some.ending) ⊎ OneAnswer (g.G.Gate.answers c.loop-call.gate) m.budget j call request before now own (Some c.in-Some.ending)) inv.numbered c.in-Some.ensures.kept))
+
+pub loop-call-preserved : goal.loop-call-preserved
+loop-call-preserved g c =
+    let inv = c.loop-call.invariant in
+    let m = c.args.module.now in
+    let before = c.loop-call.answers in
+    let request = c.loop-call.request in
+    let call = c.call-item.result in
+    let now = c.answer_goal.new.answers in
+    let after = c.answer_goal.new.request in
+    let stands : Stands m c.loop-call.call-index before request = record { counted = inv.counted; runs = inv.runs; same_module = inv.asked.0 ∙ c.requires.begun.0; same_sources = inv.asked.1 ∙ c.requires.begun.1; no_classpath = inv.asked.2 ∙ c.requires.begun.2 } in
+    let next : IsNext m c.loop-call.call-index call = next_of m c.as_slice-call-items.result.now c.loop-call.call-index call c.as_slice-call-items.ensures c.loop-call-test.true c.call-item.is in
+    let kept = subst (λ (t : Option (GoalRequest → GoalAnswer → Bool)). NoAnswer before now after.own None ⊎ OneAnswer t m.budget c.loop-call.call-index call request before now after.own None) inv.told
+    (subst (λ (j : ℕ). NoAnswer before now after.own None ⊎ OneAnswer (g.G.Gate.answers c.loop-call.gate) m.budget j call request before now after.own None) inv.numbered c.in-None.ensures.kept) in
+    let further = goes_further (g.G.Gate.answers c.args.gate.now) m c.loop-call.call-index call request after before now stands next c.in-None.ensures.asked kept in
+    record {
+      numbered = ap (λ n. n + 1) inv.numbered;
+      counted = further.counted;
+      asked = (c.in-None.ensures.asked.0 ∙ inv.asked.0, c.in-None.ensures.asked.1 ∙ inv.asked.1, c.in-None.ensures.asked.2 ∙ inv.asked.2);
+      slots = c.in-None.ensures.slots (no_pom_at m c.loop-call.call-index call next c.requires.no_pom) refl;
+      runs = further.runs;
+      answered = answers_go_on (g.G.Gate.answers c.args.gate.now) m c.loop-call.call-index call request before now after.own None stands next inv.answered kept;
+      told = c.in-None.ensures.told ∙ inv.told;
+      never = c.in-None.ensures.never ∙ inv.never;
+      quiet = c.in-None.ensures.cause ∙ inv.quiet;
+    }

@@ -1,0 +1,6 @@
+pub use Rattle.mvn_outside.specs.Goals
+pub use Rattle.build_core.specs.Slots
+pub use Rattle.build_core.specs.OneThread
+pub mod Running
+pub mod Installing
+pub mod Built

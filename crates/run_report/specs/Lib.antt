@@ -1,0 +1,2 @@
+pub use Rattle.mvn_base.specs.Gav
+pub mod Report

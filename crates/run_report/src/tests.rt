@@ -1,0 +1,127 @@
+// A report of one row for each ending.
+use crate::{FullPart, ReportRow, RowEnd, report};
+use build_core::Device;
+use mvn_base::{FileName, Gav, file_of, valid_group, valid_name, valid_version};
+use mvn_shared::{Bytes, List, Mem, Text};
+use std::alloc::Global;
+use std::test::Fail;
+
+// The coordinate demo:NAME:1.
+fn gav(alloc: Global, name: &str) -> Mem<Gav> {
+    Ok(Gav {
+        group: Text::from_str(alloc, "demo")?,
+        artifact: Text::from_str(alloc, name)?,
+        version: Text::from_str(alloc, "1")?,
+    })
+}
+
+fn row(alloc: Global, name: &str, end: RowEnd) -> Mem<ReportRow> {
+    Ok(ReportRow {
+        gav: gav(alloc, name)?,
+        end,
+        notes: List::new(alloc),
+        full: None,
+    })
+}
+
+// The text of a report of these rows.
+fn text_of(alloc: Global, rows: &[ReportRow]) -> Result<Text, Fail> {
+    Ok(Text::from_slice(alloc, report(alloc, rows)?.as_slice())?)
+}
+
+#[test]
+fn each_ending_has_its_line(rt: HostRuntime) -> Result<(), Fail> {
+    let alloc = rt.alloc();
+    let call = Text::from_str(alloc, "maven-surefire-plugin:test default-test")?;
+    let text = Text::from_str(alloc, "1 \u{e9} failed\n")?;
+    for (end, wanted) in [
+        (
+            RowEnd::Built,
+            "built demo:a:1\ntotal 1 built 1 failed 0 skipped 0\n",
+        ),
+        (
+            RowEnd::Goal { call, text },
+            "failed demo:a:1 goal maven-surefire-plugin:test default-test: 1 ?? failed?\ntotal 1 built 0 failed 1 skipped 0\n",
+        ),
+        (
+            RowEnd::NoArtifact,
+            "failed demo:a:1 no artifact\ntotal 1 built 0 failed 1 skipped 0\n",
+        ),
+        (
+            RowEnd::OutputTooLarge,
+            "failed demo:a:1 output too large\ntotal 1 built 0 failed 1 skipped 0\n",
+        ),
+        (
+            RowEnd::ClasspathTooLarge,
+            "failed demo:a:1 classpath too large\ntotal 1 built 0 failed 1 skipped 0\n",
+        ),
+        (
+            RowEnd::Fault(Device::Gate),
+            "failed demo:a:1 fault gate\ntotal 1 built 0 failed 1 skipped 0\n",
+        ),
+        (
+            RowEnd::Memory,
+            "failed demo:a:1 memory\ntotal 1 built 0 failed 1 skipped 0\n",
+        ),
+        (
+            RowEnd::Skipped(gav(alloc, "b")?),
+            "skipped demo:a:1 after demo:b:1\ntotal 1 built 0 failed 0 skipped 1\n",
+        ),
+    ] {
+        let rows = [row(alloc, "a", end)?];
+        assert_eq!(rt; text_of(alloc, &rows)?.as_str(), wanted);
+    }
+    Ok(())
+}
+
+// The name of a jar of demo:NAME:1.
+fn jar_name(alloc: Global, name: &str) -> Result<FileName, Fail> {
+    let gav = gav(alloc, name)?;
+    let none = Text::from_str(alloc, "")?;
+    let named = valid_group(gav.group.as_bytes())
+        && valid_name(gav.artifact.as_bytes())
+        && valid_version(gav.version.as_bytes());
+    if !named || !none.is_empty() {
+        return Err(Fail::new("no valid name"));
+    }
+    Ok(file_of(alloc, &gav, &none, &Text::from_str(alloc, "jar")?)?)
+}
+
+#[test]
+fn notes_and_full_lines_stand_behind_the_line(rt: HostRuntime) -> Result<(), Fail> {
+    let alloc = rt.alloc();
+    let mut row = row(alloc, "a", RowEnd::Built)?;
+    row.notes
+        .push(Text::from_str(alloc, "note missing demo:m:1")?)?;
+    let mut test = List::new(alloc);
+    test.push(jar_name(alloc, "b")?)?;
+    test.push(jar_name(alloc, "c")?)?;
+    let mut compile = List::new(alloc);
+    compile.push(jar_name(alloc, "b")?)?;
+    row.full = Some(FullPart {
+        model: Bytes::of(Vec::from_slice(alloc, b"{}")?),
+        compile,
+        runtime: List::new(alloc),
+        test,
+    });
+    let wanted =
+        "built demo:a:1\n  note missing demo:m:1\n  model {}\n  compile demo/b/1/b-1.jar\n  test demo/b/1/b-1.jar\n  test demo/c/1/c-1.jar\ntotal 1 built 1 failed 0 skipped 0\n";
+    assert_eq!(rt; text_of(alloc, &[row])?.as_str(), wanted);
+    Ok(())
+}
+
+#[test]
+fn what_a_goal_says_is_cut(rt: HostRuntime) -> Result<(), Fail> {
+    let alloc = rt.alloc();
+    let mut long = String::new(alloc);
+    for _ in 0..201 {
+        long.push('x')?;
+    }
+    let call = Text::from_str(alloc, "p:g e")?;
+    let text = Text::from_str(alloc, long.as_str())?;
+    let rows = [row(alloc, "a", RowEnd::Goal { call, text })?];
+    let report = text_of(alloc, &rows)?;
+    let line = report.as_bytes().iter().filter(|b| **b == b'x').count();
+    assert_eq!(rt; line, 200);
+    Ok(())
+}

@@ -1,24 +1,19 @@
 -- Worked examples of the build by one hand: small plans, and what they end as.
-use Rattle.std.proofs.Common.{◌≡◌, ℕ, zero, suc, Bool, true, false, List, [], ◌∷◌, Option, Some, None, refl, ap, ◌∙◌, codes, is_some, cond, length, nat_le}
+use Rattle.std.proofs.Common.{◌≡◌, ℕ, zero, suc, true, List, [], ◌∷◌, Option, Some, None, refl, ap, ◌∙◌, codes, is_some, cond, length, nat_le}
 use Rattle.std.specs.Option.{option_map, option_and_then}
 use Rattle.std.specs.FinMap as finite
 use Rattle.std.specs.Ordering.{nat_cmp}
 use Rattle.std.specs.Cmp.Lexicographic.{slice_cmp, nat_list_cmp_total}
 use Rattle.mvn_shared.specs.Files.{Files, file_at}
-use Rattle.mvn_base.specs.declared.gav.Gav.{Gav}
 use Rattle.mvn_base.specs.declared.phase.Phase.TheVariants.{Package}
-use Rattle.mvn_outside.specs.declared.goal.Slot.{Slot}
 use Rattle.mvn_outside.specs.declared.goal.Slot.TheVariants as slot
 use Rattle.mvn_outside.specs.declared.goal.Need.TheVariants as need
-use Rattle.mvn_outside.specs.declared.goal.GoalCall.{GoalCall}
 use Rattle.mvn_outside.specs.declared.goal.GoalAnswer.{GoalAnswer}
 use Rattle.mvn_outside.specs.declared.goal.GoalAnswer.TheVariants.{Done, Produced, Failed}
 use Rattle.build_core.specs.declared.plan.Plan.{Plan}
 use Rattle.build_core.specs.declared.plan.PlanModule.{PlanModule}
-use Rattle.build_core.specs.declared.plan.OwnFile.{OwnFile}
-use Rattle.build_core.specs.declared.ending.State.{State}
 use Rattle.build_core.specs.declared.ending.State.TheVariants.{Skipped, Ended}
-use Rattle.build_core.specs.declared.ending.Ending.TheVariants.{Built, Goal, Missing, NoArtifact, OutputTooLarge}
+use Rattle.build_core.specs.declared.ending.Ending.TheVariants.{Built, Goal, NoArtifact, OutputTooLarge}
 use Rattle.build_core.specs.OneThread.{Supply, Fetched, fetched, most_fetched, one_module, one_thread}
 
 -- a module of these upstreams and fetch list, with one goal, whose POM is file 0 and whose jar is file 1

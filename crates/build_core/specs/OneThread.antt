@@ -1,5 +1,5 @@
 -- The build by one hand: what every build ends as. Guide to Working with Multiple Modules for the order; own rules.
-use Rattle.std.specs.Prelude.{ℕ, ◌+◌, Bool, true, false, not, ◌&&◌, ◌==◌, nat_le, nat_lt, List, [], ◌∷◌, ◌++◌, length, map, filter, find, fold, slice_index, Option, Some, None, is_some, option_map, option_and_then, unwrap_or, if◌then◌else◌}
+use Rattle.std.specs.Prelude.{ℕ, ◌+◌, Bool, true, false, not, ◌&&◌, ◌==◌, nat_le, nat_lt, List, [], ◌∷◌, ◌++◌, length, map, filter, find, fold, Option, Some, None, is_some, option_map, option_and_then, unwrap_or, if◌then◌else◌}
 use Rattle.std.specs.Option.{option_or}
 use Rattle.std.specs.List.{slice_index_or}
 use Rattle.std.specs.FinMap as finite
@@ -22,8 +22,7 @@ use Rattle.build_core.specs.declared.plan.Origin.{Origin}
 use Rattle.build_core.specs.declared.plan.Origin.TheVariants as origin
 use Rattle.build_core.specs.declared.event.Answered.{Answered}
 use Rattle.build_core.specs.declared.ending.State.{State}
-use Rattle.build_core.specs.declared.ending.State.TheVariants.{Waiting, Running, Skipped, Ended}
-use Rattle.build_core.specs.declared.ending.Ending.{Ending}
+use Rattle.build_core.specs.declared.ending.State.TheVariants.{Waiting, Skipped, Ended}
 use Rattle.build_core.specs.declared.ending.Ending.TheVariants as ending
 use Rattle.build_core.specs.Slots.{slot_bytes, GoalsEnd, all_answered, goal_failed, output_too_large, run_goals}
 

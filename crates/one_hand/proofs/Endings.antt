@@ -17,7 +17,7 @@ use Rattle.build_core.specs.declared.plan.OwnFile.{OwnFile}
 use Rattle.build_core.specs.declared.ending.State.TheVariants.{Ended}
 use Rattle.build_core.specs.declared.ending.Ending.{Ending}
 use Rattle.build_core.specs.declared.ending.Ending.TheVariants as ending
-use Rattle.build_core.specs.OneThread.{Progress, name_of, own_bytes, put_own, installed, ends, path_entry, entries_len, most_classpath, lacks_artifact, after_answers, after_goals, after_fetch, Supply}
+use Rattle.build_core.specs.OneThread.{Progress, name_of, own_bytes, put_own, ends, path_entry, entries_len, most_classpath, lacks_artifact, after_answers, after_goals, after_fetch, Supply}
 use Rattle.one_hand.specs.Installing.{publish_of, own_publishes, Adds}
 use Rattle.one_hand.specs.Running.{nth_answer, goals_end, stops_goals}
 use Rattle.one_hand.specs.Built.{is_quiet, LeavesFiles, EndsAfterGoals, EndsAfterFetch}

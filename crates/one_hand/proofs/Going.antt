@@ -1,6 +1,6 @@
 -- What one answered goal more means for the answers and for how the goals end.
 use Rattle.std.proofs.Common.{◌≡◌, ℕ, ◌+◌, ◌<◌, Bool, true, List, [], ◌∷◌, ◌++◌, length, take, drop, get_or, length-take, slice_get, Option, Some, None, IfSome, ◌⊎◌, inl, inr, unwrap_or, refl, sym, ap, subst, ◌∙◌, arith}
-use Rattle.std.proofs.lemmas.List.{take_more, drop_more, take-append-drop}
+use Rattle.std.proofs.lemmas.List.{take_more, take-append-drop}
 use Rattle.std.proofs.lemmas.Option.{slice_get_read}
 use Rattle.mvn_base.specs.declared.gav.Gav.{Gav}
 use Rattle.mvn_outside.specs.declared.goal.OwnBytes.{OwnBytes}
@@ -11,8 +11,8 @@ use Rattle.mvn_outside.specs.declared.goal.GoalRequest.{GoalRequest}
 use Rattle.mvn_outside.specs.declared.goal.GoalAnswer.{GoalAnswer}
 use Rattle.build_core.specs.declared.plan.PlanModule.{PlanModule}
 use Rattle.build_core.specs.declared.ending.Ending.{Ending}
-use Rattle.build_core.specs.Slots.{GoalsEnd, all_answered, one_goal, run_goals, slots_before, kept_of}
-use Rattle.one_hand.specs.Running.{is_no_pom, HasNoPom, nth_answer, goals_end, bare_request, AreAnswers, OneAnswer, NoAnswer, IsAskedSo, IsBegun}
+use Rattle.build_core.specs.Slots.{all_answered, one_goal, run_goals, slots_before, kept_of}
+use Rattle.one_hand.specs.Running.{is_no_pom, HasNoPom, nth_answer, goals_end, bare_request, AreAnswers, OneAnswer, NoAnswer, IsAskedSo}
 use Rattle.one_hand.proofs.Kept.{all_at}
 use Rattle.one_hand.proofs.Steps.{more_runs, one_stops, more_answers}
 

@@ -1,5 +1,5 @@
 -- Which slots the kept outputs have.
-use Rattle.std.proofs.Common.{◌≡◌, ℕ, zero, suc, ◌<◌, length, get_or, Bool, true, false, not, ◌==◌, ◌&&◌, nat_le, List, [], ◌∷◌, ◌++◌, filter, cond, refl, sym, ap, subst, ◌∙◌, arith}
+use Rattle.std.proofs.Common.{◌≡◌, ℕ, zero, suc, ◌<◌, length, get_or, Bool, true, false, not, ◌==◌, nat_le, List, [], ◌∷◌, ◌++◌, filter, cond, refl, ap, subst, arith}
 use Rattle.std.specs.List.{list_all}
 use Rattle.mvn_outside.specs.declared.goal.Slot.{Slot}
 use Rattle.mvn_outside.specs.declared.goal.Slot.TheVariants.{Nowhere, Pom, Classes, TestClasses, Main, Tests, Sources, Javadoc}

@@ -1,15 +1,14 @@
 -- One goal more: the run by the answers so far, and that each of them answers the request that the definition names.
-use Rattle.std.proofs.Common.{◌≡◌, ℕ, zero, suc, ◌+◌, ◌<◌, ◌≤◌, Bool, true, false, min, List, [], ◌∷◌, ◌++◌, length, take, length-take, slice_get, Option, Some, None, IfSome, unwrap_or, refl, sym, ap, subst, ◌∙◌, arith}
+use Rattle.std.proofs.Common.{◌≡◌, ℕ, zero, suc, ◌+◌, ◌<◌, ◌≤◌, Bool, true, List, [], ◌∷◌, ◌++◌, length, take, length-take, slice_get, Option, Some, None, IfSome, unwrap_or, refl, ap, subst, ◌∙◌, arith}
 use Rattle.std.proofs.lemmas.Option.{slice_get_within}
 use Rattle.mvn_outside.specs.declared.goal.OwnBytes.{OwnBytes}
 use Rattle.mvn_outside.specs.declared.goal.GoalCall.{GoalCall}
 use Rattle.mvn_outside.specs.declared.goal.GoalRequest.{GoalRequest}
 use Rattle.mvn_outside.specs.declared.goal.GoalAnswer.{GoalAnswer}
-use Rattle.mvn_outside.specs.declared.goal.GoalAnswer.TheVariants.{Done}
 use Rattle.build_core.specs.declared.plan.PlanModule.{PlanModule}
 use Rattle.build_core.specs.declared.ending.Ending.{Ending}
 use Rattle.build_core.specs.declared.ending.Ending.TheVariants as ending
-use Rattle.build_core.specs.Slots.{GoalsEnd, all_answered, goal_failed, output_too_large, one_goal, run_goals, slots_before, kept_of}
+use Rattle.build_core.specs.Slots.{GoalsEnd, all_answered, one_goal, run_goals, slots_before, kept_of}
 use Rattle.one_hand.specs.Running.{nth_answer, goals_end, bare_request, AreAnswers}
 use Rattle.one_hand.proofs.Runs.{follow, run_append, run_same}
 

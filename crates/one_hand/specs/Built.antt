@@ -7,7 +7,6 @@ use Rattle.mvn_outside.specs.declared.shelf.ShelfTold.{ShelfTold}
 use Rattle.mvn_outside.specs.Shelf.{files_now}
 use Rattle.build_core.specs.declared.plan.Plan.{Plan}
 use Rattle.build_core.specs.declared.plan.PlanModule.{PlanModule}
-use Rattle.build_core.specs.declared.ending.Device.{Device}
 use Rattle.build_core.specs.declared.ending.Device.TheVariants.{Area, Shelf, Gate}
 use Rattle.build_core.specs.declared.ending.State.TheVariants.{Ended}
 use Rattle.build_core.specs.declared.ending.Ending.{Ending}

@@ -1,5 +1,5 @@
 -- What running a module's goals leaves, against the definition of the build by one hand. Own rules.
-use Rattle.std.specs.Prelude.{◌≡◌, ◌⊎◌, ℕ, Bool, true, false, not, ◌==◌, List, [], ◌∷◌, ◌++◌, slice_get, Option, Some, None, unwrap_or, IfSome}
+use Rattle.std.specs.Prelude.{◌≡◌, ℕ, Bool, true, false, not, ◌==◌, List, [], ◌∷◌, ◌++◌, slice_get, Option, Some, None, unwrap_or, IfSome}
 use Rattle.std.specs.List.{list_all}
 use Rattle.mvn_outside.specs.declared.goal.OwnBytes.{OwnBytes}
 use Rattle.mvn_outside.specs.declared.goal.GoalCall.{GoalCall}

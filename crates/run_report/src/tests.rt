@@ -29,48 +29,61 @@ fn text_of(alloc: Global, rows: &[ReportRow]) -> Result<Text, Fail> {
     Ok(Text::from_slice(alloc, report(alloc, rows)?.as_slice())?)
 }
 
+// The report of one module that ended so.
+fn report_of(alloc: Global, end: RowEnd) -> Result<Text, Fail> {
+    text_of(alloc, &[row(alloc, "a", end)?])
+}
+
 #[test]
-fn each_ending_has_its_line(rt: HostRuntime) -> Result<(), Fail> {
+fn a_built_module_has_its_line(rt: HostRuntime) -> Result<(), Fail> {
+    let text = report_of(rt.alloc(), RowEnd::Built)?;
+    assert_eq!(rt;
+        text.as_str(),
+        "built demo:a:1\ntotal 1 built 1 failed 0 skipped 0\n"
+    );
+    Ok(())
+}
+
+#[test]
+fn a_failed_goal_has_its_line(rt: HostRuntime) -> Result<(), Fail> {
     let alloc = rt.alloc();
     let call = Text::from_str(alloc, "maven-surefire-plugin:test default-test")?;
     let text = Text::from_str(alloc, "1 \u{e9} failed\n")?;
-    for (end, wanted) in [
-        (
-            RowEnd::Built,
-            "built demo:a:1\ntotal 1 built 1 failed 0 skipped 0\n",
-        ),
-        (
-            RowEnd::Goal { call, text },
-            "failed demo:a:1 goal maven-surefire-plugin:test default-test: 1 ?? failed?\ntotal 1 built 0 failed 1 skipped 0\n",
-        ),
-        (
-            RowEnd::NoArtifact,
-            "failed demo:a:1 no artifact\ntotal 1 built 0 failed 1 skipped 0\n",
-        ),
-        (
-            RowEnd::OutputTooLarge,
-            "failed demo:a:1 output too large\ntotal 1 built 0 failed 1 skipped 0\n",
-        ),
-        (
-            RowEnd::ClasspathTooLarge,
-            "failed demo:a:1 classpath too large\ntotal 1 built 0 failed 1 skipped 0\n",
-        ),
-        (
-            RowEnd::Fault(Device::Gate),
-            "failed demo:a:1 fault gate\ntotal 1 built 0 failed 1 skipped 0\n",
-        ),
-        (
-            RowEnd::Memory,
-            "failed demo:a:1 memory\ntotal 1 built 0 failed 1 skipped 0\n",
-        ),
-        (
-            RowEnd::Skipped(gav(alloc, "b")?),
-            "skipped demo:a:1 after demo:b:1\ntotal 1 built 0 failed 0 skipped 1\n",
-        ),
-    ] {
-        let rows = [row(alloc, "a", end)?];
-        assert_eq!(rt; text_of(alloc, &rows)?.as_str(), wanted);
-    }
+    let report = report_of(alloc, RowEnd::Goal { call, text })?;
+    let wanted =
+        "failed demo:a:1 goal maven-surefire-plugin:test default-test: 1 ?? failed?\ntotal 1 built 0 failed 1 skipped 0\n";
+    assert_eq!(rt; report.as_str(), wanted);
+    Ok(())
+}
+
+#[test]
+fn a_module_without_an_artifact_has_its_line(rt: HostRuntime) -> Result<(), Fail> {
+    let text = report_of(rt.alloc(), RowEnd::NoArtifact)?;
+    assert_eq!(rt;
+        text.as_str(),
+        "failed demo:a:1 no artifact\ntotal 1 built 0 failed 1 skipped 0\n"
+    );
+    Ok(())
+}
+
+#[test]
+fn a_faulty_module_has_its_line(rt: HostRuntime) -> Result<(), Fail> {
+    let text = report_of(rt.alloc(), RowEnd::Fault(Device::Gate))?;
+    assert_eq!(rt;
+        text.as_str(),
+        "failed demo:a:1 fault gate\ntotal 1 built 0 failed 1 skipped 0\n"
+    );
+    Ok(())
+}
+
+#[test]
+fn a_skipped_module_has_its_line(rt: HostRuntime) -> Result<(), Fail> {
+    let alloc = rt.alloc();
+    let text = report_of(alloc, RowEnd::Skipped(gav(alloc, "b")?))?;
+    assert_eq!(rt;
+        text.as_str(),
+        "skipped demo:a:1 after demo:b:1\ntotal 1 built 0 failed 0 skipped 1\n"
+    );
     Ok(())
 }
 

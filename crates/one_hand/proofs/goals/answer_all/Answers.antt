@@ -1,8 +1,6 @@
-use Rattle.std.proofs.Common.{◌≡◌, ℕ, ◌+◌, Bool, List, None, Some, Option, IfSome, ◌⊎◌, refl, ap, sym, subst, ◌∙◌, arith}
-use Rattle.mvn_outside.specs.declared.goal.OwnBytes.{OwnBytes}
+use Rattle.std.proofs.Common.{ℕ, ◌+◌, Bool, None, Some, Option, ◌⊎◌, refl, ap, subst, ◌∙◌}
 use Rattle.mvn_outside.specs.declared.goal.GoalRequest.{GoalRequest}
 use Rattle.mvn_outside.specs.declared.goal.GoalAnswer.{GoalAnswer}
-use Rattle.build_core.specs.declared.ending.Ending.{Ending}
 use Rattle.one_hand.specs.Running.{NoAnswer, OneAnswer}
 use Rattle.one_hand.proofs.Going.{Stands, IsNext, next_of, no_pom_at, answers_go_on, stop_ends, goes_further}
 use Rattle.one_hand.proofs.goals.answer_all.Goals as goal

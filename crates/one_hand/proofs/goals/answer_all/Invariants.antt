@@ -1,4 +1,4 @@
-use Rattle.std.proofs.Common.{◌≡◌, List, [], length, take, IfSome}
+use Rattle.std.proofs.Common.{◌≡◌, [], length, take, IfSome}
 use Rattle.mvn_outside.specs.Goals.{HasOwnSlots}
 use Rattle.build_core.specs.Slots.{all_answered, run_goals}
 use Rattle.one_hand.specs.Running.{IsAskedSo, nth_answer, AreAnswers}

@@ -1,4 +1,4 @@
-use Rattle.std.proofs.Common.{◌≡◌, true, List, [], ◌∷◌, ◌++◌, None, Some, IfSome, inr, ap, sym, subst, ◌∙◌}
+use Rattle.std.proofs.Common.{◌≡◌, true, [], ◌∷◌, ◌++◌, IfSome, inr, ap, subst, ◌∙◌}
 use Rattle.mvn_outside.specs.declared.goal.GoalCall.{GoalCall}
 use Rattle.mvn_outside.specs.declared.goal.GoalAnswer.{GoalAnswer}
 use Rattle.build_core.specs.Slots.{one_goal, all_answered}

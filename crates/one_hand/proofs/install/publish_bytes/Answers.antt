@@ -1,4 +1,4 @@
-use Rattle.std.proofs.Common.{◌≡◌, true, Some, ap, ◌∙◌}
+use Rattle.std.proofs.Common.{true, ap, ◌∙◌}
 use Rattle.std.specs.FinMap as map
 use Rattle.local_repo.proofs.Stages.{put_there}
 use Rattle.one_hand.proofs.Published.{publish_adds}

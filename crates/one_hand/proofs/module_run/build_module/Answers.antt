@@ -1,4 +1,4 @@
-use Rattle.std.proofs.Common.{◌≡◌, ℕ, List, [], IfSome, is_some, subst}
+use Rattle.std.proofs.Common.{◌≡◌, List, [], IfSome, is_some, subst}
 use Rattle.mvn_outside.specs.declared.goal.OwnBytes.{OwnBytes}
 use Rattle.build_core.specs.Slots.{run_goals}
 use Rattle.one_hand.specs.Running.{nth_answer, goals_end, IsStop}

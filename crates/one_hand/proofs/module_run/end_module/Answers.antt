@@ -1,4 +1,4 @@
-use Rattle.std.proofs.Common.{◌≡◌, ℕ, Bool, is_some, ap, sym, ◌∙◌}
+use Rattle.std.proofs.Common.{is_some, sym, ◌∙◌}
 use Rattle.build_core.specs.declared.ending.Ending.TheVariants as ending
 use Rattle.one_hand.specs.Built.{EndsAfterGoals}
 use Rattle.one_hand.proofs.Endings.{same_files, not_installed, no_artifact, installed_so, all_put}

@@ -1,6 +1,6 @@
-use Rattle.std.proofs.Common.{◌≡◌, ℕ, ◌+◌, nat_le, List, [], ◌∷◌, length, drop, filter, sym, ap, ◌∙◌, arith}
+use Rattle.std.proofs.Common.{◌+◌, nat_le, ◌∷◌, length, drop, filter, sym, ap, ◌∙◌, arith}
 use Rattle.std.proofs.lemmas.List.{drop_all, drop_more}
-use Rattle.build_core.specs.Slots.{slot_number, is_other, total_bytes}
+use Rattle.build_core.specs.Slots.{is_other, total_bytes}
 use Rattle.one_hand.proofs.Totals.{total_put, fits_beside, too_large, other_first}
 use Rattle.one_hand.proofs.outputs.fits.Goals as goal
 

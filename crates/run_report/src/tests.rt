@@ -100,26 +100,47 @@ fn jar_name(alloc: Global, name: &str) -> Result<FileName, Fail> {
     Ok(file_of(alloc, &gav, &none, &Text::from_str(alloc, "jar")?)?)
 }
 
+// The names of these jars.
+fn jars(alloc: Global, names: &[&str]) -> Result<List<FileName>, Fail> {
+    let mut list = List::new(alloc);
+    for name in names {
+        list.push(jar_name(alloc, name)?)?;
+    }
+    Ok(list)
+}
+
+fn full_part(alloc: Global) -> Result<FullPart, Fail> {
+    Ok(FullPart {
+        model: Bytes::from_slice(alloc, b"{}")?,
+        compile: jars(alloc, &["b"])?,
+        runtime: jars(alloc, &[])?,
+        test: jars(alloc, &["b", "c"])?,
+    })
+}
+
+fn notes(alloc: Global) -> Mem<List<Text>> {
+    let mut notes = List::new(alloc);
+    notes.push(Text::from_str(alloc, "note missing demo:m:1")?)?;
+    Ok(notes)
+}
+
+// A row with notes and all that is told besides.
+fn full_row(alloc: Global) -> Result<ReportRow, Fail> {
+    Ok(ReportRow {
+        gav: gav(alloc, "a")?,
+        end: RowEnd::Built,
+        notes: notes(alloc)?,
+        full: Some(full_part(alloc)?),
+    })
+}
+
 #[test]
 fn notes_and_full_lines_stand_behind_the_line(rt: HostRuntime) -> Result<(), Fail> {
     let alloc = rt.alloc();
-    let mut row = row(alloc, "a", RowEnd::Built)?;
-    row.notes
-        .push(Text::from_str(alloc, "note missing demo:m:1")?)?;
-    let mut test = List::new(alloc);
-    test.push(jar_name(alloc, "b")?)?;
-    test.push(jar_name(alloc, "c")?)?;
-    let mut compile = List::new(alloc);
-    compile.push(jar_name(alloc, "b")?)?;
-    row.full = Some(FullPart {
-        model: Bytes::of(Vec::from_slice(alloc, b"{}")?),
-        compile,
-        runtime: List::new(alloc),
-        test,
-    });
     let wanted =
         "built demo:a:1\n  note missing demo:m:1\n  model {}\n  compile demo/b/1/b-1.jar\n  test demo/b/1/b-1.jar\n  test demo/c/1/c-1.jar\ntotal 1 built 1 failed 0 skipped 0\n";
-    assert_eq!(rt; text_of(alloc, &[row])?.as_str(), wanted);
+    let text = text_of(alloc, &[full_row(alloc)?])?;
+    assert_eq!(rt; text.as_str(), wanted);
     Ok(())
 }
 

@@ -50,6 +50,33 @@ head -c 1048577 /dev/zero > pom.xml
 want 'a POM over the limit' 2 $'not built yet\n' validate
 printf '%s' "$pom" > pom.xml
 
+# install: the POM and the jar lie in the repository, whole, and a second run changes no byte
+folder=.m2/repository/demo/app/1.0
+mkdir -p src/main/java/demo
+echo 'class App {}' > src/main/java/demo/App.java
+want 'the first install' 0 "$report" install
+first=$(cd .m2/repository && find . -type f | sort | xargs sha256sum)
+want 'the second install' 0 "$report" install
+second=$(cd .m2/repository && find . -type f | sort | xargs sha256sum)
+if [ "$first" = "$second" ] && cmp -s pom.xml "$folder/app-1.0.pom" && [ "$(wc -c < "$folder/app-1.0.jar")" = 65 ] \
+  && [ "$(find .m2/repository -type f | wc -l)" = 2 ]; then
+  passed=$((passed + 1))
+else
+  failed=$((failed + 1)); echo "end to end: installed files: $first"
+fi
+echo '2 errors' > src/main/java/demo/fail-compile
+want 'a failed goal' 1 $'failed demo:app:1.0 goal maven-compiler-plugin:compile default-compile: 2 errors\ntotal 1 built 0 failed 1 skipped 0\n' install
+third=$(cd .m2/repository && find . -type f | sort | xargs sha256sum)
+[ "$first" = "$third" ] && passed=$((passed + 1)) || { failed=$((failed + 1)); echo "end to end: a failed goal changed the repository"; }
+rm src/main/java/demo/fail-compile
+
+# a folder in the place of the jar: the name stays as it was
+rm -rf .m2
+mkdir -p "$folder/app-1.0.jar/in"
+want 'a folder in the place of the jar' 3 $'failed demo:app:1.0 fault shelf\ntotal 1 built 0 failed 1 skipped 0\n' install
+[ -d "$folder/app-1.0.jar/in" ] && passed=$((passed + 1)) || { failed=$((failed + 1)); echo "end to end: the folder is gone"; }
+rm -rf .m2 src
+
 # a pipe that nobody reads, and a full device
 status=$( { "$mvn" validate; echo $? >&2; } 2>&1 >/dev/full )
 [ "$status" = 3 ] && passed=$((passed + 1)) || { failed=$((failed + 1)); echo "end to end: full device: status $status"; }

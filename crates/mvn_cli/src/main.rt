@@ -29,13 +29,15 @@ Usage: mvn WORDS
 
 Words that work today:
   validate        read pom.xml in the current folder and report its module
+  install         also run the goals of a jar, and put the POM and the jar into
+                  the repository: .m2/repository, or the folder MVN_REPO
   -h, --help      print this help
   -v, --version   print the version
 
 Exit status: 0 built, 1 some module isn't built, 2 refused, 3 a device failed, 4 out of memory.
 
 Example:
-  cd examples/hello && mvn validate
+  cd examples/hello && mvn install
 ";
 
 const VERSION: &str = "mvn 0.1.0 (POM model 4.0.0)\n";

@@ -1,4 +1,11 @@
+pub mod Builds
+pub mod Calls
 pub mod Elements
-pub mod Outcomes
+pub mod Planned
+pub mod Projects
+pub mod Rans
 pub mod Readings
+pub mod SourcesRead
+pub mod Tops
+pub mod Valid
 pub mod Spelling

@@ -5,9 +5,16 @@ pub use Rattle.mvn_base.specs.Gav
 pub use Rattle.mvn_base.specs.Names
 pub use Rattle.mvn_base.specs.Refusal
 pub use Rattle.mvn_base.specs.Rule
+pub mod Commands
 pub mod Elements
 pub mod Ending
+pub mod Headline
 pub mod Outcome
 pub mod Plain
+pub mod Planning
+pub mod Project
+pub mod Ran
 pub mod Reading
 pub mod Spelling
+pub mod Rows
+pub mod Sources

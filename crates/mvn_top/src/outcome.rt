@@ -1,13 +1,13 @@
-// What a call answers, by the words and by what reading the POM gave.
+// What a call answers that builds nothing, by what reading the POM gave.
 ghost use Rattle.std.specs.Prelude.{◌≡◌, map, IfOk};
 ghost use Rattle.std.specs.String.{string_bytes};
 ghost use Rattle.mvn_top.specs.Elements.{view, text_of};
-ghost use Rattle.mvn_top.specs.Outcome.{line, not_built, fault_tree, refused, missing_field, is_validate, of_elements, of_text, of_pom, built};
+ghost use Rattle.mvn_top.specs.Outcome.{line, not_built, fault_tree, refused, missing_field, too_many_sources, of_elements, of_text, of_pom};
 
 use crate::plain::{Element, Field, read_plain};
 use crate::reading::{POM_PATH, Reading};
-use mvn_base::{Place, PomId, Refusal, Rule};
-use mvn_shared::{Bytes, Mem, Text};
+use mvn_base::{Gav, Place, PomId, Refusal, Rule};
+use mvn_shared::{Bytes, Mem, OutOfMemory, Text};
 use std::alloc::Global;
 
 /// What a call answers: the text that it writes, and the exit status.
@@ -19,6 +19,9 @@ pub struct Outcome {
 
 /// The status of a build whose modules are all built.
 pub const BUILT: u8 = 0;
+
+/// The status of a build of which some module isn't built.
+pub const FAILED: u8 = 1;
 
 /// The status of words or a project that are refused.
 pub const REFUSED: u8 = 2;
@@ -51,7 +54,7 @@ pub fn not_built(alloc: Global) -> Mem<Outcome>
 }
 
 #[tactic(auto, unfolding(crate::specs::Outcome::fault_tree))]
-fn fault_tree(alloc: Global) -> Mem<Outcome>
+pub fn fault_tree(alloc: Global) -> Mem<Outcome>
     ensures { IfOk result (λ outcome. outcome ≡ fault_tree) }
 {
     let text = line(String::from_str(alloc, "fault tree")?)?;
@@ -83,78 +86,76 @@ fn missing_field(alloc: Global, path: &str) -> Mem<Outcome>
     refused(alloc, Rule::MissingField, place)
 }
 
-// The report of the one module, which is built.
-#[tactic(auto, unfolding(crate::specs::Outcome::built, mvn_base::specs::Gav::gav_text))]
-fn built(alloc: Global, group: &[u8], artifact: &[u8], version: &[u8]) -> Mem<Outcome>
-    ensures { IfOk result (λ outcome. outcome ≡ built (record { group = group.now; artifact = artifact.now; version = version.now })) }
+/// The refusal of too many sources, or too large ones.
+#[tactic(auto, unfolding(crate::specs::Outcome::too_many_sources))]
+pub fn too_many_sources(alloc: Global) -> Mem<Outcome>
+    ensures { IfOk result (λ outcome. outcome ≡ too_many_sources) }
 {
-    let mut text = Vec::from_slice(alloc, b"built ")?;
-    text.extend_from_slice(group)?;
-    text.push(b':')?;
-    text.extend_from_slice(artifact)?;
-    text.push(b':')?;
-    text.extend_from_slice(version)?;
-    text.extend_from_slice(b"\ntotal 1 built 1 failed 0 skipped 0\n")?;
-    Ok(Outcome {
-        text: Bytes::of(text),
-        status: BUILT,
-    })
+    let place = Place::Name(Text::from_str(alloc, "sources")?);
+    refused(alloc, Rule::TooLarge, place)
 }
 
-/// Whether the words are the one word `validate`.
-pub fn is_validate(words: &[Bytes]) -> bool
-    ensures { result ≡ is_validate words.now }
+// The text of a value. A value has ASCII letters, digits, `.`, `_` and `-` alone, so that only memory can be wanting.
+fn value_text(alloc: Global, value: &[u8]) -> Mem<Text>
+    ensures { IfOk result (λ text. text ≡ value.now) }
 {
-    match words {
-        [word] => word.as_slice() == b"validate".as_slice(),
-        _ => false,
+    match Text::from_slice(alloc, value) {
+        Ok(text) => Ok(text),
+        Err(_) => Err(OutOfMemory),
     }
 }
 
-// The answer to a plain POM of these elements.
+// The module of a plain POM of these elements, or its refusal.
 #[tactic(auto, unfolding(crate::specs::Outcome::of_elements))]
-fn of_elements(alloc: Global, elements: &[Element]) -> Mem<Outcome>
-    ensures { IfOk result (λ outcome. outcome ≡ of_elements (map view elements.now)) }
+fn of_elements(alloc: Global, elements: &[Element]) -> Mem<Result<Gav, Outcome>>
+    ensures { IfOk result (λ answer. answer ≡ of_elements (map view elements.now)) }
 {
     let group = Field::GroupId.text_in(elements);
     let version = Field::Version.text_in(elements);
     let artifact = Field::ArtifactId.text_in(elements);
     if group.is_empty() {
-        missing_field(alloc, "project/groupId")
+        Ok(Err(missing_field(alloc, "project/groupId")?))
     } else if version.is_empty() {
-        missing_field(alloc, "project/version")
+        Ok(Err(missing_field(alloc, "project/version")?))
     } else if artifact.is_empty() {
-        missing_field(alloc, "project/artifactId")
+        Ok(Err(missing_field(alloc, "project/artifactId")?))
     } else {
-        built(alloc, group, artifact, version)
+        let group = value_text(alloc, group)?;
+        let artifact = value_text(alloc, artifact)?;
+        let version = value_text(alloc, version)?;
+        Ok(Ok(Gav {
+            group,
+            artifact,
+            version,
+        }))
     }
 }
 
-// The answer to the text of a POM.
+// The module of a POM's text, or what is answered to it.
 #[tactic(auto, unfolding(crate::specs::Outcome::of_text))]
-fn of_text(alloc: Global, bytes: &[u8]) -> Mem<Outcome>
-    ensures { IfOk result (λ outcome. outcome ≡ of_text bytes.now) }
+fn of_text(alloc: Global, bytes: &[u8]) -> Mem<Result<Gav, Outcome>>
+    ensures { IfOk result (λ answer. answer ≡ of_text bytes.now) }
 {
     if bytes.is_empty() {
-        return refused(alloc, Rule::NotPomText, Place::Byte(0));
+        return Ok(Err(refused(alloc, Rule::NotPomText, Place::Byte(0))?));
     }
     match read_plain(alloc, bytes)? {
         Some(elements) => of_elements(alloc, &elements),
-        None => not_built(alloc),
+        None => Ok(Err(not_built(alloc)?)),
     }
 }
 
-/// The answer to what reading the project's POM gave. Costs one pass over its bytes.
+/// The module of what reading the project's POM gave, or what is answered to it. Costs one pass over its bytes.
 #[tactic(auto, unfolding(crate::specs::Outcome::of_pom))]
-pub fn of_pom(alloc: Global, reading: &Reading) -> Mem<Outcome>
-    ensures { IfOk result (λ outcome. outcome ≡ of_pom reading.now) }
+pub fn of_pom(alloc: Global, reading: &Reading) -> Mem<Result<Gav, Outcome>>
+    ensures { IfOk result (λ answer. answer ≡ of_pom reading.now) }
 {
     match reading {
-        Reading::Faulty => fault_tree(alloc),
-        Reading::TooLong => not_built(alloc),
+        Reading::Faulty => Ok(Err(fault_tree(alloc)?)),
+        Reading::TooLong => Ok(Err(not_built(alloc)?)),
         Reading::Missing => {
             let place = Place::Name(Text::from_str(alloc, POM_PATH)?);
-            refused(alloc, Rule::ModuleNotFound, place)
+            Ok(Err(refused(alloc, Rule::ModuleNotFound, place)?))
         }
         Reading::Found(bytes) => of_text(alloc, bytes.as_slice()),
     }

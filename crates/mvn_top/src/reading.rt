@@ -1,4 +1,4 @@
-ghost use Rattle.std.specs.Prelude.{IfOk, IfSome};
+ghost use Rattle.std.specs.Prelude.{◌≡◌, IfOk, IfSome};
 ghost use Rattle.mvn_shared.specs.Cause.{HasCause};
 ghost use Rattle.mvn_top.specs.Reading.{is_faulty, Agrees};
 
@@ -28,6 +28,7 @@ pub enum Reading {
 /// Reads the project's POM, once.
 pub fn read_pom<T: Tree>(alloc: Global, tree: &mut T) -> Mem<Reading>
     ensures told { IfSome (T.files tree.old) (λ files. IfOk result (Agrees files)) }
+    ensures same { T.files tree.new ≡ T.files tree.old }
     ensures cause { HasCause (T.faults tree.old) (T.faults tree.new) (is_faulty result) }
 {
     let path = Text::from_str(alloc, POM_PATH)?;

@@ -1,7 +1,7 @@
 // The runs of the top call over objects in memory, as tables.
 use crate::mvn;
 use mvn_base::Machine;
-use mvn_outside::{DeviceFault, Hand, Sink, SourceFile, Tree};
+use mvn_outside::{DeviceFault, GoalAnswer, Hand, Sink, SourceFile, Tree};
 use mvn_shared::{Bytes, List, Mem, Text};
 use outside_mem::{Calls, MemArea, MemGate, MemRemote, MemShelf, MemSink, MemTree, NoFailures};
 use std::alloc::Global;
@@ -274,5 +274,201 @@ fn a_failed_write_leaves_a_part_of_the_report(rt: HostRuntime) -> Result<(), Fai
         assert_eq!(rt; run(alloc, &words, &mut tree, &mut sink)?, wanted);
         assert_eq!(rt; sink.bytes.as_slice(), &report[..failing]);
     }
+    Ok(())
+}
+
+// What an install left: its status, its text, the names in the repository, and how many answers are kept.
+#[derive(Drop)]
+struct Installed {
+    status: u8,
+    text: Bytes,
+    names: u64,
+    answers: usize,
+}
+
+// The calls that fail, by object.
+#[derive(Clone, Copy)]
+struct Failing<'a> {
+    tree: &'a [u64],
+    area: &'a [u64],
+    shelf: &'a [u64],
+    gate: &'a [u64],
+    sink: &'a [u64],
+}
+
+const NONE: Failing<'static> = Failing {
+    tree: &[],
+    area: &[],
+    shelf: &[],
+    gate: &[],
+    sink: &[],
+};
+
+fn produced(alloc: Global, text: &str) -> Mem<GoalAnswer> {
+    Ok(GoalAnswer::Produced(Bytes::from_slice(alloc, text.as_bytes())?))
+}
+
+// The answers of a build that makes classes, test classes and a jar.
+fn good_answers(alloc: Global) -> Mem<List<GoalAnswer>> {
+    let mut answers = List::new(alloc);
+    answers.push(GoalAnswer::Done)?;
+    answers.push(produced(alloc, "classes")?)?;
+    answers.push(GoalAnswer::Done)?;
+    answers.push(produced(alloc, "test classes")?)?;
+    answers.push(GoalAnswer::Done)?;
+    answers.push(produced(alloc, "jar")?)?;
+    Ok(answers)
+}
+
+// An install of the one POM with these answers.
+fn install(alloc: Global, answers: List<GoalAnswer>, failing: Failing) -> Mem<Installed> {
+    let words = words_of(alloc, &["install"])?;
+    let machine = machine(alloc)?;
+    let mut tree = tree_of(alloc, Some(POM.as_bytes()), failing.tree)?;
+    let shelf = MemShelf::new(alloc, List::new(alloc), &numbers(alloc, failing.shelf)?)?;
+    let mut sink = MemSink::new(alloc, &numbers(alloc, failing.sink)?)?;
+    let mut hands = [Hand {
+        remote: MemRemote::without_failures(alloc, List::new(alloc))?,
+        area: MemArea::new(alloc, &numbers(alloc, failing.area)?)?,
+        gate: MemGate::new(alloc, answers, &numbers(alloc, failing.gate)?)?,
+    }];
+    let ended = mvn(
+        alloc, &words, &machine, &mut tree, shelf, &mut hands, &mut sink,
+    );
+    Ok(Installed {
+        status: ended.status,
+        text: Bytes::from_slice(alloc, sink.bytes())?,
+        names: ended.shelf.names(),
+        answers: ended.answers.len(),
+    })
+}
+
+#[test]
+fn install_of_one_pom_writes_pom_and_jar(rt: HostRuntime) -> Result<(), Fail> {
+    let alloc = rt.alloc();
+    let installed = install(alloc, good_answers(alloc)?, NONE)?;
+    assert_eq!(rt; installed.status, 0);
+    assert_eq!(rt; installed.text.as_slice(), REPORT.as_bytes());
+    assert_eq!(rt; installed.names, 2);
+    assert_eq!(rt; installed.answers, 6);
+    Ok(())
+}
+
+#[test]
+fn a_failed_goal_publishes_nothing(rt: HostRuntime) -> Result<(), Fail> {
+    let alloc = rt.alloc();
+    let mut answers = List::new(alloc);
+    answers.push(GoalAnswer::Done)?;
+    answers.push(GoalAnswer::Failed(Text::from_str(alloc, "1 error")?))?;
+    let installed = install(alloc, answers, NONE)?;
+    let wanted =
+        "failed demo:app:1.0 goal maven-compiler-plugin:compile default-compile: 1 error\ntotal 1 built 0 failed 1 skipped 0\n";
+    assert_eq!(rt; installed.status, 1);
+    assert_eq!(rt; installed.text.as_slice(), wanted.as_bytes());
+    assert_eq!(rt; installed.names, 0);
+    assert_eq!(rt; installed.answers, 2);
+    Ok(())
+}
+
+#[test]
+fn a_build_without_a_jar_publishes_nothing(rt: HostRuntime) -> Result<(), Fail> {
+    let alloc = rt.alloc();
+    let installed = install(alloc, List::new(alloc), NONE)?;
+    let wanted = "failed demo:app:1.0 no artifact\ntotal 1 built 0 failed 1 skipped 0\n";
+    assert_eq!(rt; installed.status, 1);
+    assert_eq!(rt; installed.text.as_slice(), wanted.as_bytes());
+    assert_eq!(rt; installed.names, 0);
+    Ok(())
+}
+
+// The install with these failing calls ends with status 3, this text and so many names.
+fn check_fault(
+    rt: &impl Abort,
+    alloc: Global,
+    failing: Failing,
+    text: &str,
+    names: u64,
+) -> Mem<()> {
+    let installed = install(alloc, good_answers(alloc)?, failing)?;
+    assert_eq!(rt; installed.status, 3);
+    assert_eq!(rt; installed.text.as_slice(), text.as_bytes());
+    assert_eq!(rt; installed.names, names);
+    Ok(())
+}
+
+#[test]
+fn unsweepable_area_is_a_fault(rt: HostRuntime) -> Result<(), Fail> {
+    let failing = Failing { area: &[0], ..NONE };
+    check_fault(&rt, rt.alloc(), failing, "fault area\n", 0)?;
+    Ok(())
+}
+
+#[test]
+fn failed_publish_is_a_shelf_fault(rt: HostRuntime) -> Result<(), Fail> {
+    let text = "failed demo:app:1.0 fault shelf\ntotal 1 built 0 failed 1 skipped 0\n";
+    for (call, names) in [(0u64, 0u64), (1, 1)] {
+        let failing = Failing {
+            shelf: &[call],
+            ..NONE
+        };
+        check_fault(&rt, rt.alloc(), failing, text, names)?;
+    }
+    Ok(())
+}
+
+#[test]
+fn failed_settling_is_a_line(rt: HostRuntime) -> Result<(), Fail> {
+    let text = "built demo:app:1.0\ntotal 1 built 1 failed 0 skipped 0\nfault settle\n";
+    let failing = Failing {
+        shelf: &[2],
+        ..NONE
+    };
+    check_fault(&rt, rt.alloc(), failing, text, 2)?;
+    Ok(())
+}
+
+#[test]
+fn each_failing_goal_call_is_a_gate_fault(rt: HostRuntime) -> Result<(), Fail> {
+    let text = "failed demo:app:1.0 fault gate\ntotal 1 built 0 failed 1 skipped 0\n";
+    for call in 0..6u64 {
+        let failing = Failing {
+            gate: &[call],
+            ..NONE
+        };
+        check_fault(&rt, rt.alloc(), failing, text, 0)?;
+    }
+    Ok(())
+}
+
+#[test]
+fn each_failing_staging_call_is_an_area_fault(rt: HostRuntime) -> Result<(), Fail> {
+    let text = "failed demo:app:1.0 fault area\ntotal 1 built 0 failed 1 skipped 0\n";
+    for call in 1..7u64 {
+        let names = if call < 4 { 0 } else { 1 };
+        let failing = Failing {
+            area: &[call],
+            ..NONE
+        };
+        check_fault(&rt, rt.alloc(), failing, text, names)?;
+    }
+    Ok(())
+}
+
+#[test]
+fn each_failing_tree_call_is_a_tree_fault(rt: HostRuntime) -> Result<(), Fail> {
+    for call in 0..5u64 {
+        let failing = Failing {
+            tree: &[call],
+            ..NONE
+        };
+        check_fault(&rt, rt.alloc(), failing, "fault tree\n", 0)?;
+    }
+    Ok(())
+}
+
+#[test]
+fn a_failing_write_leaves_the_repository_built(rt: HostRuntime) -> Result<(), Fail> {
+    let failing = Failing { sink: &[0], ..NONE };
+    check_fault(&rt, rt.alloc(), failing, "", 2)?;
     Ok(())
 }

@@ -1,48 +1,61 @@
-ghost use Rattle.std.specs.Prelude.{◌≡◌, ◌≤◌, ◌<◌, ◌⊎◌, [], length, IfOk, IfSome};
+ghost use Rattle.std.specs.Prelude.{◌≡◌, ◌≢◌, ◌≤◌, ◌<◌, ◌⊎◌, [], true, length, is_some, IfOk, IfSome, Ok};
 ghost use Rattle.mvn_shared.specs.Cause.{HasRisen};
-ghost use Rattle.mvn_top.specs.declared.reading.Reading.{Reading};
-ghost use Rattle.mvn_top.specs.Reading.{Gave};
-ghost use Rattle.mvn_top.specs.Outcome.{outcome, outcome_of};
-ghost use Rattle.mvn_top.specs.Ending.{Ends, IsWhole};
+ghost use Rattle.mvn_outside.specs.Shelf.{IsSettled};
+ghost use Rattle.build_core.specs.declared.plan.Plan.{Plan};
+ghost use Rattle.one_hand.specs.Built.{LeavesFiles};
+ghost use Rattle.mvn_top.specs.declared.outcome.Outcome.{Outcome};
+ghost use Rattle.mvn_top.specs.Ending.{IsWhole, Ends, IsLow, IsFault, HasNone};
+ghost use Rattle.mvn_top.specs.Headline.{numbered, kept_answers, IsCall, plan_of, IsOutcome, AnswersFit, ComesFrom, OfFirst, OfFirsts, SameOthers};
 
-use crate::outcome::{FAULT, NO_MEMORY, Outcome, is_validate, not_built, of_pom};
-use crate::reading::read_pom;
+use crate::build::{Call, build_plan, nothing};
+use crate::command::command_of;
+use crate::outcome::{FAULT, NO_MEMORY, Outcome, not_built};
+use crate::project::plan_project;
 use build_core::{Answered, Event};
 use mvn_base::Machine;
-use mvn_outside::{DeviceFault, Gate, Hand, Remote, Shelf, Sink, Tree, write_all};
-use mvn_shared::{Bytes, List, Mem};
+use mvn_outside::{DeviceFault, Gate, GoalAnswer, Hand, Shelf, Sink, Tree, write_all};
+use mvn_shared::{Bytes, List, Mem, OutOfMemory};
 use std::alloc::Global;
 
-// What the call answers. The tree is asked at most once, and only where the words are to be built.
-fn answer<T: Tree>(alloc: Global, words: &[Bytes], tree: &mut T) -> Mem<Outcome>
-    ensures reading { (reading : Reading) × Gave (T.files tree.old) (T.faults tree.old) (T.faults tree.new) reading
-        × IfOk result (λ outcome. outcome ≡ outcome_of words.now reading) }
-    ensures quiet { IfOk result (λ outcome. outcome.status < 3 → T.faults tree.new ≡ T.faults tree.old) }
+// What the call answers, and what its goals were answered.
+fn build<T: Tree, R, S: Shelf, G: Gate>(
+    alloc: Global,
+    words: &[Bytes],
+    tree: &mut T,
+    shelf: &mut S,
+    hand: &mut Hand<R, S::Area, G>,
+) -> Call
+    ensures outcome { IfSome (T.files tree.old) (λ files. IfOk result.outcome (λ answer. answer.status < 3
+        → LeavesFiles (S.told shelf.old) (S.told shelf.new) (is_some (S.Area.contents hand.old.area)) (IsOutcome words.now files result.answers answer))) }
+    ensures bound { IfOk result.outcome (λ answer. answer.status ≤ 3) }
+    ensures comes { IfOk result.outcome (λ answer. answer.status < 3 → ComesFrom (T.files tree.old) words.now result.answers answer) }
+    ensures settled { IfOk result.outcome (λ answer. answer.status < 2 → IfSome (S.told shelf.new) IsSettled) }
+    ensures answers { IfSome (T.files tree.old) (λ files. IfSome (G.answers hand.old.gate) (λ test. (plan : Plan) → plan_of words.now files ≡ Ok plan → AnswersFit test plan result.answers)) }
+    ensures quiet { IfOk result.outcome (λ answer. answer.status < 3 → (T.faults tree.new ≡ T.faults tree.old) × (S.faults shelf.new ≡ S.faults shelf.old) × (S.Area.faults hand.new.area ≡ S.Area.faults hand.old.area) × (G.faults hand.new.gate ≡ G.faults hand.old.gate)) }
+    ensures fault { IfOk result.outcome (λ answer. answer.status ≡ 3 → HasRisen (T.faults tree.old) (T.faults tree.new) ⊎ (HasRisen (S.faults shelf.old) (S.faults shelf.new) ⊎ (HasRisen (S.Area.faults hand.old.area) (S.Area.faults hand.new.area) ⊎ HasRisen (G.faults hand.old.gate) (G.faults hand.new.gate)))) }
 {
-    if !is_validate(words) {
-        return not_built(alloc);
+    let Some(command) = command_of(words) else {
+        return nothing(alloc, not_built(alloc));
+    };
+    match plan_project(alloc, command, tree) {
+        Ok(Ok(plan)) => build_plan(alloc, &plan, shelf, hand),
+        Ok(Err(outcome)) => nothing(alloc, Ok(outcome)),
+        Err(error) => nothing(alloc, Err(error)),
     }
-    let reading = read_pom(alloc, tree)?;
-    of_pom(alloc, &reading)
 }
 
-// Validates the project in the tree as the words say, writes the outcome's text, and answers the status.
-fn validate<T: Tree, O: Sink>(alloc: Global, words: &[Bytes], tree: &mut T, out: &mut O) -> u8
-    // Below 3, the text and the status are those of the words and of the files that the tree tells.
-    ensures outcome { IfSome (T.files tree.old) (λ files. result < 3
-        → IsWhole (outcome words.now files) result (O.written out.old) (O.written out.new)) }
-
-    // Over any tree they are those of some reading that the tree gave, and what is written is a part of that text
-    // from its front: the whole, unless the sink failed or memory ran out.
-    ensures ends { (reading : Reading) × Gave (T.files tree.old) (T.faults tree.old) (T.faults tree.new) reading
-        × Ends (outcome_of words.now reading) result (O.written out.old) (O.written out.new) (O.faults out.old) (O.faults out.new) }
-
-    // A fault is the tree's or the sink's.
-    ensures fault { result ≡ 3 → HasRisen (T.faults tree.old) (T.faults tree.new) ⊎ HasRisen (O.faults out.old) (O.faults out.new) }
-    ensures quiet { result < 3 → (T.faults tree.new ≡ T.faults tree.old) × (O.faults out.new ≡ O.faults out.old) }
+// The status of a call once its answer is written.
+fn write_answer<O: Sink>(out: &mut O, answer: Mem<Outcome>) -> u8
+    requires status { IfOk answer (λ wanted. wanted.status ≤ 3) }
+    ensures whole { IfOk answer (λ wanted. result < 3 → IsWhole wanted result (O.written out.old) (O.written out.new)) }
+    ensures low { result < 3 → IsLow answer }
+    ensures ends { IfOk answer (λ wanted. Ends wanted result (O.written out.old) (O.written out.new) (O.faults out.old) (O.faults out.new)) }
+    ensures none { HasNone answer result (O.written out.old) (O.written out.new) }
+    ensures fault { result ≡ 3 → IsFault answer ⊎ HasRisen (O.faults out.old) (O.faults out.new) }
+    ensures quiet { result < 3 → O.faults out.new ≡ O.faults out.old }
     ensures bound { result ≤ 4 }
 {
-    match answer(alloc, words, tree) {
+    match answer {
         Ok(outcome) => match write_all(out, outcome.text.as_slice()) {
             Ok(()) => outcome.status,
             Err(DeviceFault::Failed) => FAULT,
@@ -61,13 +74,77 @@ pub struct Ended<S> {
     pub answers: List<Answered>,
 }
 
+// The answers of the first module's goals, numbered.
+fn numbered(alloc: Global, answers: List<GoalAnswer>) -> Mem<List<Answered>>
+    ensures { IfOk result (λ list. list ≡ numbered 0 answers) }
+{
+    let mut list = Vec::new(alloc);
+    let mut goal: u32 = 0;
+    for answer in answers.into_vec() {
+        list.push(Answered {
+            module: 0,
+            goal,
+            answer,
+        })?;
+        let Some(next) = goal.checked_add(1) else {
+            return Err(OutOfMemory);
+        };
+        goal = next;
+    }
+    Ok(List::of(list))
+}
+
+// The call by one hand.
+fn call_hand<T: Tree, R, S: Shelf, G: Gate, O: Sink>(
+    alloc: Global,
+    words: &[Bytes],
+    tree: &mut T,
+    shelf: S,
+    hand: &mut Hand<R, S::Area, G>,
+    out: &mut O,
+) -> Ended<S>
+    ensures outcome { IfSome (T.files tree.old) (λ files. result.status < 3
+        → LeavesFiles (S.told shelf) (S.told result.shelf) (is_some (S.Area.contents hand.old.area)) (IsCall words.now files result.answers result.status (O.written out.old) (O.written out.new))) }
+    ensures ends { (wanted : Outcome) × (result.status < 3 → ComesFrom (T.files tree.old) words.now (kept_answers result.answers) wanted)
+        × Ends wanted result.status (O.written out.old) (O.written out.new) (O.faults out.old) (O.faults out.new) }
+    ensures settled { result.status < 2 → IfSome (S.told result.shelf) IsSettled }
+    ensures answers { IfSome (T.files tree.old) (λ files. IfSome (G.answers hand.old.gate) (λ test. (plan : Plan) → plan_of words.now files ≡ Ok plan → AnswersFit test plan (kept_answers result.answers))) }
+    ensures quiet { result.status < 3 → (T.faults tree.new ≡ T.faults tree.old) × (S.faults result.shelf ≡ S.faults shelf) × (S.Area.faults hand.new.area ≡ S.Area.faults hand.old.area) × (G.faults hand.new.gate ≡ G.faults hand.old.gate) × (O.faults out.new ≡ O.faults out.old) }
+    ensures fault { result.status ≡ 3 → HasRisen (O.faults out.old) (O.faults out.new) ⊎ (HasRisen (T.faults tree.old) (T.faults tree.new) ⊎ (HasRisen (S.faults shelf) (S.faults result.shelf) ⊎ (HasRisen (S.Area.faults hand.old.area) (S.Area.faults hand.new.area) ⊎ HasRisen (G.faults hand.old.gate) (G.faults hand.new.gate)))) }
+    ensures bound { result.status ≤ 4 }
+    ensures trace { result.trace ≡ [] }
+{
+    let mut shelf = shelf;
+    let Call { outcome, answers } = build(alloc, words, tree, &mut shelf, hand);
+    match numbered(alloc, answers) {
+        Ok(answers) => {
+            let status = write_answer(out, outcome);
+            Ended {
+                status,
+                shelf,
+                trace: List::new(alloc),
+                answers,
+            }
+        }
+        Err(_) => Ended {
+            status: NO_MEMORY,
+            shelf,
+            trace: List::new(alloc),
+            answers: List::new(alloc),
+        },
+    }
+}
+
 /// Builds the project in `tree` as the words say, writes the report or one line to `out`, and answers the exit status: 0
-/// where all modules are built, 2 where the words or the project are refused, 3 after a fault of the tree or the sink, 4
-/// where memory ran out. The words are the one word `validate`, for now: so the machine isn't asked, and neither the
-/// repository nor a hand is used. Own rule.
+/// where the module is built, 1 where it isn't, 2 where the words or the project are refused, 3 after a fault of a device,
+/// 4 where memory ran out. The words are the one word `validate` or `install`, for now: so the machine isn't asked. The
+/// first hand builds: its area is swept first of all calls to it, and its remote isn't asked. What was published is settled
+/// once, before the report is written. Own rule.
 ///
-/// Costs one pass over the POM's bytes.
-pub fn mvn<T: Tree, R: Remote, S: Shelf, G: Gate, O: Sink>(
+/// The POM is read once; the sources are read once, and only where goals run. Each goal's request is made of the sources
+/// that were read, without a copy of them. Costs what reading, the goals and publishing cost, and memory for the sources
+/// twice, for the module's outputs twice, and for the report.
+pub fn mvn<T: Tree, R, S: Shelf, G: Gate, O: Sink>(
     alloc: Global,
     words: &[Bytes],
     _machine: &Machine,
@@ -79,30 +156,33 @@ pub fn mvn<T: Tree, R: Remote, S: Shelf, G: Gate, O: Sink>(
     requires some_hand { 1 ≤ length hands.old }
     requires most_hands { length hands.old ≤ 16 }
 
-    // Below 3, the text and the status are those of the words and of the files that the tree tells.
-    ensures outcome { IfSome (T.Tree.files tree.old) (λ files. result.status < 3
-        → IsWhole (outcome words.now files) result.status (O.written out.old) (O.written out.new)) }
+    // Below 3, where the tree, the repository and the area tell, the text, the status and the repository's files are those
+    // of the build by one hand, of the files that they told and the answers that are kept.
+    ensures outcome { OfFirst hands.old (λ hand. IfSome (T.files tree.old) (λ files. result.status < 3
+        → LeavesFiles (S.told shelf) (S.told result.shelf) (is_some (S.Area.contents hand.area)) (IsCall words.now files result.answers result.status (O.written out.old) (O.written out.new)))) }
 
-    // Over any tree they are those of some reading that the tree gave, and what is written is a part of that text
-    // from its front: the whole, unless the sink failed or memory ran out.
-    ensures ends { (reading : Reading) × Gave (T.Tree.files tree.old) (T.Tree.faults tree.old) (T.Tree.faults tree.new) reading
-        × Ends (outcome_of words.now reading) result.status (O.written out.old) (O.written out.new) (O.faults out.old) (O.faults out.new) }
+    // Over any objects the answer comes from the words, from what reading the project gave, and from the build by one hand
+    // of the plan for it. What is written is a part of its text from its front: the whole, unless the sink failed or memory
+    // ran out.
+    ensures ends { (wanted : Outcome) × (result.status < 3 → ComesFrom (T.files tree.old) words.now (kept_answers result.answers) wanted)
+        × Ends wanted result.status (O.written out.old) (O.written out.new) (O.faults out.old) (O.faults out.new) }
 
-    // A fault is the tree's or the sink's.
-    ensures fault { result.status ≡ 3 → HasRisen (T.Tree.faults tree.old) (T.Tree.faults tree.new) ⊎ HasRisen (O.faults out.old) (O.faults out.new) }
-    ensures quiet { result.status < 3 → (T.Tree.faults tree.new ≡ T.Tree.faults tree.old) × (O.faults out.new ≡ O.faults out.old) }
+    // The answers that are kept are the gate's, to the requests that the definition names.
+    ensures answers { OfFirst hands.old (λ hand. IfSome (T.files tree.old) (λ files. IfSome (G.answers hand.gate) (λ test. (plan : Plan) → plan_of words.now files ≡ Ok plan → AnswersFit test plan (kept_answers result.answers)))) }
+
+    // With 0 and 1 all that was published is settled.
+    ensures settled { result.status < 2 → IfSome (S.told result.shelf) IsSettled }
+
+    // Below 3 no device failed, and at 3 one did.
+    ensures quiet { result.status < 3 → (T.faults tree.new ≡ T.faults tree.old) × (S.faults result.shelf ≡ S.faults shelf) × (O.faults out.new ≡ O.faults out.old)
+        × OfFirsts hands.old hands.new (λ before now. (S.Area.faults now.area ≡ S.Area.faults before.area) × (G.faults now.gate ≡ G.faults before.gate)) }
+    ensures fault { OfFirsts hands.old hands.new (λ before now. result.status ≡ 3 → HasRisen (O.faults out.old) (O.faults out.new) ⊎ (HasRisen (T.faults tree.old) (T.faults tree.new)
+        ⊎ (HasRisen (S.faults shelf) (S.faults result.shelf) ⊎ (HasRisen (S.Area.faults before.area) (S.Area.faults now.area) ⊎ HasRisen (G.faults before.gate) (G.faults now.gate))))) }
     ensures bound { result.status ≤ 4 }
 
-    // Nothing is run: the repository and the hands are as they were.
-    ensures shelf { result.shelf ≡ shelf }
-    ensures hands { hands.new ≡ hands.old }
-    ensures run { (result.trace ≡ []) × (result.answers ≡ []) }
+    // The other hands are as they were, and no events are kept.
+    ensures hands { SameOthers hands.old hands.new }
+    ensures trace { result.trace ≡ [] }
 {
-    let status = validate(alloc, words, tree, out);
-    Ended {
-        status,
-        shelf,
-        trace: List::new(alloc),
-        answers: List::new(alloc),
-    }
+    call_hand(alloc, words, tree, shelf, &mut hands[0], out)
 }

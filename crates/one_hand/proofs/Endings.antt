@@ -17,10 +17,11 @@ use Rattle.build_core.specs.declared.plan.OwnFile.{OwnFile}
 use Rattle.build_core.specs.declared.ending.State.TheVariants.{Ended}
 use Rattle.build_core.specs.declared.ending.Ending.{Ending}
 use Rattle.build_core.specs.declared.ending.Ending.TheVariants as ending
-use Rattle.build_core.specs.OneThread.{Progress, name_of, own_bytes, put_own, ends, path_entry, entries_len, most_classpath, lacks_artifact, after_answers, after_goals, after_fetch, Supply}
+use Rattle.build_core.specs.declared.ending.Device.TheVariants.{Remote, Area, Shelf, Gate}
+use Rattle.build_core.specs.OneThread.{Progress, name_of, own_bytes, put_own, installed, ends, path_entry, entries_len, most_classpath, lacks_artifact, after_answers, after_goals, after_fetch, Supply}
 use Rattle.one_hand.specs.Installing.{publish_of, own_publishes, Adds}
 use Rattle.one_hand.specs.Running.{nth_answer, goals_end, stops_goals}
-use Rattle.one_hand.specs.Built.{is_quiet, LeavesFiles, EndsAfterGoals, EndsAfterFetch}
+use Rattle.one_hand.specs.Built.{is_quiet, is_bare_ending, LeavesFiles, EndsAfterGoals, EndsAfterFetch}
 use Rattle.one_hand.proofs.Runs.{run_same}
 
 -- where nothing is published nothing changes
@@ -103,3 +104,32 @@ answered_so plan m answers own end None now tells bare e h = h
 answered_so plan m answers own end (Some told) now tells bare e h = λ t.
     let left = h t in
     (left.0, left.1, λ supply number progress same. bare_fetch plan m answers (files_now told) supply number progress bare same ∙ ap (after_goals plan m (files_now told) progress) e ∙ left.2 progress)
+
+-- what stops goals is no missing file and no classpath
+pub stop_is_bare : (stop : Ending) → stops_goals stop ≡ true → is_bare_ending stop ≡ true
+stop_is_bare (ending.Goal i) s = refl
+stop_is_bare (ending.OutputTooLarge i) s = refl
+stop_is_bare ending.Built s = refl
+stop_is_bare (ending.Missing i) s = cc
+stop_is_bare ending.NoArtifact s = refl
+stop_is_bare ending.ClasspathTooLarge s = cc
+stop_is_bare (ending.Fault Remote) s = cc
+stop_is_bare (ending.Fault Area) s = cc
+stop_is_bare (ending.Fault Shelf) s = cc
+stop_is_bare (ending.Fault Gate) s = refl
+stop_is_bare ending.Memory s = refl
+
+-- installing leaves some files, whatever there were
+pub always_installed : (plan : Plan) (m : PlanModule) (own : List OwnBytes) → m.installs ≡ true → lacks_artifact m own ≡ false → (before : Files) → (after : Files) × EndsAfterGoals plan m own ending.Built before after
+always_installed plan m own e l before = (
+  installed plan m own before,
+  λ progress.
+      ap (λ b. after_answers b (lacks_artifact m own) plan m own before progress) e ∙ ap (λ b. after_answers true b plan m own before progress) l,
+)
+
+pub always_answered : (plan : Plan) (m : PlanModule) (answers : List GoalAnswer) (own : List OwnBytes) (end : Ending) → m.entries ≡ []
+    → run_goals m.budget (nth_answer answers) 0 m.goals [] ≡ all_answered own → ((before : Files) → (after : Files) × EndsAfterGoals plan m own end before after)
+    → (before : Files) → (after : Files) × EndsAfterFetch plan m answers own end before after
+always_answered plan m answers own end bare e h before =
+    let left = h before in
+    (left.0, λ supply number progress same. bare_fetch plan m answers before supply number progress bare same ∙ ap (after_goals plan m before progress) e ∙ left.1 progress)

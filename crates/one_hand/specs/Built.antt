@@ -7,10 +7,10 @@ use Rattle.mvn_outside.specs.declared.shelf.ShelfTold.{ShelfTold}
 use Rattle.mvn_outside.specs.Shelf.{files_now}
 use Rattle.build_core.specs.declared.plan.Plan.{Plan}
 use Rattle.build_core.specs.declared.plan.PlanModule.{PlanModule}
-use Rattle.build_core.specs.declared.ending.Device.TheVariants.{Area, Shelf, Gate}
+use Rattle.build_core.specs.declared.ending.Device.TheVariants.{Remote, Area, Shelf, Gate}
 use Rattle.build_core.specs.declared.ending.State.TheVariants.{Ended}
 use Rattle.build_core.specs.declared.ending.Ending.{Ending}
-use Rattle.build_core.specs.declared.ending.Ending.TheVariants.{Fault, Memory}
+use Rattle.build_core.specs.declared.ending.Ending.TheVariants.{Missing, ClasspathTooLarge, Fault, Memory}
 use Rattle.build_core.specs.Slots.{all_answered}
 use Rattle.build_core.specs.OneThread.{Supply, Progress, ends, after_goals, after_fetch}
 use Rattle.one_hand.specs.Running.{HasNoPom, nth_answer}
@@ -21,6 +21,13 @@ abbrev pub is_quiet : Ending → Bool
 is_quiet (Fault device) = false
 is_quiet Memory = false
 is_quiet other = true
+
+-- how a module without a classpath may end: no file of it is missing, no remote failed, and no classpath is too large
+abbrev pub is_bare_ending : Ending → Bool
+is_bare_ending (Missing file) = false
+is_bare_ending (Fault Remote) = false
+is_bare_ending ClasspathTooLarge = false
+is_bare_ending other = true
 
 abbrev pub is_area_fault : Ending → Bool
 is_area_fault (Fault Area) = true

@@ -1,9 +1,10 @@
 use Rattle.std.proofs.Common.{◌≡◌, List, [], IfSome, is_some, subst}
+use Rattle.mvn_shared.specs.Files.{Files}
 use Rattle.mvn_outside.specs.declared.goal.OwnBytes.{OwnBytes}
 use Rattle.build_core.specs.Slots.{run_goals}
 use Rattle.one_hand.specs.Running.{nth_answer, goals_end, IsStop}
 use Rattle.one_hand.specs.Built.{LeavesFiles, EndsAfterGoals, EndsAfterFetch}
-use Rattle.one_hand.proofs.Endings.{same_files, stopped_so, answered_so}
+use Rattle.one_hand.proofs.Endings.{stop_is_bare, same_files, stopped_so, answered_so, always_answered}
 use Rattle.one_hand.proofs.module_run.build_module.Goals as goal
 
 pub returns-in-Some-clause-end : goal.returns-in-Some-clause-end
@@ -18,3 +19,21 @@ returns-in-None-clause-end g c = λ q.
     let run = c.run_goals-answers.result in
     answered_so c.args.plan.now c.args.module.now run.answers run.own c.end_module-ending.result (g.S.Shelf.told c.args.shelf.now) (g.S.Shelf.told c.end_module-ending.new.shelf) (is_some (g.S.Area.Area.contents c.args.hand.now.area))
     c.requires.bare.no_entries (subst (λ s. IfSome (goals_end s run.own) (λ end. run_goals c.args.module.now.budget (nth_answer run.answers) 0 c.args.module.now.goals [] ≡ end)) c.in-None.is c.run_goals-answers.ensures.end) (subst (λ (own : List OwnBytes). LeavesFiles (g.S.Shelf.told c.args.shelf.now) (g.S.Shelf.told c.end_module-ending.new.shelf) (is_some (g.S.Area.Area.contents c.args.hand.now.area)) (EndsAfterGoals c.args.plan.now c.args.module.now own c.end_module-ending.result)) c.as_slice.ensures (c.end_module-ending.ensures.end q))
+
+pub returns-in-Some-clause-bare : goal.returns-in-Some-clause-bare
+returns-in-Some-clause-bare g c = stop_is_bare c.in-Some.ending (subst IsStop c.in-Some.is c.run_goals-answers.ensures.stop)
+
+pub returns-in-Some-clause-always : goal.returns-in-Some-clause-always
+returns-in-Some-clause-always g c = λ q before.
+    let run = c.run_goals-answers.result in (
+      before,
+      stopped_so c.args.plan.now c.args.module.now run.answers run.own c.in-Some.ending before c.requires.bare.no_entries (subst IsStop c.in-Some.is c.run_goals-answers.ensures.stop) q
+          (subst (λ s. IfSome (goals_end s run.own) (λ end. run_goals c.args.module.now.budget (nth_answer run.answers) 0 c.args.module.now.goals [] ≡ end)) c.in-Some.is c.run_goals-answers.ensures.end),
+    )
+
+pub returns-in-None-clause-always : goal.returns-in-None-clause-always
+returns-in-None-clause-always g c = λ q.
+    let run = c.run_goals-answers.result in
+    always_answered c.args.plan.now c.args.module.now run.answers run.own c.end_module-ending.result c.requires.bare.no_entries
+    (subst (λ s. IfSome (goals_end s run.own) (λ end. run_goals c.args.module.now.budget (nth_answer run.answers) 0 c.args.module.now.goals [] ≡ end)) c.in-None.is c.run_goals-answers.ensures.end)
+    (subst (λ (own : List OwnBytes). (before : Files) → (after : Files) × EndsAfterGoals c.args.plan.now c.args.module.now own c.end_module-ending.result before after) c.as_slice.ensures (c.end_module-ending.ensures.always q))

@@ -1,0 +1,102 @@
+-- A call from what was built and what was written.
+use Rattle.std.proofs.Common.{◌≡◌, ◌≢◌, ◌⊎◌, ℕ, zero, suc, ◌+◌, ◌<◌, Bool, true, false, ◌&&◌, ◌==◌, cond, List, [], ◌∷◌, ◌++◌, map, find, slice_get, take, Option, Some, None, unwrap_or, Result, Ok, Err, IfOk, IfSome, refl, sym, ap, subst, ◌∙◌, arith}
+use Rattle.std.specs.Option.{option_map}
+use Rattle.std.proofs.lemmas.List.{append-nil}
+use Rattle.mvn_shared.specs.declared.memory.OutOfMemory.{OutOfMemory}
+use Rattle.mvn_shared.specs.Files.{Files}
+use Rattle.mvn_shared.specs.Told.{gains}
+use Rattle.mvn_outside.specs.declared.goal.GoalAnswer.{GoalAnswer}
+use Rattle.mvn_outside.specs.declared.goal.GoalAnswer.TheVariants.{Done}
+use Rattle.mvn_outside.specs.declared.shelf.ShelfTold.{ShelfTold}
+use Rattle.build_core.specs.declared.event.Answered.{Answered}
+use Rattle.build_core.specs.OneThread.{answer_at}
+use Rattle.one_hand.specs.Running.{nth_answer}
+use Rattle.one_hand.specs.Built.{LeavesFiles}
+use Rattle.mvn_top.specs.declared.outcome.Outcome.{Outcome}
+use Rattle.mvn_top.specs.Outcome.{not_built}
+use Rattle.mvn_top.specs.Ending.{IsWhole, Ends, IsLow, HasNone}
+use Rattle.mvn_top.specs.Headline.{numbered, kept_answers, IsOutcome, IsCall, ComesFrom}
+
+-- ---- the answers by number
+
+same_number : (n : ℕ) (a : GoalAnswer) (x : GoalAnswer) → cond (n == n) a x ≡ a
+same_number n a x = grind arith
+
+other_number : (n i : ℕ) (x y : Option Answered) → cond (n == n + suc i) x y ≡ y
+other_number n i x y = grind arith
+
+answer_of : Option Answered → GoalAnswer
+answer_of o = unwrap_or (option_map (λ a. a.answer) o) Done
+
+found_here : (n : ℕ) (a : GoalAnswer) (rest : Option Answered) → cond (n == n) (Some (record { «module» = 0; goal = n; answer = a })) rest ≡ Some (record { «module» = 0; goal = n; answer = a })
+found_here n a rest = grind arith
+
+pub at_number : (n i : ℕ) (kept : List GoalAnswer) → answer_at (numbered n kept) 0 (n + i) ≡ nth_answer kept i
+at_number n i [] = refl
+at_number n zero (a ∷ kept) =
+    let here : n + 0 ≡ n = omega arith in
+    ap (λ k. answer_at (numbered n (a ∷ kept)) 0 k) here ∙ ap (λ (o : Option Answered). unwrap_or (option_map (λ x. x.answer) o) Done) (found_here n a (find (λ x. (x.«module» == 0) && (x.goal == n)) (numbered (suc n) kept)))
+at_number n (suc i) (a ∷ kept) =
+    let on : n + suc i ≡ suc n + i = omega arith in
+    ap (λ (o : Option Answered). unwrap_or (option_map (λ x. x.answer) o) Done) (other_number n i (Some (record { «module» = 0; goal = n; answer = a })) (find (λ x. (x.«module» == 0) && (x.goal == n + suc i)) (numbered (suc n) kept)))
+    ∙ ap (λ k. answer_at (numbered (suc n) kept) 0 k) on ∙ at_number (suc n) i kept
+
+pub kept_numbered : (n : ℕ) (kept : List GoalAnswer) → kept_answers (numbered n kept) ≡ kept
+kept_numbered n [] = refl
+kept_numbered n (a ∷ kept) = ap (λ (l : List GoalAnswer). a ∷ l) (kept_numbered (suc n) kept)
+
+by_number : (answers : List Answered) (kept : List GoalAnswer) (i : ℕ) → answers ≡ numbered 0 kept → answer_at answers 0 i ≡ nth_answer kept i
+by_number answers kept i e =
+    let from : i ≡ 0 + i = omega arith in
+    ap (λ (l : List Answered). answer_at l 0 i) e ∙ ap (λ k. answer_at (numbered 0 kept) 0 k) from ∙ at_number 0 i kept
+
+-- ---- the outcome
+
+leaves_more : (before now : Option ShelfTold) (tells : Bool) (R Q : Files → Files → Type 0) → ((a b : Files) → R a b → Q a b) → LeavesFiles before now tells R → LeavesFiles before now tells Q
+leaves_more None now tells R Q h l = l
+leaves_more (Some told) now tells R Q h l = λ t. let left = l t in (left.0, left.1, h _ _ left.2)
+
+call_outcome : (words : List (List ℕ)) (files : Files) (answers : List Answered) (kept : List GoalAnswer) (wanted : Outcome) (status : ℕ) (written now : Option (List ℕ)) (before after : Files) → answers ≡ numbered 0 kept
+    → IsWhole wanted status written now → IsOutcome words files kept wanted before after → IsCall words files answers status written now before after
+call_outcome words files answers kept wanted status written now before after e whole is world tree start same =
+    let io = is world tree start (λ i. same i ∙ by_number answers kept i e) in
+    (subst (λ (o : Outcome). IsWhole o status written now) io.0 whole, io.1)
+
+pub call_of : (told : Option Files) (words : List (List ℕ)) (answers : List Answered) (kept : List GoalAnswer) (out : Result Outcome OutOfMemory) (status : ℕ) (written now : Option (List ℕ)) (before after : Option ShelfTold) (tells : Bool) → answers ≡ numbered 0 kept
+    → IfSome told (λ files. IfOk out (λ wanted. wanted.status < 3 → LeavesFiles before after tells (IsOutcome words files kept wanted)))
+    → IfOk out (λ wanted. status < 3 → IsWhole wanted status written now) → (status < 3 → IsLow out)
+    → IfSome told (λ files. status < 3 → LeavesFiles before after tells (IsCall words files answers status written now))
+call_of None words answers kept out status written now before after tells e h whole low = tt
+call_of (Some files) words answers kept (Ok wanted) status written now before after tells e h whole low = λ l.
+    leaves_more before after tells (IsOutcome words files kept wanted) (IsCall words files answers status written now)
+    (λ a b r. call_outcome words files answers kept wanted status written now a b e (whole l) r) (h (low l))
+call_of (Some files) words answers kept (Err x) status written now before after tells e h whole low = λ l. absurd (low l)
+
+-- ---- what is written
+
+gains_nothing : (told : Option (List ℕ)) → told ≡ gains told []
+gains_nothing None = refl
+gains_nothing (Some told) = ap (λ (x : List ℕ). Some x) (sym (append-nil told))
+
+four_is_high : (n : ℕ) → n ≡ 4 → n < 3 → ⊥
+four_is_high n e lt = omega (arith, e, lt)
+
+four_is_not_three : (n : ℕ) → n ≡ 4 → n ≡ 3 → ⊥
+four_is_not_three n e f = omega (arith, e, f)
+
+pub none_ends : (wanted : Outcome) (status : ℕ) (written now : Option (List ℕ)) (sink_before sink_now : ℕ) → status ≡ 4 → now ≡ written → Ends wanted status written now sink_before sink_now
+none_ends wanted status written now sink_before sink_now four same = record {
+  cut = (0, same ∙ gains_nothing written);
+  whole = λ l. absurd (four_is_high status four l);
+  complete = λ d q l. absurd (d four);
+  fault = λ three d. absurd (four_is_not_three status four three);
+}
+
+pub call_ends : (told : Option Files) (words : List (List ℕ)) (answers : List Answered) (kept : List GoalAnswer) (out : Result Outcome OutOfMemory) (status : ℕ) (written now : Option (List ℕ)) (sink_before sink_now : ℕ) → answers ≡ numbered 0 kept
+    → IfOk out (λ wanted. wanted.status < 3 → ComesFrom told words kept wanted) → IfOk out (λ wanted. Ends wanted status written now sink_before sink_now) → (status < 3 → IsLow out) → HasNone out status written now
+    → (wanted : Outcome) × (status < 3 → ComesFrom told words (kept_answers answers) wanted) × Ends wanted status written now sink_before sink_now
+call_ends told words answers kept (Ok wanted) status written now sink_before sink_now e comes ends low none =
+    let same : kept_answers answers ≡ kept = ap kept_answers e ∙ kept_numbered 0 kept in
+    (wanted, λ l. subst (λ (k : List GoalAnswer). ComesFrom told words k wanted) (sym same) (comes (low l)), ends)
+call_ends told words answers kept (Err x) status written now sink_before sink_now e comes ends low none =
+    (not_built, λ l. absurd (low l), none_ends not_built status written now sink_before sink_now none.0 none.1)

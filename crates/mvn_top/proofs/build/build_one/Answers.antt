@@ -1,0 +1,61 @@
+use Rattle.std.proofs.Common.{◌≡◌, ◌<◌, ◌⊎◌, ℕ, List, Option, Bool, true, false, Result, Ok, Err, IfOk, OnOk, is_some, refl, ap, sym, subst, ◌∙◌}
+use Rattle.mvn_shared.specs.Cause.{HasRisen}
+use Rattle.mvn_outside.specs.declared.goal.GoalAnswer.{GoalAnswer}
+use Rattle.mvn_outside.specs.Shelf.{settled_all}
+use Rattle.one_hand.specs.Built.{LeavesFiles, EndsAfterFetch}
+use Rattle.mvn_top.specs.Ran.{is_clean, lacks_memory, clean_outcome, RanSo, RanAlways}
+use Rattle.mvn_top.proofs.Builds.{clean_quiet, leaves_settled, low_is_clean, three_is_faulty, whose_fault, if_ok_both, if_ok_under}
+use Rattle.mvn_top.proofs.Rans.{leaves_ran, always_ran}
+use Rattle.mvn_top.proofs.build.build_one.Goals as goal
+
+pub returns-clause-outcome : goal.returns-clause-outcome
+returns-clause-outcome g c =
+    let run = c.build_module-run.result in
+    let plan = c.args.plan.now in
+    let m = c.args.module.now in
+    let settled = c.settle-settled.result in
+    let told = g.S.Shelf.told c.args.shelf.now in
+    let middle = g.S.Shelf.told c.build_module-run.new.shelf in
+    let now = g.S.Shelf.told c.settle-settled.new.shelf in
+    let tells = is_some (g.S.Area.Area.contents c.args.hand.now.area) in
+    let result = c.outcome_of-outcome.result in
+    let clean = subst (λ (answers : List GoalAnswer). is_clean run.ending settled ≡ true → IfOk result (clean_outcome m answers run.ending)) c.as_slice.ensures c.outcome_of-outcome.ensures.clean in
+    if_ok_both (λ answer. is_clean run.ending settled ≡ true → clean_outcome m run.answers run.ending answer) (λ answer. is_clean run.ending settled ≡ false → answer.status ≡ 3) (λ answer. answer.status < 3 → LeavesFiles told now tells (RanSo plan run.answers answer)) result
+    (λ answer good bad low.
+    let e = low_is_clean run.ending settled answer (is_clean run.ending settled) refl bad low in
+    let both = clean_quiet run.ending settled e in
+    let done = subst (λ s. OnOk s (now ≡ settled_all middle)) both.0 c.settle-settled.ensures.ok in
+    leaves_settled told middle now tells (RanSo plan run.answers answer) (leaves_ran plan m run.answers run.own run.ending answer told middle tells c.requires.one (good e) (c.build_module-run.ensures.end both.1)) done)
+    (if_ok_under (clean_outcome m run.answers run.ending) result clean)
+    (if_ok_under (λ answer. answer.status ≡ 3) result c.outcome_of-outcome.ensures.fault)
+
+pub returns-clause-fault : goal.returns-clause-fault
+returns-clause-fault g c =
+    let run = c.build_module-run.result in
+    let plan = c.args.plan.now in
+    let m = c.args.module.now in
+    let settled = c.settle-settled.result in
+    let result = c.outcome_of-outcome.result in
+    let clean = subst (λ (answers : List GoalAnswer). is_clean run.ending settled ≡ true → IfOk result (clean_outcome m answers run.ending)) c.as_slice.ensures c.outcome_of-outcome.ensures.clean in
+    if_ok_both (λ answer. is_clean run.ending settled ≡ true → clean_outcome m run.answers run.ending answer) (λ answer. lacks_memory run.ending settled ≡ false) (λ answer. answer.status ≡ 3 → HasRisen (g.S.Shelf.faults c.args.shelf.now) (g.S.Shelf.faults c.settle-settled.new.shelf) ⊎ (HasRisen (g.S.Area.Area.faults c.args.hand.now.area) (g.S.Area.Area.faults c.build_module-run.new.hand.area) ⊎ HasRisen (g.G.Gate.faults c.args.hand.now.gate) (g.G.Gate.faults c.build_module-run.new.hand.gate))) result
+    (λ answer good memory three.
+    whose_fault run.ending settled (g.S.Shelf.faults c.args.shelf.now) (g.S.Shelf.faults c.build_module-run.new.shelf) (g.S.Shelf.faults c.settle-settled.new.shelf) (g.S.Area.Area.faults c.args.hand.now.area) (g.S.Area.Area.faults c.build_module-run.new.hand.area) (g.G.Gate.faults c.args.hand.now.gate) (g.G.Gate.faults c.build_module-run.new.hand.gate)
+    (three_is_faulty m run.answers run.ending settled plan answer (is_clean run.ending settled) refl good three) memory c.build_module-run.ensures.bare
+    c.build_module-run.ensures.shelf_cause c.settle-settled.ensures.cause c.build_module-run.ensures.area_cause c.build_module-run.ensures.gate_cause)
+    (if_ok_under (clean_outcome m run.answers run.ending) result clean)
+    c.outcome_of-outcome.ensures.memory
+
+pub returns-clause-always : goal.returns-clause-always
+returns-clause-always g c =
+    let run = c.build_module-run.result in
+    let plan = c.args.plan.now in
+    let m = c.args.module.now in
+    let settled = c.settle-settled.result in
+    let result = c.outcome_of-outcome.result in
+    let clean = subst (λ (answers : List GoalAnswer). is_clean run.ending settled ≡ true → IfOk result (clean_outcome m answers run.ending)) c.as_slice.ensures c.outcome_of-outcome.ensures.clean in
+    if_ok_both (λ answer. is_clean run.ending settled ≡ true → clean_outcome m run.answers run.ending answer) (λ answer. is_clean run.ending settled ≡ false → answer.status ≡ 3) (λ answer. answer.status < 3 → RanAlways plan run.answers answer) result
+    (λ answer good bad low.
+    let e = low_is_clean run.ending settled answer (is_clean run.ending settled) refl bad low in
+    always_ran plan m run.answers run.own run.ending answer c.requires.one (good e) (c.build_module-run.ensures.always (clean_quiet run.ending settled e).1))
+    (if_ok_under (clean_outcome m run.answers run.ending) result clean)
+    (if_ok_under (λ answer. answer.status ≡ 3) result c.outcome_of-outcome.ensures.fault)

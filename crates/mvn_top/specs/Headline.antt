@@ -1,0 +1,103 @@
+-- What a call answers and leaves, as a function of its words and of what stands outside. Own rules.
+use Rattle.std.specs.Prelude.{◌≡◌, ◌⊎◌, ◌<◌, ℕ, suc, Bool, List, [], ◌∷◌, map, Option, Some, None, Result, Ok, Err, IfSome}
+use Rattle.mvn_shared.specs.Files.{Files}
+use Rattle.mvn_outside.specs.declared.goal.GoalAnswer.{GoalAnswer}
+use Rattle.mvn_outside.specs.declared.goal.GoalRequest.{GoalRequest}
+use Rattle.build_core.specs.declared.plan.Plan.{Plan}
+use Rattle.build_core.specs.declared.plan.PlanModule.{PlanModule}
+use Rattle.build_core.specs.declared.event.Answered.{Answered}
+use Rattle.build_core.specs.OneThread.{Supply, answer_at, one_thread}
+use Rattle.one_hand.specs.Running.{nth_answer, AreAnswers}
+use Rattle.mvn_top.specs.declared.command.Command.{Command}
+use Rattle.mvn_top.specs.declared.outcome.Outcome.{Outcome}
+use Rattle.mvn_top.specs.Commands.{command_of}
+use Rattle.mvn_top.specs.Reading.{reading_of}
+use Rattle.mvn_top.specs.Sources.{sources_of}
+use Rattle.mvn_top.specs.Outcome.{not_built, planned}
+use Rattle.mvn_top.specs.Project.{GivesProject}
+use Rattle.mvn_top.specs.Ending.{IsWhole}
+use Rattle.mvn_top.specs.Ran.{ran, IsOne, RanAlways}
+
+-- what a call is given: the project's files, the repository's files at the start, the remote's, and the answers of the
+-- goals by module and goal
+pub record World : Type 0 where
+  pub tree : Files
+  pub start : Files
+  pub remote : Files
+  pub answers : ℕ → ℕ → GoalAnswer
+
+abbrev pub supply_of : World → Supply
+supply_of world = record { start = world.start; remote = world.remote; answers = world.answers }
+
+-- the plan for a command over a project of these files
+abbrev pub plan_with : Option Command → Files → Result Plan Outcome
+plan_with None files = Err not_built
+plan_with (Some c) files = planned c (reading_of files) (sources_of files)
+
+-- the plan for the words, or what is answered in its place
+abbrev pub plan_of : List (List ℕ) → Files → Result Plan Outcome
+plan_of words files = plan_with (command_of words) files
+
+-- what is answered of a plan, and the files that are left
+abbrev pub outcome_with : World → Result Plan Outcome → Outcome
+outcome_with world (Err answer) = answer
+outcome_with world (Ok plan) = ran plan (supply_of world)
+
+abbrev pub files_with : World → Result Plan Outcome → Files
+files_with world (Err answer) = world.start
+files_with world (Ok plan) = (one_thread plan (supply_of world)).files
+
+-- the outcome of a call: its text and its status
+abbrev pub outcome : List (List ℕ) → World → Outcome
+outcome words world = outcome_with world (plan_of words world.tree)
+
+-- the repository's files that it leaves
+abbrev pub files_after : List (List ℕ) → World → Files
+files_after words world = files_with world (plan_of words world.tree)
+
+-- a plan of one module that needs nothing of the repository
+abbrev pub IsSingle : Plan → Type 0
+IsSingle plan = (m : PlanModule) × IsOne plan m
+
+-- the answers are the gate's, to the requests that the definition names
+abbrev pub AnswersFit : (GoalRequest → GoalAnswer → Bool) → Plan → List GoalAnswer → Type 0
+AnswersFit test plan answers = (m : PlanModule) → plan.modules ≡ m ∷ [] → AreAnswers test m answers
+
+-- the answer is the outcome, and the files are those that it leaves, of all worlds with these files and answers
+abbrev pub IsOutcome : List (List ℕ) → (tree : Files) → List GoalAnswer → Outcome → (before after : Files) → Type 0
+IsOutcome words tree answers answer before after = (world : World) → world.tree ≡ tree → world.start ≡ before → ((i : ℕ) → world.answers 0 i ≡ nth_answer answers i)
+    → (answer ≡ outcome words world) × (files_after words world ≡ after)
+
+-- over any tree: where the answer comes from
+abbrev pub ComesFrom : Option Files → List (List ℕ) → List GoalAnswer → Outcome → Type 0
+ComesFrom told words answers answer = ((command_of words ≡ None) × (answer ≡ not_built))
+    ⊎ ((c : Command) × (command_of words ≡ Some c) × (GivesProject told c (Err answer) ⊎ ((plan : Plan) × GivesProject told c (Ok plan) × RanAlways plan answers answer)))
+
+-- the answers of the first module's goals, the first of which has this number
+abbrev pub numbered : ℕ → List GoalAnswer → List Answered
+numbered n [] = []
+numbered n (answer ∷ answers) = (record { «module» = 0; goal = n; answer = answer }) ∷ numbered (suc n) answers
+
+-- Of all worlds with these files and answers: the status and what is written are those of the outcome, and the files are
+-- those that it leaves.
+abbrev pub IsCall : List (List ℕ) → (tree : Files) → List Answered → (status : ℕ) → (written now : Option (List ℕ)) → (before after : Files) → Type 0
+IsCall words tree answers status written now before after = (world : World) → world.tree ≡ tree → world.start ≡ before → ((i : ℕ) → world.answers 0 i ≡ answer_at answers 0 i)
+    → IsWhole (outcome words world) status written now × (files_after words world ≡ after)
+
+-- the answers alone, in order
+abbrev pub kept_answers : List Answered → List GoalAnswer
+kept_answers answers = map (λ a. a.answer) answers
+
+-- what holds of the first of a list, of the first before and after, and of all others
+abbrev pub OfFirst : {A : Type 0} → List A → (A → Type 0) → Type 0
+OfFirst [] P = Unit {0}
+OfFirst (a ∷ items) P = P a
+
+abbrev pub OfFirsts : {A : Type 0} → (before now : List A) → (A → A → Type 0) → Type 0
+OfFirsts (a ∷ before) (b ∷ now) R = R a b
+OfFirsts before now R = Unit {0}
+
+abbrev pub SameOthers : {A : Type 0} → (before now : List A) → Type 0
+SameOthers [] now = now ≡ []
+SameOthers (a ∷ before) [] = ⊥
+SameOthers (a ∷ before) (b ∷ now) = now ≡ before

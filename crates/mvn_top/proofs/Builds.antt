@@ -1,7 +1,6 @@
 -- What building, settling and answering make together.
-use Rattle.std.proofs.Common.{◌≡◌, ◌⊎◌, inl, inr, ℕ, ◌+◌, ◌<◌, ◌≤◌, min, Bool, true, false, cond, length, List, [], ◌∷◌, Option, Some, None, Result, Ok, Err, IfOk, OnOk, refl, sym, ap, subst, ◌∙◌, arith}
-use Rattle.std.specs.List.{list_all}
-use Rattle.mvn_shared.specs.Cause.{HasCause, HasRisen, last_count}
+use Rattle.std.proofs.Common.{◌≡◌, ◌⊎◌, inl, inr, ℕ, ◌<◌, ◌≤◌, Bool, true, false, cond, length, List, Option, Some, None, Result, Ok, Err, IfOk, refl, sym, ap, subst, ◌∙◌, arith}
+use Rattle.mvn_shared.specs.Cause.{HasCause, HasRisen}
 use Rattle.mvn_shared.specs.Files.{Files}
 use Rattle.mvn_outside.specs.declared.goal.GoalAnswer.{GoalAnswer}
 use Rattle.mvn_outside.specs.declared.shelf.ShelfTold.{ShelfTold}
@@ -12,13 +11,10 @@ use Rattle.mvn_outside.specs.Shelf.{settled_all}
 use Rattle.build_core.specs.declared.plan.Plan.{Plan}
 use Rattle.build_core.specs.declared.plan.PlanModule.{PlanModule}
 use Rattle.build_core.specs.declared.ending.Device.TheVariants.{Remote, Area, Shelf, Gate}
-use Rattle.build_core.specs.declared.ending.State.{State}
-use Rattle.build_core.specs.declared.ending.State.TheVariants.{Ended}
 use Rattle.build_core.specs.declared.ending.Ending.{Ending}
 use Rattle.build_core.specs.declared.ending.Ending.TheVariants as ending
 use Rattle.one_hand.specs.Built.{is_quiet, is_bare_ending, is_area_fault, is_shelf_fault, is_gate_fault, LeavesFiles}
 use Rattle.mvn_top.specs.declared.outcome.Outcome.{Outcome}
-use Rattle.mvn_top.specs.Rows.{states_status}
 use Rattle.mvn_top.specs.Ran.{is_clean, lacks_memory, clean_outcome}
 
 pub clean_quiet : (end : Ending) (settled : Result (Unit {0}) DeviceFault) → is_clean end settled ≡ true → (settled ≡ Ok tt) × (is_quiet end ≡ true)

@@ -1,5 +1,5 @@
 -- The elements of a plain text, read one after another.
-use Rattle.std.proofs.Common.{◌≡◌, ℕ, suc, ◌+◌, ◌-◌, ◌<◌, List, [], ◌∷◌, ◌++◌, Some, None, Option, refl, sym, ap, ◌∙◌, arith, append_assoc}
+use Rattle.std.proofs.Common.{◌≡◌, ℕ, suc, ◌+◌, ◌-◌, ◌<◌, List, [], ◌∷◌, ◌++◌, Some, None, Option, sym, ap, ◌∙◌, arith, append_assoc}
 use Rattle.mvn_top.specs.Plain.{Value}
 use Rattle.mvn_top.specs.Elements.{any_element, elements, onto}
 

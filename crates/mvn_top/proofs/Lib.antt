@@ -1,11 +1,13 @@
 pub mod Builds
 pub mod Calls
 pub mod Elements
+pub mod Onces
 pub mod Planned
 pub mod Projects
 pub mod Rans
 pub mod Readings
 pub mod SourcesRead
+pub mod Stops
 pub mod Tops
 pub mod Valid
 pub mod Spelling

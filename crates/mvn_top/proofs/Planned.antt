@@ -1,5 +1,5 @@
 -- The plan of a module by what reading its sources gave.
-use Rattle.std.proofs.Common.{◌≡◌, ◌⊎◌, inl, inr, ℕ, Bool, true, false, List, [], Option, Some, None, Result, Ok, Err, IfSome, refl, sym, ap, subst, ◌∙◌}
+use Rattle.std.proofs.Common.{◌≡◌, inl, inr, ℕ, true, false, List, [], Option, Some, None, Result, Ok, Err, IfSome, refl, sym, ap, subst, ◌∙◌}
 use Rattle.mvn_shared.specs.Cause.{HasCause}
 use Rattle.mvn_shared.specs.Files.{Files}
 use Rattle.mvn_base.specs.declared.gav.Gav.{Gav}
@@ -12,7 +12,7 @@ use Rattle.mvn_top.specs.declared.sources.SourcesFault.{SourcesFault}
 use Rattle.mvn_top.specs.declared.sources.SourcesFault.TheVariants.{Failed, TooMany, Memory}
 use Rattle.mvn_top.specs.Planning.{plan_for}
 use Rattle.mvn_top.specs.Sources.{sources_of, sources_failed, GivesSources}
-use Rattle.mvn_top.specs.Outcome.{fault_tree, refused, too_many_sources, sources_for, planned_of}
+use Rattle.mvn_top.specs.Outcome.{fault_tree, refused, too_many_sources}
 use Rattle.mvn_top.specs.Project.{PlannedFrom, GivesModule, plan_failed}
 use Rattle.mvn_top.proofs.SourcesRead.{if_some_map}
 

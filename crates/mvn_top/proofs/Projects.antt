@@ -1,5 +1,5 @@
 -- A project's plan by what reading its POM gave.
-use Rattle.std.proofs.Common.{◌≡◌, ◌⊎◌, inl, inr, ℕ, ◌<◌, Bool, true, false, ◌==◌, not, if◌then◌else◌, cond, List, [], codes, length, Option, Some, None, Result, Ok, Err, IfSome, refl, sym, ap, subst, ◌∙◌, arith}
+use Rattle.std.proofs.Common.{◌≡◌, inl, inr, ℕ, Bool, true, false, ◌==◌, not, cond, List, length, Option, Some, None, Result, Ok, Err, IfSome, refl, sym, ap, subst, ◌∙◌}
 use Rattle.mvn_shared.specs.Cause.{HasCause}
 use Rattle.mvn_shared.specs.Files.{Files}
 use Rattle.mvn_base.specs.declared.gav.Gav.{Gav}
@@ -8,7 +8,6 @@ use Rattle.mvn_base.specs.declared.rule.Rule.TheVariants as rule
 use Rattle.mvn_base.specs.declared.refusal.Place.{Place}
 use Rattle.mvn_base.specs.declared.refusal.Place.TheVariants.{Byte, Name}
 use Rattle.mvn_base.specs.Names.{is_filled}
-use Rattle.mvn_outside.specs.declared.goal.SourceFile.{SourceFile}
 use Rattle.build_core.specs.declared.plan.Plan.{Plan}
 use Rattle.mvn_top.specs.declared.command.Command.{Command}
 use Rattle.mvn_top.specs.declared.plain.Field.TheVariants.{GroupId, Version, ArtifactId}
@@ -21,7 +20,7 @@ use Rattle.mvn_top.specs.Reading.{reading_of, pom_path, Agrees, is_faulty}
 use Rattle.mvn_top.specs.Sources.{sources_of}
 use Rattle.mvn_top.specs.Outcome.{fault_tree, not_built, refused, missing_field, of_elements, of_plain, of_text, of_pom, pom_bytes, sources_for, planned_of, planned_with}
 use Rattle.mvn_top.specs.Project.{GivesModule, GivesProject, plan_failed}
-use Rattle.mvn_top.proofs.SourcesRead.{if_some_map, if_some_both}
+use Rattle.mvn_top.proofs.SourcesRead.{if_some_both}
 use Rattle.mvn_top.proofs.Planned.{told_sources}
 
 -- a reading that has a module is that of the files

@@ -1,5 +1,5 @@
 -- A plan of one module, built by one hand.
-use Rattle.std.proofs.Common.{◌≡◌, ℕ, Bool, true, false, not, List, [], ◌∷◌, ◌++◌, fold, find, slice_get, length, Option, Some, None, refl, sym, ap, subst, ◌∙◌}
+use Rattle.std.proofs.Common.{◌≡◌, ℕ, Bool, not, List, [], ◌∷◌, fold, find, slice_get, length, Option, Some, None, refl, sym, ap, subst, ◌∙◌}
 use Rattle.std.specs.List.{slice_index_or}
 use Rattle.mvn_shared.specs.Files.{Files}
 use Rattle.mvn_outside.specs.declared.goal.OwnBytes.{OwnBytes}
@@ -11,10 +11,9 @@ use Rattle.build_core.specs.declared.ending.Ending.{Ending}
 use Rattle.build_core.specs.declared.ending.Ending.TheVariants as ending
 use Rattle.build_core.specs.declared.ending.State.{State}
 use Rattle.build_core.specs.declared.ending.State.TheVariants.{Waiting, Skipped, Ended}
-use Rattle.build_core.specs.OneThread.{Supply, Progress, Fetched, beginning, ends, fetched, after_fetch, one_module, is_built, first_unbuilt, next_module, run_modules, one_thread}
+use Rattle.build_core.specs.OneThread.{Supply, Progress, Fetched, beginning, ends, fetched, after_fetch, one_module, is_built, first_unbuilt, next_module, one_thread}
 use Rattle.run_report.specs.declared.row.RowEnd.{RowEnd}
 use Rattle.run_report.specs.declared.row.RowEnd.TheVariants as row
-use Rattle.run_report.specs.declared.row.ReportRow.{ReportRow}
 use Rattle.run_report.specs.Report.{report_text}
 use Rattle.one_hand.specs.Running.{nth_answer}
 use Rattle.one_hand.specs.Built.{LeavesFiles, EndsAfterFetch}

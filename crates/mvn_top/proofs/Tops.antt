@@ -1,9 +1,8 @@
 -- From the words to the outcome: what is answered without a build, and the plan that a build is given.
-use Rattle.std.proofs.Common.{◌≡◌, ◌⊎◌, inl, inr, ℕ, ◌<◌, ◌≤◌, Bool, true, false, not, ◌==◌, cond, length, List, [], ◌∷◌, Option, Some, None, Result, Ok, Err, IfOk, IfSome, refl, sym, ap, subst, ◌∙◌, arith}
+use Rattle.std.proofs.Common.{◌≡◌, inl, inr, ℕ, ◌<◌, ◌≤◌, Bool, true, false, not, ◌==◌, cond, length, List, Option, Some, None, Result, Ok, Err, IfOk, IfSome, refl, sym, ap, subst, ◌∙◌, arith}
 use Rattle.mvn_shared.specs.Files.{Files}
 use Rattle.mvn_base.specs.declared.gav.Gav.{Gav}
 use Rattle.mvn_base.specs.declared.rule.Rule.{Rule}
-use Rattle.mvn_base.specs.declared.rule.Rule.TheVariants as rule
 use Rattle.mvn_base.specs.declared.refusal.Place.{Place}
 use Rattle.mvn_base.specs.Names.{is_filled}
 use Rattle.mvn_outside.specs.declared.goal.SourceFile.{SourceFile}
@@ -11,9 +10,8 @@ use Rattle.mvn_outside.specs.declared.goal.GoalAnswer.{GoalAnswer}
 use Rattle.mvn_outside.specs.declared.shelf.ShelfTold.{ShelfTold}
 use Rattle.mvn_outside.specs.GoalRules.{goal_rule, maven_goals}
 use Rattle.build_core.specs.declared.plan.Plan.{Plan}
-use Rattle.build_core.specs.declared.plan.PlanModule.{PlanModule}
-use Rattle.one_hand.specs.Running.{nth_answer, HasNoPom}
-use Rattle.one_hand.specs.Built.{IsBare, LeavesFiles}
+use Rattle.one_hand.specs.Running.{HasNoPom}
+use Rattle.one_hand.specs.Built.{LeavesFiles}
 use Rattle.mvn_top.specs.declared.command.Command.{Command}
 use Rattle.mvn_top.specs.declared.command.Command.TheVariants.{Validate, Install}
 use Rattle.mvn_top.specs.declared.plain.Field.TheVariants.{GroupId, Version, ArtifactId}
@@ -22,14 +20,15 @@ use Rattle.mvn_top.specs.declared.reading.Reading.{Reading}
 use Rattle.mvn_top.specs.declared.reading.Reading.TheVariants.{Faulty, TooLong, Missing, Found}
 use Rattle.mvn_top.specs.Plain.{Value}
 use Rattle.mvn_top.specs.Elements.{text_of, plain_of}
-use Rattle.mvn_top.specs.Reading.{reading_of, pom_path}
+use Rattle.mvn_top.specs.Reading.{reading_of}
 use Rattle.mvn_top.specs.Sources.{sources_of}
 use Rattle.mvn_top.specs.Commands.{command_of}
-use Rattle.mvn_top.specs.Planning.{bound_call, jar_goals, goals_for, module_for, plan_for}
+use Rattle.mvn_top.specs.Planning.{jar_goals, goals_for, module_for, plan_for}
 use Rattle.mvn_top.specs.Outcome.{fault_tree, not_built, refused, missing_field, too_many_sources, of_elements, of_plain, of_text, of_pom, pom_bytes, sources_for, planned_of, planned_with, planned}
 use Rattle.mvn_top.specs.Project.{GivesProject}
-use Rattle.mvn_top.specs.Ran.{ran, IsOne, RanSo}
-use Rattle.mvn_top.specs.Headline.{World, supply_of, plan_with, plan_of, outcome_with, files_with, IsSingle, IsOutcome}
+use Rattle.mvn_top.specs.Ran.{IsOne, RanSo}
+use Rattle.mvn_top.proofs.Onces.{file_names_distinct}
+use Rattle.mvn_top.specs.Headline.{supply_of, plan_with, plan_of, outcome_with, files_with, IsSingle, IsOutcome}
 
 pub if_some_all : {A : Type 0} (P : A → Type 0) (o : Option A) → ((a : A) → P a) → IfSome o P
 if_some_all P None h = tt
@@ -117,6 +116,7 @@ plan_is_one c gav pom sources = record {
   bare = record { few = few_goals c; no_pom = no_pom_goals c; names = refl; no_entries = refl };
   no_fetch = refl;
   no_upstream = refl;
+  distinct = file_names_distinct gav;
 }
 
 abbrev plan_in : Plan → Result Plan Outcome → Plan

@@ -1,9 +1,9 @@
 -- The coordinates of a plain POM are valid.
-use Rattle.std.proofs.Common.{◌≡◌, ℕ, Bool, true, false, not, ◌&&◌, ◌||◌, ◌==◌, nat_eq, if◌then◌else◌, List, codes, length, Option, Some, None, Result, Ok, Err, unwrap_or, refl, sym, ap, subst, ◌∙◌, arith}
+use Rattle.std.proofs.Common.{◌≡◌, ℕ, Bool, true, false, ◌&&◌, ◌||◌, ◌==◌, nat_eq, if◌then◌else◌, List, codes, length, Option, Some, None, Result, Ok, Err, unwrap_or, refl, sym, ap, subst, ◌∙◌}
 use Rattle.std.specs.Cmp.Lexicographic.{pointwise}
 use Rattle.mvn_base.specs.declared.gav.Gav.{Gav}
 use Rattle.mvn_base.specs.FileName.{IsValid}
-use Rattle.mvn_base.specs.Names.{is_filled, is_group, is_name, is_version}
+use Rattle.mvn_base.specs.Names.{is_group, is_name, is_version}
 use Rattle.mvn_top.specs.declared.plain.Field.TheVariants.{ModelVersion, GroupId, Version, ArtifactId}
 use Rattle.mvn_top.specs.declared.outcome.Outcome.{Outcome}
 use Rattle.mvn_top.specs.declared.reading.Reading.{Reading}

@@ -1,5 +1,5 @@
 -- The elements of a plain text. Own profile.
-use Rattle.std.specs.Prelude.{ℕ, zero, suc, Bool, true, false, not, ◌&&◌, ◌||◌, ◌==◌, nat_le, nat_eq, List, [], ◌∷◌, length, drop, take, codes, Option, Some, None, if◌then◌else◌, count_by, map}
+use Rattle.std.specs.Prelude.{ℕ, zero, suc, Bool, not, ◌&&◌, ◌||◌, nat_le, nat_eq, List, [], ◌∷◌, drop, codes, Option, Some, None, if◌then◌else◌, count_by}
 use Rattle.std.specs.List.{prefix_len, take_while}
 use Rattle.std.specs.Option.{option_or}
 use Rattle.std.specs.Cmp.Lexicographic.{pointwise}
@@ -7,7 +7,7 @@ use Rattle.mvn_base.specs.Names.{is_filled, is_name, is_group, is_version}
 use Rattle.mvn_top.specs.declared.plain.Field.{Field}
 use Rattle.mvn_top.specs.declared.plain.Field.TheVariants.{ModelVersion, GroupId, Version, ArtifactId}
 use Rattle.mvn_top.specs.declared.plain.Element.{Element}
-use Rattle.mvn_top.specs.Plain.{◌>>=◌, after, is_space, is_value_byte, skip_space, open_tag, close_tag, same_field, Value}
+use Rattle.mvn_top.specs.Plain.{◌>>=◌, after, is_value_byte, skip_space, open_tag, close_tag, same_field, Value}
 use denote.Ref.{Bor}
 
 -- an element, without where its text lies in memory

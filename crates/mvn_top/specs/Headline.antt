@@ -1,5 +1,5 @@
 -- What a call answers and leaves, as a function of its words and of what stands outside. Own rules.
-use Rattle.std.specs.Prelude.{◌≡◌, ◌⊎◌, ◌<◌, ℕ, suc, Bool, List, [], ◌∷◌, map, Option, Some, None, Result, Ok, Err, IfSome}
+use Rattle.std.specs.Prelude.{◌≡◌, ◌⊎◌, ℕ, suc, Bool, List, [], ◌∷◌, map, Option, Some, None, Result, Ok, Err}
 use Rattle.mvn_shared.specs.Files.{Files}
 use Rattle.mvn_outside.specs.declared.goal.GoalAnswer.{GoalAnswer}
 use Rattle.mvn_outside.specs.declared.goal.GoalRequest.{GoalRequest}

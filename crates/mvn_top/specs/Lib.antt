@@ -9,6 +9,7 @@ pub mod Commands
 pub mod Elements
 pub mod Ending
 pub mod Headline
+pub mod Once
 pub mod Outcome
 pub mod Plain
 pub mod Planning

@@ -1,6 +1,6 @@
 -- The plain texts: POMs of white space and at most four elements. Own profile, of XML 1.0 and the POM Reference.
-use Rattle.std.specs.Prelude.{◌≡◌, ℕ, Bool, true, false, not, ◌&&◌, ◌||◌, ◌==◌, nat_eq, nat_le, ◌+◌, ◌≤◌, ◌<◌, List, [], ◌∷◌, ◌++◌, length, take, drop, codes, Option, Some, None, option_and_then, unwrap_or, if◌then◌else◌, find, count_by, flat_map}
-use Rattle.std.specs.List.{starts_with, prefix_len, list_all, AllPass}
+use Rattle.std.specs.Prelude.{ℕ, Bool, true, false, ◌||◌, ◌==◌, nat_eq, List, length, drop, codes, Option, Some, None, option_and_then, if◌then◌else◌}
+use Rattle.std.specs.List.{starts_with, prefix_len}
 use Rattle.std.specs.Char.{is_ascii_alphanumeric}
 use Rattle.mvn_top.specs.declared.plain.Field.{Field}
 use Rattle.mvn_top.specs.declared.plain.Field.TheVariants.{ModelVersion, GroupId, Version, ArtifactId}

@@ -1,6 +1,6 @@
 -- The plan of a project of one module without dependencies. Introduction to the Build Lifecycle, "Built-in Lifecycle
 -- Bindings"; the numbers are own.
-use Rattle.std.specs.Prelude.{ℕ, ◌+◌, Bool, true, false, List, [], ◌∷◌, ◌++◌, length, codes, Option, Some, None, unwrap_or}
+use Rattle.std.specs.Prelude.{ℕ, ◌+◌, Bool, true, false, List, [], ◌∷◌, ◌++◌, length, codes, unwrap_or}
 use Rattle.mvn_base.specs.declared.gav.Gav.{Gav}
 use Rattle.mvn_base.specs.declared.phase.Phase.TheVariants.{Validate}
 use Rattle.mvn_base.specs.Gav.{gav_text}

@@ -1,10 +1,7 @@
 -- What a build of a plan answers, and what it leaves of the repository. Own rules.
-use Rattle.std.specs.Prelude.{◌≡◌, ◌⊎◌, ◌<◌, ℕ, Bool, true, false, List, [], ◌∷◌, ◌++◌, map, Option, Some, None, Result, Ok, Err, IfSome}
-use Rattle.mvn_shared.specs.declared.memory.OutOfMemory.{OutOfMemory}
+use Rattle.std.specs.Prelude.{◌≡◌, ℕ, Bool, true, false, List, [], ◌∷◌, map, Result, Ok, Err}
 use Rattle.mvn_shared.specs.Files.{Files}
 use Rattle.mvn_outside.specs.declared.goal.GoalAnswer.{GoalAnswer}
-use Rattle.mvn_outside.specs.declared.shelf.Published.{Published}
-use Rattle.mvn_outside.specs.declared.shelf.ShelfTold.{ShelfTold}
 use Rattle.mvn_outside.specs.declared.fault.DeviceFault.{DeviceFault}
 use Rattle.mvn_outside.specs.declared.fault.DeviceFault.TheVariants as fault
 use Rattle.build_core.specs.declared.plan.Plan.{Plan}
@@ -12,11 +9,12 @@ use Rattle.build_core.specs.declared.plan.PlanModule.{PlanModule}
 use Rattle.build_core.specs.declared.ending.Ending.{Ending}
 use Rattle.build_core.specs.declared.ending.Ending.TheVariants as ending
 use Rattle.build_core.specs.declared.ending.State.TheVariants.{Ended}
-use Rattle.build_core.specs.OneThread.{Supply, one_thread}
+use Rattle.build_core.specs.OneThread.{Supply, name_of, one_thread}
 use Rattle.run_report.specs.Report.{report_text}
 use Rattle.one_hand.specs.Running.{nth_answer}
 use Rattle.one_hand.specs.Built.{is_quiet, IsBare}
 use Rattle.mvn_top.specs.declared.outcome.Outcome.{Outcome}
+use Rattle.mvn_top.specs.Once.{IsDistinct}
 use Rattle.mvn_top.specs.Rows.{rows, bare_row, ending_row, states_status}
 
 -- the report of the build by one hand, and its status
@@ -32,6 +30,7 @@ pub record IsOne (plan : Plan) (m : PlanModule) : Type 0 where
   pub bare : IsBare plan m
   pub no_fetch : m.fetch ≡ []
   pub no_upstream : m.upstream ≡ []
+  pub distinct : IsDistinct (map (λ o. name_of plan o.file) m.own)
 
 -- the module ended quietly, and what was published is settled
 abbrev pub is_clean : Ending → Result (Unit {0}) DeviceFault → Bool

@@ -1,5 +1,5 @@
 -- What the report says of a build's modules. Own format.
-use Rattle.std.specs.Prelude.{ℕ, suc, Bool, List, [], ◌∷◌, ◌++◌, slice_get, Option, Some, None, if◌then◌else◌}
+use Rattle.std.specs.Prelude.{ℕ, suc, List, [], ◌∷◌, ◌++◌, slice_get, Option, Some, None, if◌then◌else◌}
 use Rattle.std.specs.List.{slice_index_or, list_all}
 use Rattle.mvn_outside.specs.declared.goal.GoalCall.{GoalCall}
 use Rattle.mvn_outside.specs.declared.goal.GoalAnswer.{GoalAnswer}

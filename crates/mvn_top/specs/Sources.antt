@@ -1,10 +1,10 @@
 -- The sources of a project: the files below its four folders. Maven's Standard Directory Layout; the limits are own.
-use Rattle.std.specs.Prelude.{◌≡◌, ℕ, ◌+◌, ◌<◌, ◌≤◌, Bool, true, false, ◌||◌, nat_lt, List, [], ◌∷◌, ◌++◌, length, flat_map, codes, Option, Some, None, option_map, Result, Ok, Err, IfSome, if◌then◌else◌}
+use Rattle.std.specs.Prelude.{◌≡◌, ℕ, ◌+◌, ◌<◌, ◌≤◌, Bool, true, false, ◌||◌, nat_lt, List, [], ◌∷◌, ◌++◌, length, flat_map, codes, Option, Some, None, option_map, Result, Ok, Err, if◌then◌else◌}
 use Rattle.std.specs.List.{filter_map}
 use Rattle.mvn_shared.specs.Files.{Files, file_at, names_below}
 use Rattle.mvn_outside.specs.declared.goal.SourceFile.{SourceFile}
 use Rattle.mvn_top.specs.declared.sources.SourcesFault.{SourcesFault}
-use Rattle.mvn_top.specs.declared.sources.SourcesFault.TheVariants.{Failed, TooMany, Memory}
+use Rattle.mvn_top.specs.declared.sources.SourcesFault.TheVariants.{Failed, TooMany}
 
 -- the folders, in the order of their names
 abbrev pub source_folders : List (List ℕ)

@@ -5,6 +5,7 @@ ghost use Rattle.mvn_outside.specs.Shelf.{IsSettled};
 ghost use Rattle.one_hand.specs.Running.{AreAnswers};
 ghost use Rattle.one_hand.specs.Built.{is_quiet, is_bare_ending, LeavesFiles};
 ghost use Rattle.mvn_top.specs.Headline.{IsSingle, AnswersFit};
+ghost use Rattle.mvn_top.specs.Once.{PublishesOnce};
 ghost use Rattle.mvn_top.specs.Ran.{is_clean, clean_outcome, is_memory, lacks_memory, IsOne, RanSo, RanAlways};
 ghost use Rattle.mvn_top.specs.Rows.{states_status};
 ghost use Rattle.build_core.specs.declared.ending.State.TheVariants.{Ended};
@@ -114,6 +115,7 @@ fn build_one<R, S: Shelf, G: Gate>(
     ensures outcome { IfOk result.outcome (λ answer. answer.status < 3 → LeavesFiles (S.told shelf.old) (S.told shelf.new) (is_some (S.Area.contents hand.old.area)) (RanSo plan.now result.answers answer)) }
     ensures bound { IfOk result.outcome (λ answer. answer.status ≤ 3) }
     ensures always { IfOk result.outcome (λ answer. answer.status < 3 → RanAlways plan.now result.answers answer) }
+    ensures once { PublishesOnce (S.told shelf.old) (S.told shelf.new) }
     ensures settled { IfOk result.outcome (λ answer. answer.status < 3 → IfSome (S.told shelf.new) IsSettled) }
     ensures answers { IfSome (G.answers hand.old.gate) (λ test. AreAnswers test module.now result.answers) }
     ensures quiet { IfOk result.outcome (λ answer. answer.status < 3 → (S.faults shelf.new ≡ S.faults shelf.old) × (S.Area.faults hand.new.area ≡ S.Area.faults hand.old.area) × (G.faults hand.new.gate ≡ G.faults hand.old.gate)) }
@@ -160,6 +162,7 @@ fn build_swept<R, S: Shelf, G: Gate>(
     ensures outcome { IfOk result.outcome (λ answer. answer.status < 3 → LeavesFiles (S.told shelf.old) (S.told shelf.new) (is_some (S.Area.contents hand.old.area)) (RanSo plan.now result.answers answer)) }
     ensures bound { IfOk result.outcome (λ answer. answer.status ≤ 3) }
     ensures always { IfOk result.outcome (λ answer. answer.status < 3 → RanAlways plan.now result.answers answer) }
+    ensures once { PublishesOnce (S.told shelf.old) (S.told shelf.new) }
     ensures settled { IfOk result.outcome (λ answer. answer.status < 3 → IfSome (S.told shelf.new) IsSettled) }
     ensures answers { IfSome (G.answers hand.old.gate) (λ test. AnswersFit test plan.now result.answers) }
     ensures quiet { IfOk result.outcome (λ answer. answer.status < 3 → (S.faults shelf.new ≡ S.faults shelf.old) × (S.Area.faults hand.new.area ≡ S.Area.faults hand.old.area) × (G.faults hand.new.gate ≡ G.faults hand.old.gate)) }
@@ -183,6 +186,7 @@ pub fn build_plan<R, S: Shelf, G: Gate>(
     ensures outcome { IfOk result.outcome (λ answer. answer.status < 3 → LeavesFiles (S.told shelf.old) (S.told shelf.new) (is_some (S.Area.contents hand.old.area)) (RanSo plan.now result.answers answer)) }
     ensures bound { IfOk result.outcome (λ answer. answer.status ≤ 3) }
     ensures always { IfOk result.outcome (λ answer. answer.status < 3 → RanAlways plan.now result.answers answer) }
+    ensures once { PublishesOnce (S.told shelf.old) (S.told shelf.new) }
     ensures settled { IfOk result.outcome (λ answer. answer.status < 3 → IfSome (S.told shelf.new) IsSettled) }
     ensures answers { IfSome (G.answers hand.old.gate) (λ test. AnswersFit test plan.now result.answers) }
     ensures quiet { IfOk result.outcome (λ answer. answer.status < 3 → (S.faults shelf.new ≡ S.faults shelf.old) × (S.Area.faults hand.new.area ≡ S.Area.faults hand.old.area) × (G.faults hand.new.gate ≡ G.faults hand.old.gate)) }

@@ -4,6 +4,7 @@ ghost use Rattle.mvn_outside.specs.Shelf.{IsSettled};
 ghost use Rattle.build_core.specs.declared.plan.Plan.{Plan};
 ghost use Rattle.one_hand.specs.Built.{LeavesFiles};
 ghost use Rattle.mvn_top.specs.declared.outcome.Outcome.{Outcome};
+ghost use Rattle.mvn_top.specs.Once.{PublishesOnce, StopsBetween};
 ghost use Rattle.mvn_top.specs.Ending.{IsWhole, Ends, IsLow, IsFault, HasNone};
 ghost use Rattle.mvn_top.specs.Headline.{numbered, kept_answers, IsCall, plan_of, IsOutcome, AnswersFit, ComesFrom, OfFirst, OfFirsts, SameOthers};
 
@@ -29,6 +30,7 @@ fn build<T: Tree, R, S: Shelf, G: Gate>(
         → LeavesFiles (S.told shelf.old) (S.told shelf.new) (is_some (S.Area.contents hand.old.area)) (IsOutcome words.now files result.answers answer))) }
     ensures bound { IfOk result.outcome (λ answer. answer.status ≤ 3) }
     ensures comes { IfOk result.outcome (λ answer. answer.status < 3 → ComesFrom (T.files tree.old) words.now result.answers answer) }
+    ensures once { PublishesOnce (S.told shelf.old) (S.told shelf.new) }
     ensures settled { IfOk result.outcome (λ answer. answer.status < 2 → IfSome (S.told shelf.new) IsSettled) }
     ensures answers { IfSome (T.files tree.old) (λ files. IfSome (G.answers hand.old.gate) (λ test. (plan : Plan) → plan_of words.now files ≡ Ok plan → AnswersFit test plan result.answers)) }
     ensures quiet { IfOk result.outcome (λ answer. answer.status < 3 → (T.faults tree.new ≡ T.faults tree.old) × (S.faults shelf.new ≡ S.faults shelf.old) × (S.Area.faults hand.new.area ≡ S.Area.faults hand.old.area) × (G.faults hand.new.gate ≡ G.faults hand.old.gate)) }
@@ -107,6 +109,7 @@ fn call_hand<T: Tree, R, S: Shelf, G: Gate, O: Sink>(
         → LeavesFiles (S.told shelf) (S.told result.shelf) (is_some (S.Area.contents hand.old.area)) (IsCall words.now files result.answers result.status (O.written out.old) (O.written out.new))) }
     ensures ends { (wanted : Outcome) × (result.status < 3 → ComesFrom (T.files tree.old) words.now (kept_answers result.answers) wanted)
         × Ends wanted result.status (O.written out.old) (O.written out.new) (O.faults out.old) (O.faults out.new) }
+    ensures once { PublishesOnce (S.told shelf) (S.told result.shelf) }
     ensures settled { result.status < 2 → IfSome (S.told result.shelf) IsSettled }
     ensures answers { IfSome (T.files tree.old) (λ files. IfSome (G.answers hand.old.gate) (λ test. (plan : Plan) → plan_of words.now files ≡ Ok plan → AnswersFit test plan (kept_answers result.answers))) }
     ensures quiet { result.status < 3 → (T.faults tree.new ≡ T.faults tree.old) × (S.faults result.shelf ≡ S.faults shelf) × (S.Area.faults hand.new.area ≡ S.Area.faults hand.old.area) × (G.faults hand.new.gate ≡ G.faults hand.old.gate) × (O.faults out.new ≡ O.faults out.old) }
@@ -169,6 +172,10 @@ pub fn mvn<T: Tree, R, S: Shelf, G: Gate, O: Sink>(
 
     // The answers that are kept are the gate's, to the requests that the definition names.
     ensures answers { OfFirst hands.old (λ hand. IfSome (T.files tree.old) (λ files. IfSome (G.answers hand.gate) (λ test. (plan : Plan) → plan_of words.now files ≡ Ok plan → AnswersFit test plan (kept_answers result.answers)))) }
+
+    // Each name is published at most once; so at every moment, and after a stop, it has its old value or its new one.
+    ensures once { PublishesOnce (S.told shelf) (S.told result.shelf) }
+    ensures whole_files { StopsBetween (S.told shelf) (S.told result.shelf) }
 
     // With 0 and 1 all that was published is settled.
     ensures settled { result.status < 2 → IfSome (S.told result.shelf) IsSettled }

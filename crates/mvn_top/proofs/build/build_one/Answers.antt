@@ -1,10 +1,11 @@
-use Rattle.std.proofs.Common.{◌≡◌, ◌<◌, ◌⊎◌, ℕ, List, Option, Bool, true, false, Result, Ok, Err, IfOk, OnOk, is_some, refl, ap, sym, subst, ◌∙◌}
+use Rattle.std.proofs.Common.{◌≡◌, ◌<◌, ◌⊎◌, List, true, false, IfOk, OnOk, is_some, refl, subst}
 use Rattle.mvn_shared.specs.Cause.{HasRisen}
 use Rattle.mvn_outside.specs.declared.goal.GoalAnswer.{GoalAnswer}
 use Rattle.mvn_outside.specs.Shelf.{settled_all}
-use Rattle.one_hand.specs.Built.{LeavesFiles, EndsAfterFetch}
+use Rattle.one_hand.specs.Built.{LeavesFiles}
 use Rattle.mvn_top.specs.Ran.{is_clean, lacks_memory, clean_outcome, RanSo, RanAlways}
 use Rattle.mvn_top.proofs.Builds.{clean_quiet, leaves_settled, low_is_clean, three_is_faulty, whose_fault, if_ok_both, if_ok_under}
+use Rattle.mvn_top.proofs.Onces.{once_of_adds}
 use Rattle.mvn_top.proofs.Rans.{leaves_ran, always_ran}
 use Rattle.mvn_top.proofs.build.build_one.Goals as goal
 
@@ -59,3 +60,8 @@ returns-clause-always g c =
     always_ran plan m run.answers run.own run.ending answer c.requires.one (good e) (c.build_module-run.ensures.always (clean_quiet run.ending settled e).1))
     (if_ok_under (clean_outcome m run.answers run.ending) result clean)
     (if_ok_under (λ answer. answer.status ≡ 3) result c.outcome_of-outcome.ensures.fault)
+
+pub returns-clause-once : goal.returns-clause-once
+returns-clause-once g c =
+    once_of_adds c.args.plan.now c.args.module.now c.build_module-run.result.own (g.S.Shelf.told c.args.shelf.now) (g.S.Shelf.told c.build_module-run.new.shelf) (g.S.Shelf.told c.settle-settled.new.shelf) (is_some (g.S.Area.Area.contents c.args.hand.now.area)) c.settle-settled.result
+    c.requires.one.distinct c.build_module-run.ensures.adds c.settle-settled.ensures.ok c.settle-settled.ensures.err

@@ -1,10 +1,4 @@
-use Rattle.std.proofs.Common.{◌≡◌, ℕ, List, Ok, Err, ap, subst, sym, ◌∙◌}
 use Rattle.std.proofs.lemmas.Result.{IfOk-weaker}
-use Rattle.mvn_outside.specs.declared.goal.SourceFile.{SourceFile}
-use Rattle.mvn_top.specs.declared.command.Command.{Command}
-use Rattle.mvn_top.specs.declared.command.Command.TheVariants.{Validate, Install}
-use Rattle.mvn_top.specs.Project.{PlannedFrom, GivesModule}
-use Rattle.mvn_top.specs.Planning.{plan_for}
 use Rattle.mvn_top.proofs.Planned.{validates_at, installs_at, cause_of_sources}
 use Rattle.mvn_top.proofs.project.plan_module.Goals as goal
 

@@ -1,9 +1,8 @@
-use Rattle.std.proofs.Common.{◌≡◌, ℕ, Option, Ok, Err, IfSome, ap, sym, subst, ◌∙◌}
+use Rattle.std.proofs.Common.{ℕ, Option, sym, subst, ◌∙◌}
 use Rattle.std.proofs.lemmas.Result.{IfOk-weaker}
 use Rattle.mvn_shared.specs.Cause.{HasCause}
 use Rattle.mvn_shared.specs.Files.{Files}
-use Rattle.mvn_top.specs.Reading.{Agrees}
-use Rattle.mvn_top.specs.Project.{GivesModule, GivesProject, plan_failed}
+use Rattle.mvn_top.specs.Project.{GivesModule, plan_failed}
 use Rattle.mvn_top.proofs.Valid.{valid_gav}
 use Rattle.mvn_top.proofs.Projects.{module_gives, refusal_gives, quiet_module, cause_of_refusal}
 use Rattle.mvn_top.proofs.project.plan_project.Goals as goal

@@ -1,4 +1,4 @@
-use Rattle.std.proofs.Common.{◌≡◌, ℕ, List, Option, Ok, Err, IfSome, subst}
+use Rattle.std.proofs.Common.{ℕ, List, Option, Ok, Err, IfSome, subst}
 use Rattle.mvn_shared.specs.Files.{Files}
 use Rattle.mvn_top.specs.Sources.{source_names, sources_at, ListsNames, ReadsSources, GivesSources}
 use Rattle.mvn_top.proofs.SourcesRead.{if_some_map, if_some_both, names_give, reads_give}

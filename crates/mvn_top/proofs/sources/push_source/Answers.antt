@@ -1,4 +1,4 @@
-use Rattle.std.proofs.Common.{◌≡◌, ◌≤◌, length, IfSome, subst, ap, ◌∙◌, arith}
+use Rattle.std.proofs.Common.{◌≤◌, length, IfSome, subst, ap, ◌∙◌, arith}
 use Rattle.mvn_top.specs.Sources.{sources_len}
 use Rattle.mvn_top.proofs.SourcesRead.{len_push}
 use Rattle.mvn_top.proofs.sources.push_source.Goals as goal

@@ -1,16 +1,14 @@
-use Rattle.std.proofs.Common.{◌≡◌, ◌<◌, ◌≤◌, ◌⊎◌, inl, inr, ℕ, List, Option, None, Some, Result, Ok, Err, IfOk, IfSome, is_some, refl, ap, sym, subst, ◌∙◌, arith}
+use Rattle.std.proofs.Common.{◌≡◌, ◌<◌, ◌≤◌, inr, None, Result, IfOk, IfSome, is_some, ap, sym, subst, ◌∙◌, arith}
 use Rattle.std.proofs.lemmas.Result.{IfOk-weaker}
 use Rattle.mvn_shared.specs.declared.memory.OutOfMemory.{OutOfMemory}
-use Rattle.mvn_shared.specs.Files.{Files}
 use Rattle.mvn_outside.specs.Shelf.{IsSettled}
 use Rattle.one_hand.specs.Built.{LeavesFiles}
 use Rattle.mvn_top.specs.declared.outcome.Outcome.{Outcome}
 use Rattle.mvn_top.specs.Commands.{command_of}
 use Rattle.mvn_top.specs.Outcome.{not_built}
 use Rattle.mvn_top.specs.Project.{GivesProject}
-use Rattle.mvn_top.specs.Ran.{RanSo, RanAlways}
-use Rattle.mvn_top.specs.Headline.{IsOutcome, ComesFrom}
-use Rattle.mvn_top.proofs.Builds.{if_ok_both}
+use Rattle.mvn_top.specs.Headline.{IsOutcome}
+use Rattle.mvn_top.proofs.Onces.{same_once}
 use Rattle.mvn_top.proofs.Tops.{if_some_all, no_plan, unknown_words, not_built_status, not_less, not_same, built_told, refused_told, single_plan, refusal_high, too_low}
 use Rattle.mvn_top.proofs.top.build.Goals as goal
 
@@ -69,3 +67,12 @@ pub returns-in_default-clause-bound : goal.returns-in_default-clause-bound
 returns-in_default-clause-bound g c =
     let is = subst (λ (r : Result Outcome OutOfMemory). IfOk r (λ answer. answer ≡ not_built)) (sym c.nothing.ensures.0) c.not_built.ensures in
     IfOk-weaker c.nothing.result.outcome _ _ (λ answer e. omega (arith, ap (λ (o : Outcome). o.status) e ∙ not_built_status)) is
+
+pub returns-in_default-clause-once : goal.returns-in_default-clause-once
+returns-in_default-clause-once g c = same_once (g.S.Shelf.told c.args.shelf.now)
+
+pub returns-in-Ok-Err-clause-once : goal.returns-in-Ok-Err-clause-once
+returns-in-Ok-Err-clause-once g c = same_once (g.S.Shelf.told c.args.shelf.now)
+
+pub returns-in-Err-clause-once : goal.returns-in-Err-clause-once
+returns-in-Err-clause-once g c = same_once (g.S.Shelf.told c.args.shelf.now)

@@ -1,0 +1,24 @@
+-- What a call publishes, and what a stop may leave of it. Own rules.
+use Rattle.std.specs.Prelude.{◌≡◌, ◌≢◌, ℕ, List, [], ◌∷◌, ◌++◌, map, length, Option, Some, None, IfSome}
+use Rattle.std.specs.List.{AllByRecursion}
+use Rattle.mvn_shared.specs.Files.{Files}
+use Rattle.mvn_outside.specs.declared.shelf.Published.{Published}
+use Rattle.mvn_outside.specs.declared.shelf.ShelfTold.{ShelfTold}
+use Rattle.mvn_outside.specs.Shelf.{files_now, IsSettled, Left, Between}
+
+-- no two of the names are the same
+abbrev pub IsDistinct : List (List ℕ) → Type 0
+IsDistinct [] = Unit {0}
+IsDistinct (name ∷ names) = AllByRecursion (λ other. name ≢ other) names × IsDistinct names
+
+-- of what a repository tells only its publishes have grown, by some of distinct names, and the settled number
+abbrev pub PublishesOnce : (before now : Option ShelfTold) → Type 0
+PublishesOnce None now = now ≡ None
+PublishesOnce (Some told) now = (more : List Published) × (settled : ℕ)
+    × (now ≡ Some (record { opening = told.opening; publishes = told.publishes ++ more; settled = settled }))
+    × IsDistinct (map (λ p. p.name) more)
+
+-- where all was settled before, every map that a stop may have left since lies, name by name, between the files before and after
+abbrev pub StopsBetween : (before now : Option ShelfTold) → Type 0
+StopsBetween None now = Unit {0}
+StopsBetween (Some told) now = IsSettled told → IfSome now (λ after. (files : Files) → Left after (length told.publishes) files → Between (files_now told) files (files_now after))

@@ -8,6 +8,7 @@ use Rattle.mvn_shared.specs.Told.{gains}
 use Rattle.mvn_outside.specs.declared.goal.GoalAnswer.{GoalAnswer}
 use Rattle.mvn_outside.specs.declared.goal.GoalAnswer.TheVariants.{Done}
 use Rattle.mvn_outside.specs.declared.shelf.ShelfTold.{ShelfTold}
+use Rattle.build_core.specs.declared.plan.Plan.{Plan}
 use Rattle.build_core.specs.declared.event.Answered.{Answered}
 use Rattle.build_core.specs.OneThread.{answer_at}
 use Rattle.one_hand.specs.Running.{nth_answer}
@@ -15,7 +16,7 @@ use Rattle.one_hand.specs.Built.{LeavesFiles}
 use Rattle.mvn_top.specs.declared.outcome.Outcome.{Outcome}
 use Rattle.mvn_top.specs.Outcome.{not_built}
 use Rattle.mvn_top.specs.Ending.{IsWhole, Ends, IsLow, HasNone}
-use Rattle.mvn_top.specs.Headline.{numbered, kept_answers, IsOutcome, IsCall, ComesFrom}
+use Rattle.mvn_top.specs.Headline.{numbered, kept_answers, plan_of, IsOutcome, IsCall, CountFits, ComesFrom}
 
 -- ---- the answers by number
 
@@ -100,3 +101,10 @@ call_ends told words answers kept (Ok wanted) status written now sink_before sin
     (wanted, λ l. subst (λ (k : List GoalAnswer). ComesFrom told words k wanted) (sym same) (comes (low l)), ends)
 call_ends told words answers kept (Err x) status written now sink_before sink_now e comes ends low none =
     (not_built, λ l. absurd (low l), none_ends not_built status written now sink_before sink_now none.0 none.1)
+
+pub call_counts : (told : Option Files) (words : List (List ℕ)) (answers : List Answered) (kept : List GoalAnswer) (out : Result Outcome OutOfMemory) (status : ℕ) → answers ≡ numbered 0 kept
+    → IfSome told (λ files. IfOk out (λ wanted. wanted.status < 3 → (plan : Plan) → plan_of words files ≡ Ok plan → CountFits plan kept)) → (status < 3 → IsLow out)
+    → IfSome told (λ files. status < 3 → (plan : Plan) → plan_of words files ≡ Ok plan → CountFits plan (kept_answers answers))
+call_counts None words answers kept out status e h low = tt
+call_counts (Some files) words answers kept (Ok wanted) status e h low = λ l plan is. subst (λ (k : List GoalAnswer). CountFits plan k) (sym (ap kept_answers e ∙ kept_numbered 0 kept)) (h (low l) plan is)
+call_counts (Some files) words answers kept (Err x) status e h low = λ l. absurd (low l)

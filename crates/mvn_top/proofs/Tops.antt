@@ -28,7 +28,7 @@ use Rattle.mvn_top.specs.Outcome.{fault_tree, not_built, refused, missing_field,
 use Rattle.mvn_top.specs.Project.{GivesProject}
 use Rattle.mvn_top.specs.Ran.{IsOne, RanSo}
 use Rattle.mvn_top.proofs.Onces.{file_names_distinct}
-use Rattle.mvn_top.specs.Headline.{supply_of, plan_with, plan_of, outcome_with, files_with, IsSingle, IsOutcome}
+use Rattle.mvn_top.specs.Headline.{supply_of, plan_with, plan_of, outcome_with, files_with, IsSingle, IsOutcome, CountFits}
 
 pub if_some_all : {A : Type 0} (P : A → Type 0) (o : Option A) → ((a : A) → P a) → IfSome o P
 if_some_all P None h = tt
@@ -213,3 +213,14 @@ pub refused_told : (told : Option Files) (words : List (List ℕ)) (c : Command)
     → IfSome told (λ files. answer.status < 3 → LeavesFiles before before tells (IsOutcome words files answers answer))
 refused_told None words c answers answer before tells e gives = tt
 refused_told (Some files) words c answers answer before tells e gives = λ low. no_plan words files answers answer before tells (refusal_told words files c answer e gives low)
+
+no_such_plan : (answer : Outcome) (plan : Plan) (P : Type 0) (r : Result Plan Outcome) → r ≡ Err answer → r ≡ Ok plan → P
+no_such_plan answer plan P r e f = absurd (clash (sym e ∙ f))
+  where
+    clash : ◌≡◌ {A = Result Plan Outcome} (Err answer) (Ok plan) → ⊥
+    clash t = cc
+
+pub refused_counts : (told : Option Files) (words : List (List ℕ)) (c : Command) (kept : List GoalAnswer) (answer : Outcome) → command_of words ≡ Some c → GivesProject told c (Err answer)
+    → IfSome told (λ files. answer.status < 3 → (plan : Plan) → plan_of words files ≡ Ok plan → CountFits plan kept)
+refused_counts None words c kept answer e gives = tt
+refused_counts (Some files) words c kept answer e gives = λ low plan is. no_such_plan answer plan (CountFits plan kept) (plan_of words files) (refusal_told words files c answer e gives low) is

@@ -7,7 +7,7 @@ use Rattle.build_core.specs.declared.plan.Plan.{Plan}
 use Rattle.build_core.specs.declared.plan.PlanModule.{PlanModule}
 use Rattle.build_core.specs.declared.event.Answered.{Answered}
 use Rattle.build_core.specs.OneThread.{Supply, answer_at, one_thread}
-use Rattle.one_hand.specs.Running.{nth_answer, AreAnswers}
+use Rattle.one_hand.specs.Running.{nth_answer, AreAnswers, HasAllAnswers}
 use Rattle.mvn_top.specs.declared.command.Command.{Command}
 use Rattle.mvn_top.specs.declared.outcome.Outcome.{Outcome}
 use Rattle.mvn_top.specs.Commands.{command_of}
@@ -62,6 +62,10 @@ IsSingle plan = (m : PlanModule) × IsOne plan m
 -- the answers are the gate's, to the requests that the definition names
 abbrev pub AnswersFit : (GoalRequest → GoalAnswer → Bool) → Plan → List GoalAnswer → Type 0
 AnswersFit test plan answers = (m : PlanModule) → plan.modules ≡ m ∷ [] → AreAnswers test m answers
+
+-- as many answers are kept as goals that the definition reaches by them
+abbrev pub CountFits : Plan → List GoalAnswer → Type 0
+CountFits plan answers = (m : PlanModule) → plan.modules ≡ m ∷ [] → HasAllAnswers m answers
 
 -- the answer is the outcome, and the files are those that it leaves, of all worlds with these files and answers
 abbrev pub IsOutcome : List (List ℕ) → (tree : Files) → List GoalAnswer → Outcome → (before after : Files) → Type 0

@@ -2,9 +2,9 @@
 ghost use Rattle.std.specs.Prelude.{◌≡◌, ◌<◌, ◌≤◌, ◌⊎◌, [], ◌∷◌, true, false, is_some, IfOk, IfSome};
 ghost use Rattle.mvn_shared.specs.Cause.{HasRisen};
 ghost use Rattle.mvn_outside.specs.Shelf.{IsSettled};
-ghost use Rattle.one_hand.specs.Running.{AreAnswers};
+ghost use Rattle.one_hand.specs.Running.{AreAnswers, HasAllAnswers};
 ghost use Rattle.one_hand.specs.Built.{is_quiet, is_bare_ending, LeavesFiles};
-ghost use Rattle.mvn_top.specs.Headline.{IsSingle, AnswersFit};
+ghost use Rattle.mvn_top.specs.Headline.{IsSingle, AnswersFit, CountFits};
 ghost use Rattle.mvn_top.specs.Once.{PublishesOnce};
 ghost use Rattle.mvn_top.specs.Ran.{is_clean, clean_outcome, is_memory, lacks_memory, IsOne, RanSo, RanAlways};
 ghost use Rattle.mvn_top.specs.Rows.{states_status};
@@ -115,6 +115,7 @@ fn build_one<R, S: Shelf, G: Gate>(
     ensures outcome { IfOk result.outcome (λ answer. answer.status < 3 → LeavesFiles (S.told shelf.old) (S.told shelf.new) (is_some (S.Area.contents hand.old.area)) (RanSo plan.now result.answers answer)) }
     ensures bound { IfOk result.outcome (λ answer. answer.status ≤ 3) }
     ensures always { IfOk result.outcome (λ answer. answer.status < 3 → RanAlways plan.now result.answers answer) }
+    ensures count { IfOk result.outcome (λ answer. answer.status < 3 → HasAllAnswers module.now result.answers) }
     ensures once { PublishesOnce (S.told shelf.old) (S.told shelf.new) }
     ensures settled { IfOk result.outcome (λ answer. answer.status < 3 → IfSome (S.told shelf.new) IsSettled) }
     ensures answers { IfSome (G.answers hand.old.gate) (λ test. AreAnswers test module.now result.answers) }
@@ -162,6 +163,7 @@ fn build_swept<R, S: Shelf, G: Gate>(
     ensures outcome { IfOk result.outcome (λ answer. answer.status < 3 → LeavesFiles (S.told shelf.old) (S.told shelf.new) (is_some (S.Area.contents hand.old.area)) (RanSo plan.now result.answers answer)) }
     ensures bound { IfOk result.outcome (λ answer. answer.status ≤ 3) }
     ensures always { IfOk result.outcome (λ answer. answer.status < 3 → RanAlways plan.now result.answers answer) }
+    ensures count { IfOk result.outcome (λ answer. answer.status < 3 → CountFits plan.now result.answers) }
     ensures once { PublishesOnce (S.told shelf.old) (S.told shelf.new) }
     ensures settled { IfOk result.outcome (λ answer. answer.status < 3 → IfSome (S.told shelf.new) IsSettled) }
     ensures answers { IfSome (G.answers hand.old.gate) (λ test. AnswersFit test plan.now result.answers) }
@@ -186,6 +188,7 @@ pub fn build_plan<R, S: Shelf, G: Gate>(
     ensures outcome { IfOk result.outcome (λ answer. answer.status < 3 → LeavesFiles (S.told shelf.old) (S.told shelf.new) (is_some (S.Area.contents hand.old.area)) (RanSo plan.now result.answers answer)) }
     ensures bound { IfOk result.outcome (λ answer. answer.status ≤ 3) }
     ensures always { IfOk result.outcome (λ answer. answer.status < 3 → RanAlways plan.now result.answers answer) }
+    ensures count { IfOk result.outcome (λ answer. answer.status < 3 → CountFits plan.now result.answers) }
     ensures once { PublishesOnce (S.told shelf.old) (S.told shelf.new) }
     ensures settled { IfOk result.outcome (λ answer. answer.status < 3 → IfSome (S.told shelf.new) IsSettled) }
     ensures answers { IfSome (G.answers hand.old.gate) (λ test. AnswersFit test plan.now result.answers) }

@@ -1,5 +1,5 @@
 // The runs of the top call over objects in memory, as tables.
-use crate::mvn;
+use crate::{Ended, mvn};
 use mvn_base::Machine;
 use mvn_outside::{DeviceFault, GoalAnswer, Hand, Sink, SourceFile, Tree};
 use mvn_shared::{Bytes, List, Mem, Text};
@@ -470,5 +470,34 @@ fn each_failing_tree_call_is_a_tree_fault(rt: HostRuntime) -> Result<(), Fail> {
 fn a_failing_write_leaves_the_repository_built(rt: HostRuntime) -> Result<(), Fail> {
     let failing = Failing { sink: &[0], ..NONE };
     check_fault(&rt, rt.alloc(), failing, "", 2)?;
+    Ok(())
+}
+
+// An install into this repository: the status, the text and the repository after it.
+fn install_into(alloc: Global, shelf: MemShelf<Calls>) -> Mem<Ended<MemShelf<Calls>>> {
+    let words = words_of(alloc, &["install"])?;
+    let machine = machine(alloc)?;
+    let mut tree = tree_of(alloc, Some(POM.as_bytes()), &[])?;
+    let mut sink = MemSink::new(alloc, &numbers(alloc, &[])?)?;
+    let mut hands = [Hand {
+        remote: MemRemote::without_failures(alloc, List::new(alloc))?,
+        area: MemArea::new(alloc, &numbers(alloc, &[])?)?,
+        gate: MemGate::new(alloc, good_answers(alloc)?, &numbers(alloc, &[])?)?,
+    }];
+    Ok(mvn(
+        alloc, &words, &machine, &mut tree, shelf, &mut hands, &mut sink,
+    ))
+}
+
+#[test]
+fn second_install_is_identical(rt: HostRuntime) -> Result<(), Fail> {
+    let alloc = rt.alloc();
+    let shelf = MemShelf::new(alloc, List::new(alloc), &numbers(alloc, &[])?)?;
+    let first = install_into(alloc, shelf)?;
+    assert_eq!(rt; first.status, 0);
+    assert_eq!(rt; first.shelf.names(), 2);
+    let second = install_into(alloc, first.shelf)?;
+    assert_eq!(rt; second.status, 0);
+    assert_eq!(rt; second.shelf.names(), 2);
     Ok(())
 }

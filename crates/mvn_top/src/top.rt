@@ -6,7 +6,7 @@ ghost use Rattle.one_hand.specs.Built.{LeavesFiles};
 ghost use Rattle.mvn_top.specs.declared.outcome.Outcome.{Outcome};
 ghost use Rattle.mvn_top.specs.Once.{PublishesOnce, StopsBetween};
 ghost use Rattle.mvn_top.specs.Ending.{IsWhole, Ends, IsLow, IsFault, HasNone};
-ghost use Rattle.mvn_top.specs.Headline.{numbered, kept_answers, IsCall, plan_of, IsOutcome, AnswersFit, ComesFrom, OfFirst, OfFirsts, SameOthers};
+ghost use Rattle.mvn_top.specs.Headline.{numbered, kept_answers, IsCall, plan_of, IsOutcome, AnswersFit, CountFits, ComesFrom, OfFirst, OfFirsts, SameOthers};
 
 use crate::build::{Call, build_plan, nothing};
 use crate::command::command_of;
@@ -30,6 +30,7 @@ fn build<T: Tree, R, S: Shelf, G: Gate>(
         → LeavesFiles (S.told shelf.old) (S.told shelf.new) (is_some (S.Area.contents hand.old.area)) (IsOutcome words.now files result.answers answer))) }
     ensures bound { IfOk result.outcome (λ answer. answer.status ≤ 3) }
     ensures comes { IfOk result.outcome (λ answer. answer.status < 3 → ComesFrom (T.files tree.old) words.now result.answers answer) }
+    ensures count { IfSome (T.files tree.old) (λ files. IfOk result.outcome (λ answer. answer.status < 3 → (plan : Plan) → plan_of words.now files ≡ Ok plan → CountFits plan result.answers)) }
     ensures once { PublishesOnce (S.told shelf.old) (S.told shelf.new) }
     ensures settled { IfOk result.outcome (λ answer. answer.status < 2 → IfSome (S.told shelf.new) IsSettled) }
     ensures answers { IfSome (T.files tree.old) (λ files. IfSome (G.answers hand.old.gate) (λ test. (plan : Plan) → plan_of words.now files ≡ Ok plan → AnswersFit test plan result.answers)) }
@@ -109,6 +110,7 @@ fn call_hand<T: Tree, R, S: Shelf, G: Gate, O: Sink>(
         → LeavesFiles (S.told shelf) (S.told result.shelf) (is_some (S.Area.contents hand.old.area)) (IsCall words.now files result.answers result.status (O.written out.old) (O.written out.new))) }
     ensures ends { (wanted : Outcome) × (result.status < 3 → ComesFrom (T.files tree.old) words.now (kept_answers result.answers) wanted)
         × Ends wanted result.status (O.written out.old) (O.written out.new) (O.faults out.old) (O.faults out.new) }
+    ensures count { IfSome (T.files tree.old) (λ files. result.status < 3 → (plan : Plan) → plan_of words.now files ≡ Ok plan → CountFits plan (kept_answers result.answers)) }
     ensures once { PublishesOnce (S.told shelf) (S.told result.shelf) }
     ensures settled { result.status < 2 → IfSome (S.told result.shelf) IsSettled }
     ensures answers { IfSome (T.files tree.old) (λ files. IfSome (G.answers hand.old.gate) (λ test. (plan : Plan) → plan_of words.now files ≡ Ok plan → AnswersFit test plan (kept_answers result.answers))) }
@@ -172,6 +174,9 @@ pub fn mvn<T: Tree, R, S: Shelf, G: Gate, O: Sink>(
 
     // The answers that are kept are the gate's, to the requests that the definition names.
     ensures answers { OfFirst hands.old (λ hand. IfSome (T.files tree.old) (λ files. IfSome (G.answers hand.gate) (λ test. (plan : Plan) → plan_of words.now files ≡ Ok plan → AnswersFit test plan (kept_answers result.answers)))) }
+
+    // Below 3 there is one answer for each goal that the definition reaches.
+    ensures count { IfSome (T.files tree.old) (λ files. result.status < 3 → (plan : Plan) → plan_of words.now files ≡ Ok plan → CountFits plan (kept_answers result.answers)) }
 
     // Each name is published at most once; so at every moment, and after a stop, it has its old value or its new one.
     ensures once { PublishesOnce (S.told shelf) (S.told result.shelf) }

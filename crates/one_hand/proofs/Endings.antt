@@ -20,7 +20,7 @@ use Rattle.build_core.specs.declared.ending.Ending.TheVariants as ending
 use Rattle.build_core.specs.declared.ending.Device.TheVariants.{Remote, Area, Shelf, Gate}
 use Rattle.build_core.specs.OneThread.{Progress, name_of, own_bytes, put_own, installed, ends, path_entry, entries_len, most_classpath, lacks_artifact, after_answers, after_goals, after_fetch, Supply}
 use Rattle.one_hand.specs.Installing.{publish_of, own_publishes, Adds}
-use Rattle.one_hand.specs.Running.{nth_answer, goals_end, stops_goals}
+use Rattle.one_hand.specs.Running.{nth_answer, goals_end, stops_goals, HasAllAnswers}
 use Rattle.one_hand.specs.Built.{is_quiet, is_bare_ending, LeavesFiles, EndsAfterGoals, EndsAfterFetch}
 use Rattle.one_hand.proofs.Runs.{run_same}
 
@@ -133,3 +133,13 @@ pub always_answered : (plan : Plan) (m : PlanModule) (answers : List GoalAnswer)
 always_answered plan m answers own end bare e h before =
     let left = h before in
     (left.0, λ supply number progress same. bare_fetch plan m answers before supply number progress bare same ∙ ap (after_goals plan m before progress) e ∙ left.1 progress)
+
+pub stop_has_all : (m : PlanModule) (answers : List GoalAnswer) (own : List OwnBytes) (stop : Ending) → stops_goals stop ≡ true → is_quiet stop ≡ true → IfSome (goals_end (Some stop) own) (λ _. HasAllAnswers m answers) → HasAllAnswers m answers
+stop_has_all m answers own (ending.Goal i) s q h = h
+stop_has_all m answers own (ending.OutputTooLarge i) s q h = h
+stop_has_all m answers own ending.Built s q h = cc
+stop_has_all m answers own (ending.Missing i) s q h = cc
+stop_has_all m answers own ending.NoArtifact s q h = cc
+stop_has_all m answers own ending.ClasspathTooLarge s q h = cc
+stop_has_all m answers own (ending.Fault d) s q h = cc
+stop_has_all m answers own ending.Memory s q h = cc

@@ -1,5 +1,5 @@
 -- What one answered goal more means for the answers and for how the goals end.
-use Rattle.std.proofs.Common.{◌≡◌, ℕ, ◌+◌, ◌<◌, Bool, true, List, [], ◌∷◌, ◌++◌, length, take, drop, get_or, length-take, slice_get, Option, Some, None, IfSome, ◌⊎◌, inl, inr, unwrap_or, refl, sym, ap, subst, ◌∙◌, arith}
+use Rattle.std.proofs.Common.{◌≡◌, ℕ, suc, ◌+◌, ◌<◌, Bool, true, false, ◌==◌, nat_le, cond, List, [], ◌∷◌, ◌++◌, length, take, drop, get_or, length-take, slice_get, Option, Some, None, IfSome, ◌⊎◌, inl, inr, unwrap_or, refl, sym, ap, subst, ◌∙◌, arith}
 use Rattle.std.proofs.lemmas.List.{take_more, take-append-drop}
 use Rattle.std.proofs.lemmas.Option.{slice_get_read}
 use Rattle.mvn_base.specs.declared.gav.Gav.{Gav}
@@ -11,8 +11,11 @@ use Rattle.mvn_outside.specs.declared.goal.GoalRequest.{GoalRequest}
 use Rattle.mvn_outside.specs.declared.goal.GoalAnswer.{GoalAnswer}
 use Rattle.build_core.specs.declared.plan.PlanModule.{PlanModule}
 use Rattle.build_core.specs.declared.ending.Ending.{Ending}
-use Rattle.build_core.specs.Slots.{all_answered, one_goal, run_goals, slots_before, kept_of}
-use Rattle.one_hand.specs.Running.{is_no_pom, HasNoPom, nth_answer, goals_end, bare_request, AreAnswers, OneAnswer, NoAnswer, IsAskedSo}
+use Rattle.mvn_outside.specs.declared.goal.Slot.{Slot}
+use Rattle.mvn_outside.specs.declared.goal.GoalAnswer.TheVariants.{Done, Produced, Failed}
+use Rattle.build_core.specs.declared.ending.Ending.TheVariants as ending
+use Rattle.build_core.specs.Slots.{slot_number, put_slot, total_bytes, GoalsEnd, goal_failed, output_too_large, all_answered, one_goal, run_goals, slots_before, kept_of}
+use Rattle.one_hand.specs.Running.{is_no_pom, HasNoPom, nth_answer, goals_end, bare_request, AreAnswers, OneAnswer, NoAnswer, IsAskedSo, answered_by, HasAllAnswers}
 use Rattle.one_hand.proofs.Kept.{all_at}
 use Rattle.one_hand.proofs.Steps.{more_runs, one_stops, more_answers}
 
@@ -110,3 +113,63 @@ goes_further told m i call request next before now s n asked (inr (a, grown, tes
     length-snoc : (xs : List GoalAnswer) (x : GoalAnswer) → length (xs ++ x ∷ []) ≡ length xs + 1
     length-snoc [] x = refl
     length-snoc (y ∷ xs) x = omega (arith, length-snoc xs x)
+
+-- ---- how many answers there are
+
+number_in : GoalsEnd → ℕ
+number_in (all_answered own) = 0
+number_in (goal_failed i own) = i
+number_in (output_too_large i own) = i
+
+failed_there : (budget i j : ℕ) (slot : Slot) (a : GoalAnswer) (before own : List OwnBytes) → one_goal budget i slot a before all_answered ≡ goal_failed j own → i ≡ j
+unfolding number_in
+failed_there budget i j slot Done before own e = cc
+failed_there budget i j slot (Failed text) before own e = ap number_in e
+failed_there budget i j slot (Produced bytes) before own e = by (slot_number slot == 0) (nat_le (total_bytes (put_slot slot bytes before)) budget) e
+  where
+    by : (b c : Bool) → cond b (all_answered before) (cond c (all_answered (put_slot slot bytes before)) (output_too_large i before)) ≡ goal_failed j own → i ≡ j
+    by true c e = cc
+    by false true e = cc
+    by false false e = cc
+
+too_large_there : (budget i j : ℕ) (slot : Slot) (a : GoalAnswer) (before own : List OwnBytes) → one_goal budget i slot a before all_answered ≡ output_too_large j own → i ≡ j
+unfolding number_in
+too_large_there budget i j slot Done before own e = cc
+too_large_there budget i j slot (Failed text) before own e = cc
+too_large_there budget i j slot (Produced bytes) before own e = by (slot_number slot == 0) (nat_le (total_bytes (put_slot slot bytes before)) budget) e
+  where
+    by : (b c : Bool) → cond b (all_answered before) (cond c (all_answered (put_slot slot bytes before)) (output_too_large i before)) ≡ output_too_large j own → i ≡ j
+    by true c e = cc
+    by false true e = cc
+    by false false e = ap number_in e
+
+counts_there : (m : PlanModule) (i : ℕ) (slot : Slot) (a : GoalAnswer) (before own : List OwnBytes) (now : List GoalAnswer) (stop : Ending) → length now ≡ suc i
+    → IfSome (goals_end (Some stop) own) (λ end. one_goal m.budget i slot a before all_answered ≡ end)
+    → IfSome (goals_end (Some stop) own) (λ end. run_goals m.budget (nth_answer now) 0 m.goals [] ≡ end)
+    → IfSome (goals_end (Some stop) own) (λ _. HasAllAnswers m now)
+counts_there m i slot a before own now (ending.Goal j) len one run = len ∙ ap suc (failed_there m.budget i j slot a before own one) ∙ ap (answered_by m.goals) (sym run)
+counts_there m i slot a before own now (ending.OutputTooLarge j) len one run = len ∙ ap suc (too_large_there m.budget i j slot a before own one) ∙ ap (answered_by m.goals) (sym run)
+counts_there m i slot a before own now ending.Built len one run = tt
+counts_there m i slot a before own now (ending.Missing j) len one run = tt
+counts_there m i slot a before own now ending.NoArtifact len one run = tt
+counts_there m i slot a before own now ending.ClasspathTooLarge len one run = tt
+counts_there m i slot a before own now (ending.Fault d) len one run = tt
+counts_there m i slot a before own now ending.Memory len one run = tt
+
+length_snoc : (xs : List GoalAnswer) (x : GoalAnswer) → length (xs ++ x ∷ []) ≡ suc (length xs)
+length_snoc [] x = refl
+length_snoc (y ∷ xs) x = ap suc (length_snoc xs x)
+
+-- at a stop there are as many answers as goals up to it
+pub stop_counts : (told : Option (GoalRequest → GoalAnswer → Bool)) (m : PlanModule) (i : ℕ) (call : GoalCall) (request : GoalRequest) (before now : List GoalAnswer) (own : List OwnBytes) (stop : Ending)
+    → Stands m i before request → IsNext m i call
+    → NoAnswer before now own (Some stop) ⊎ OneAnswer told m.budget i call request before now own (Some stop)
+    → IfSome (goals_end (Some stop) own) (λ _. HasAllAnswers m now)
+stop_counts told m i call request before now own stop s n (inl none) = subst (λ o. IfSome o (λ _. HasAllAnswers m now)) (sym none.1) tt
+stop_counts told m i call request before now own stop s n (inr (a, grown, asked, end)) =
+    counts_there m i call.slot a request.own own now stop (ap length grown ∙ length_snoc before a ∙ ap suc s.counted) end
+    (stop_ends told m i call request before now own stop s n (inr (a, grown, asked, end)))
+
+-- at the end there are as many as goals
+pub end_counts : (m : PlanModule) (i : ℕ) (answers : List GoalAnswer) (own : List OwnBytes) → length answers ≡ i → i ≡ length m.goals → run_goals m.budget (nth_answer answers) 0 m.goals [] ≡ all_answered own → HasAllAnswers m answers
+end_counts m i answers own c e run = c ∙ e ∙ ap (answered_by m.goals) (sym run)

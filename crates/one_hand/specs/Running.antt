@@ -1,5 +1,5 @@
 -- What running a module's goals leaves, against the definition of the build by one hand. Own rules.
-use Rattle.std.specs.Prelude.{◌≡◌, ℕ, Bool, true, false, not, ◌==◌, List, [], ◌∷◌, ◌++◌, slice_get, Option, Some, None, unwrap_or, IfSome}
+use Rattle.std.specs.Prelude.{◌≡◌, ℕ, suc, length, Bool, true, false, not, ◌==◌, List, [], ◌∷◌, ◌++◌, slice_get, Option, Some, None, unwrap_or, IfSome}
 use Rattle.std.specs.List.{list_all}
 use Rattle.mvn_outside.specs.declared.goal.OwnBytes.{OwnBytes}
 use Rattle.mvn_outside.specs.declared.goal.GoalCall.{GoalCall}
@@ -78,3 +78,13 @@ bare_request m call own = record { «module» = m.gav; call = call; sources = m.
 abbrev pub AreAnswers : (GoalRequest → GoalAnswer → Bool) → PlanModule → List GoalAnswer → Type 0
 AreAnswers test m answers = (i : ℕ) (answer : GoalAnswer) → slice_get answers i ≡ Some answer → (call : GoalCall) → slice_get m.goals i ≡ Some call
     → test (bare_request m call (slots_before m.budget (nth_answer answers) i m.goals)) answer ≡ true
+
+-- how many goals are answered where they end so
+abbrev pub answered_by : List GoalCall → GoalsEnd → ℕ
+answered_by goals (all_answered own) = length goals
+answered_by goals (goal_failed i own) = suc i
+answered_by goals (output_too_large i own) = suc i
+
+-- as many answers were kept as goals that the definition reaches by them
+abbrev pub HasAllAnswers : PlanModule → List GoalAnswer → Type 0
+HasAllAnswers m answers = length answers ≡ answered_by m.goals (run_goals m.budget (nth_answer answers) 0 m.goals [])

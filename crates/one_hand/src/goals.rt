@@ -4,7 +4,7 @@ ghost use Rattle.mvn_shared.specs.Cause.{HasCause};
 ghost use Rattle.mvn_outside.specs.Goals.{HasOwnSlots};
 ghost use Rattle.mvn_outside.specs.declared.goal.GoalRequest.{GoalRequest};
 ghost use Rattle.build_core.specs.Slots.{all_answered, one_output, one_goal};
-ghost use Rattle.one_hand.specs.Running.{is_no_pom, HasNoPom, goals_end, gate_stopped, IsStop, OneAnswer, NoAnswer, IsAskedSo, IsBegun, EndsAsDefined, bare_request, AreAnswers};
+ghost use Rattle.one_hand.specs.Running.{is_no_pom, HasNoPom, goals_end, gate_stopped, IsStop, OneAnswer, NoAnswer, IsAskedSo, IsBegun, EndsAsDefined, AreAnswers, HasAllAnswers};
 
 use crate::outputs::{fits, with_output};
 use build_core::{Device, Ending, PlanModule};
@@ -136,6 +136,7 @@ fn answer_all<G: Gate>(
     requires no_pom { HasNoPom module.now.goals }
     requires begun { IsBegun module.now request }
     ensures end { EndsAsDefined module.now result }
+    ensures count { IfSome (goals_end result.stop result.own) (λ _. HasAllAnswers module.now result.answers) }
     ensures stop { IsStop result.stop }
     ensures answers { IfSome (G.answers gate.old) (λ test. AreAnswers test module.now result.answers) }
     ensures told { G.answers gate.new ≡ G.answers gate.old }
@@ -193,6 +194,7 @@ pub fn run_goals<G: Gate>(alloc: Global, gate: &mut G, module: &PlanModule) -> G
     requires few { length module.now.goals < 4294967296 }
     requires no_pom { HasNoPom module.now.goals }
     ensures end { EndsAsDefined module.now result }
+    ensures count { IfSome (goals_end result.stop result.own) (λ _. HasAllAnswers module.now result.answers) }
     ensures stop { IsStop result.stop }
     ensures answers { IfSome (G.answers gate.old) (λ test. AreAnswers test module.now result.answers) }
     ensures told { G.answers gate.new ≡ G.answers gate.old }

@@ -3,7 +3,7 @@ ghost use Rattle.std.specs.Prelude.{◌≡◌, true, false, ℕ, is_some, take, 
 ghost use Rattle.mvn_shared.specs.Cause.{HasCause};
 ghost use Rattle.mvn_shared.specs.Files.{Files};
 ghost use Rattle.build_core.specs.OneThread.{lacks_artifact};
-ghost use Rattle.one_hand.specs.Running.{AreAnswers};
+ghost use Rattle.one_hand.specs.Running.{AreAnswers, HasAllAnswers};
 ghost use Rattle.one_hand.specs.Installing.{own_publishes, HasNames, Adds};
 ghost use Rattle.one_hand.specs.Built.{is_quiet, is_bare_ending, is_area_fault, is_shelf_fault, is_gate_fault, LeavesFiles, EndsAfterGoals, EndsAfterFetch, IsBare};
 
@@ -77,6 +77,7 @@ pub fn build_module<R, S: Shelf, G: Gate>(
     ensures always { is_quiet result.ending ≡ true → (before : Files) → (after : Files) × EndsAfterFetch plan.now module.now result.answers result.own result.ending before after }
     ensures adds { (count : ℕ) × Adds (S.told shelf.old) (S.told shelf.new) (is_some (S.Area.contents hand.old.area)) (own_publishes plan.now module.now result.own (take count module.now.own)) }
     ensures answers { IfSome (G.answers hand.old.gate) (λ test. AreAnswers test module.now result.answers) }
+    ensures count { is_quiet result.ending ≡ true → HasAllAnswers module.now result.answers }
     ensures bare { is_bare_ending result.ending ≡ true }
     ensures remote { hand.new.remote ≡ hand.old.remote }
     ensures told { G.answers hand.new.gate ≡ G.answers hand.old.gate }

@@ -2,6 +2,7 @@ use Rattle.std.proofs.Common.{◌≡◌, ◌<◌, ◌⊎◌, List, true, false, 
 use Rattle.mvn_shared.specs.Cause.{HasRisen}
 use Rattle.mvn_outside.specs.declared.goal.GoalAnswer.{GoalAnswer}
 use Rattle.mvn_outside.specs.Shelf.{settled_all}
+use Rattle.one_hand.specs.Running.{HasAllAnswers}
 use Rattle.one_hand.specs.Built.{LeavesFiles}
 use Rattle.mvn_top.specs.Ran.{is_clean, lacks_memory, clean_outcome, RanSo, RanAlways}
 use Rattle.mvn_top.proofs.Builds.{clean_quiet, leaves_settled, low_is_clean, three_is_faulty, whose_fault, if_ok_both, if_ok_under}
@@ -65,3 +66,13 @@ pub returns-clause-once : goal.returns-clause-once
 returns-clause-once g c =
     once_of_adds c.args.plan.now c.args.module.now c.build_module-run.result.own (g.S.Shelf.told c.args.shelf.now) (g.S.Shelf.told c.build_module-run.new.shelf) (g.S.Shelf.told c.settle-settled.new.shelf) (is_some (g.S.Area.Area.contents c.args.hand.now.area)) c.settle-settled.result
     c.requires.one.distinct c.build_module-run.ensures.adds c.settle-settled.ensures.ok c.settle-settled.ensures.err
+
+pub returns-clause-count : goal.returns-clause-count
+returns-clause-count g c =
+    let run = c.build_module-run.result in
+    let settled = c.settle-settled.result in
+    let result = c.outcome_of-outcome.result in
+    if_ok_both (λ answer. is_clean run.ending settled ≡ false → answer.status ≡ 3) (λ answer. is_clean run.ending settled ≡ false → answer.status ≡ 3) (λ answer. answer.status < 3 → HasAllAnswers c.args.module.now run.answers) result
+    (λ answer bad again low. c.build_module-run.ensures.count (clean_quiet run.ending settled (low_is_clean run.ending settled answer (is_clean run.ending settled) refl bad low)).1)
+    (if_ok_under (λ answer. answer.status ≡ 3) result c.outcome_of-outcome.ensures.fault)
+    (if_ok_under (λ answer. answer.status ≡ 3) result c.outcome_of-outcome.ensures.fault)

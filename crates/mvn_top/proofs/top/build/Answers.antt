@@ -1,15 +1,16 @@
-use Rattle.std.proofs.Common.{◌≡◌, ◌<◌, ◌≤◌, inr, None, Result, IfOk, IfSome, is_some, ap, sym, subst, ◌∙◌, arith}
+use Rattle.std.proofs.Common.{◌≡◌, ◌<◌, ◌≤◌, inr, None, Result, IfOk, IfSome, is_some, ap, sym, subst, ◌∙◌, arith, Ok}
 use Rattle.std.proofs.lemmas.Result.{IfOk-weaker}
 use Rattle.mvn_shared.specs.declared.memory.OutOfMemory.{OutOfMemory}
 use Rattle.mvn_outside.specs.Shelf.{IsSettled}
 use Rattle.one_hand.specs.Built.{LeavesFiles}
+use Rattle.build_core.specs.declared.plan.Plan.{Plan}
 use Rattle.mvn_top.specs.declared.outcome.Outcome.{Outcome}
 use Rattle.mvn_top.specs.Commands.{command_of}
 use Rattle.mvn_top.specs.Outcome.{not_built}
 use Rattle.mvn_top.specs.Project.{GivesProject}
-use Rattle.mvn_top.specs.Headline.{IsOutcome}
+use Rattle.mvn_top.specs.Headline.{IsOutcome, plan_of, CountFits}
 use Rattle.mvn_top.proofs.Onces.{same_once}
-use Rattle.mvn_top.proofs.Tops.{if_some_all, no_plan, unknown_words, not_built_status, not_less, not_same, built_told, refused_told, single_plan, refusal_high, too_low}
+use Rattle.mvn_top.proofs.Tops.{if_some_all, no_plan, unknown_words, not_built_status, not_less, not_same, built_told, refused_told, refused_counts, single_plan, refusal_high, too_low}
 use Rattle.mvn_top.proofs.top.build.Goals as goal
 
 pub returns-in_default-clause-outcome : goal.returns-in_default-clause-outcome
@@ -76,3 +77,10 @@ returns-in-Ok-Err-clause-once g c = same_once (g.S.Shelf.told c.args.shelf.now)
 
 pub returns-in-Err-clause-once : goal.returns-in-Err-clause-once
 returns-in-Err-clause-once g c = same_once (g.S.Shelf.told c.args.shelf.now)
+
+pub returns-in-Ok-Err-clause-count : goal.returns-in-Ok-Err-clause-count
+returns-in-Ok-Err-clause-count g c =
+    let words = c.args.words.now in
+    subst (λ (r : Result Outcome OutOfMemory). IfSome (g.T.Tree.files c.args.tree.now) (λ files. IfOk r (λ answer. answer.status < 3 → (plan : Plan) → plan_of words files ≡ Ok plan → CountFits plan c.nothing-in-Ok-Err.result.answers))) (sym c.nothing-in-Ok-Err.ensures.0)
+    (refused_counts (g.T.Tree.files c.args.tree.now) words c.in-Some.command c.nothing-in-Ok-Err.result.answers c.in-Ok-Err.outcome (sym c.command_of.ensures ∙ c.in-Some.is)
+    (subst (GivesProject (g.T.Tree.files c.args.tree.now) c.in-Some.command) c.in-Ok-Err.field-0-is c.in-Ok-Err.ensures.gives))

@@ -3,7 +3,7 @@ use Rattle.mvn_outside.specs.declared.goal.GoalAnswer.{GoalAnswer}
 use Rattle.build_core.specs.declared.plan.Plan.{Plan}
 use Rattle.mvn_top.specs.Outcome.{not_built}
 use Rattle.mvn_top.specs.Headline.{kept_answers, plan_of, AnswersFit}
-use Rattle.mvn_top.proofs.Calls.{call_of, call_ends, none_ends, kept_numbered}
+use Rattle.mvn_top.proofs.Calls.{call_of, call_counts, call_ends, none_ends, kept_numbered}
 use Rattle.mvn_top.proofs.top.call_hand.Goals as goal
 
 pub returns-in-Ok-clause-outcome : goal.returns-in-Ok-clause-outcome
@@ -27,3 +27,8 @@ returns-in-Ok-clause-answers g c =
 
 pub returns-in-Err-clause-ends : goal.returns-in-Err-clause-ends
 returns-in-Err-clause-ends g c = (not_built, λ low. absurd (omega (arith, low)), none_ends not_built 4 (g.O.Sink.written c.args.out.now) (g.O.Sink.written c.args.out.now) (g.O.Sink.faults c.args.out.now) (g.O.Sink.faults c.args.out.now) refl refl)
+
+pub returns-in-Ok-clause-count : goal.returns-in-Ok-clause-count
+returns-in-Ok-clause-count g c =
+    let built = c.build-outcome.result in
+    call_counts (g.T.Tree.files c.args.tree.now) c.args.words.now c.in-Ok.answers built.answers built.outcome c.write_answer-status.result c.in-Ok.ensures c.build-outcome.ensures.count c.write_answer-status.ensures.low

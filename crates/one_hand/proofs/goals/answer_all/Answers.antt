@@ -1,8 +1,11 @@
-use Rattle.std.proofs.Common.{ℕ, ◌+◌, Bool, None, Some, Option, ◌⊎◌, refl, ap, subst, ◌∙◌}
+use Rattle.std.proofs.Common.{ℕ, ◌+◌, ◌≤◌, Bool, List, [], length, None, Some, Option, ◌⊎◌, refl, sym, ap, subst, ◌∙◌, arith}
+use Rattle.std.proofs.lemmas.List.{take_all}
+use Rattle.mvn_outside.specs.declared.goal.GoalCall.{GoalCall}
 use Rattle.mvn_outside.specs.declared.goal.GoalRequest.{GoalRequest}
 use Rattle.mvn_outside.specs.declared.goal.GoalAnswer.{GoalAnswer}
-use Rattle.one_hand.specs.Running.{NoAnswer, OneAnswer}
-use Rattle.one_hand.proofs.Going.{Stands, IsNext, next_of, no_pom_at, answers_go_on, stop_ends, goes_further}
+use Rattle.build_core.specs.Slots.{run_goals}
+use Rattle.one_hand.specs.Running.{nth_answer, NoAnswer, OneAnswer}
+use Rattle.one_hand.proofs.Going.{Stands, IsNext, next_of, no_pom_at, answers_go_on, stop_ends, goes_further, stop_counts, end_counts}
 use Rattle.one_hand.proofs.goals.answer_all.Goals as goal
 
 pub returns-in-Some-clause-end : goal.returns-in-Some-clause-end
@@ -17,6 +20,20 @@ returns-in-Some-clause-end g c =
     let stands : Stands m c.loop-call.call-index before request = record { counted = inv.counted; runs = inv.runs; same_module = inv.asked.0 ∙ c.requires.begun.0; same_sources = inv.asked.1 ∙ c.requires.begun.1; no_classpath = inv.asked.2 ∙ c.requires.begun.2 } in
     let next : IsNext m c.loop-call.call-index call = next_of m c.as_slice-call-items.result.now c.loop-call.call-index call c.as_slice-call-items.ensures c.loop-call-test.true c.call-item.is in
     stop_ends (g.G.Gate.answers c.loop-call.gate) m c.loop-call.call-index call request before now own c.in-Some.ending stands next
+    (subst (λ (j : ℕ). NoAnswer before now own (Some c.in-Some.ending) ⊎ OneAnswer (g.G.Gate.answers c.loop-call.gate) m.budget j call request before now own (Some c.in-Some.ending)) inv.numbered c.in-Some.ensures.kept)
+
+pub returns-in-Some-clause-count : goal.returns-in-Some-clause-count
+returns-in-Some-clause-count g c =
+    let inv = c.loop-call.invariant in
+    let m = c.args.module.now in
+    let before = c.loop-call.answers in
+    let request = c.loop-call.request in
+    let call = c.call-item.result in
+    let now = c.answer_goal.new.answers in
+    let own = c.answer_goal.new.request.own in
+    let stands : Stands m c.loop-call.call-index before request = record { counted = inv.counted; runs = inv.runs; same_module = inv.asked.0 ∙ c.requires.begun.0; same_sources = inv.asked.1 ∙ c.requires.begun.1; no_classpath = inv.asked.2 ∙ c.requires.begun.2 } in
+    let next : IsNext m c.loop-call.call-index call = next_of m c.as_slice-call-items.result.now c.loop-call.call-index call c.as_slice-call-items.ensures c.loop-call-test.true c.call-item.is in
+    stop_counts (g.G.Gate.answers c.loop-call.gate) m c.loop-call.call-index call request before now own c.in-Some.ending stands next
     (subst (λ (j : ℕ). NoAnswer before now own (Some c.in-Some.ending) ⊎ OneAnswer (g.G.Gate.answers c.loop-call.gate) m.budget j call request before now own (Some c.in-Some.ending)) inv.numbered c.in-Some.ensures.kept)
 
 pub returns-in-Some-clause-answers : goal.returns-in-Some-clause-answers
@@ -59,3 +76,12 @@ loop-call-preserved g c =
       never = c.in-None.ensures.never ∙ inv.never;
       quiet = c.in-None.ensures.cause ∙ inv.quiet;
     }
+
+pub returns-clause-count : goal.returns-clause-count
+returns-clause-count g c =
+    let inv = c.loop-call.invariant in
+    let m = c.args.module.now in
+    let same = ap (λ (gs : List GoalCall). length gs) c.as_slice-call-items.ensures in
+    let all : length m.goals ≤ c.loop-call.call-index = omega (arith, c.loop-call-test.false, same) in
+    end_counts m c.loop-call.call-index c.loop-call.answers c.loop-call.request.own inv.counted (omega (arith, c.loop-call-test.false, c.loop-call.auto.call-index-end, same))
+    (ap (λ (gs : List GoalCall). run_goals m.budget (nth_answer c.loop-call.answers) 0 gs []) (sym (take_all c.loop-call.call-index m.goals all)) ∙ inv.runs)

@@ -2,9 +2,9 @@ use Rattle.std.proofs.Common.{◌≡◌, List, [], IfSome, is_some, subst}
 use Rattle.mvn_shared.specs.Files.{Files}
 use Rattle.mvn_outside.specs.declared.goal.OwnBytes.{OwnBytes}
 use Rattle.build_core.specs.Slots.{run_goals}
-use Rattle.one_hand.specs.Running.{nth_answer, goals_end, IsStop}
+use Rattle.one_hand.specs.Running.{nth_answer, goals_end, IsStop, HasAllAnswers}
 use Rattle.one_hand.specs.Built.{LeavesFiles, EndsAfterGoals, EndsAfterFetch}
-use Rattle.one_hand.proofs.Endings.{stop_is_bare, same_files, stopped_so, answered_so, always_answered}
+use Rattle.one_hand.proofs.Endings.{stop_has_all, stop_is_bare, same_files, stopped_so, answered_so, always_answered}
 use Rattle.one_hand.proofs.module_run.build_module.Goals as goal
 
 pub returns-in-Some-clause-end : goal.returns-in-Some-clause-end
@@ -37,3 +37,14 @@ returns-in-None-clause-always g c = λ q.
     always_answered c.args.plan.now c.args.module.now run.answers run.own c.end_module-ending.result c.requires.bare.no_entries
     (subst (λ s. IfSome (goals_end s run.own) (λ end. run_goals c.args.module.now.budget (nth_answer run.answers) 0 c.args.module.now.goals [] ≡ end)) c.in-None.is c.run_goals-answers.ensures.end)
     (subst (λ (own : List OwnBytes). (before : Files) → (after : Files) × EndsAfterGoals c.args.plan.now c.args.module.now own c.end_module-ending.result before after) c.as_slice.ensures (c.end_module-ending.ensures.always q))
+
+pub returns-in-Some-clause-count : goal.returns-in-Some-clause-count
+returns-in-Some-clause-count g c = λ q.
+    let run = c.run_goals-answers.result in
+    stop_has_all c.args.module.now run.answers run.own c.in-Some.ending (subst IsStop c.in-Some.is c.run_goals-answers.ensures.stop) q
+    (subst (λ s. IfSome (goals_end s run.own) (λ _. HasAllAnswers c.args.module.now run.answers)) c.in-Some.is c.run_goals-answers.ensures.count)
+
+pub returns-in-None-clause-count : goal.returns-in-None-clause-count
+returns-in-None-clause-count g c = λ q.
+    let run = c.run_goals-answers.result in
+    subst (λ s. IfSome (goals_end s run.own) (λ _. HasAllAnswers c.args.module.now run.answers)) c.in-None.is c.run_goals-answers.ensures.count

@@ -70,6 +70,15 @@ third=$(cd .m2/repository && find . -type f | sort | xargs sha256sum)
 [ "$first" = "$third" ] && passed=$((passed + 1)) || { failed=$((failed + 1)); echo "end to end: a failed goal changed the repository"; }
 rm src/main/java/demo/fail-compile
 
+# sources of one byte more than is allowed together; `validate` doesn't read them
+mkdir -p src/test/resources
+truncate -s $((268435456 + 1 - $(wc -c < src/main/java/demo/App.java))) src/test/resources/big
+want 'sources over the limit' 2 $'refused pom.xml rule 1 TooLarge at sources\n' install
+want 'sources over the limit, unread' 0 "$report" validate
+truncate -s -1 src/test/resources/big
+want 'sources at the limit' 0 "$report" install
+rm -r src/test
+
 # a folder in the place of the jar: the name stays as it was
 rm -rf .m2
 mkdir -p "$folder/app-1.0.jar/in"

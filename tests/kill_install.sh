@@ -29,15 +29,17 @@ state "$pom" > whole.pom
 
 torn=0
 killed=0
+changed=0
 for ((i = 0; i < kills; i++)); do
   [ $((i % 20)) = 0 ] && rm -rf .m2
   source=$([ $((i % 2)) = 0 ] && echo old || echo new)
   head -c 2000000 /dev/zero | tr '\0' "${source:0:1}" > src/main/java/App.java
   "$mvn" install > /dev/null 2>&1 &
   pid=$!
-  sleep "0.0$((RANDOM % 100 + 100))"
+  sleep "$(printf '0.%03d' $((RANDOM % 80)))"
   kill -9 "$pid" 2>/dev/null && killed=$((killed + 1))
   wait "$pid" 2>/dev/null
+  [ -e "$jar" ] && state "$jar" | cmp -s - "$source.jar" && changed=$((changed + 1))
   if [ -e "$pom" ]; then state "$pom" | cmp -s - whole.pom || torn=$((torn + 1)); fi
   if [ -e "$jar" ]; then
     state "$jar" | cmp -s - old.jar || state "$jar" | cmp -s - new.jar || torn=$((torn + 1))
@@ -49,5 +51,5 @@ last=$("$mvn" install)
 state "$jar" | cmp -s - new.jar && state "$pom" | cmp -s - whole.pom || torn=$((torn + 1))
 [ "$last" = $'built demo:app:1.0\ntotal 1 built 1 failed 0 skipped 0' ] || torn=$((torn + 1))
 left=$(find .m2/repository/.staging -type f 2>/dev/null | wc -l)
-echo "kills: $kills runs, $killed killed while they ran, $torn names torn or runs that differ, $left pieces left"
+echo "kills: $kills runs, $killed killed while they ran, the jar new after $changed, $torn names torn or runs that differ, $left pieces left"
 [ "$torn" = 0 ] && [ "$left" = 0 ]

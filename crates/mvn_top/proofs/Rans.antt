@@ -4,21 +4,25 @@ use Rattle.std.specs.List.{slice_index_or}
 use Rattle.mvn_shared.specs.Files.{Files}
 use Rattle.mvn_outside.specs.declared.goal.OwnBytes.{OwnBytes}
 use Rattle.mvn_outside.specs.declared.goal.GoalAnswer.{GoalAnswer}
+use Rattle.mvn_outside.specs.declared.goal.GoalCall.{GoalCall}
+use Rattle.mvn_outside.specs.declared.goal.GoalRequest.{GoalRequest}
 use Rattle.mvn_outside.specs.declared.shelf.ShelfTold.{ShelfTold}
 use Rattle.build_core.specs.declared.plan.Plan.{Plan}
 use Rattle.build_core.specs.declared.plan.PlanModule.{PlanModule}
+use Rattle.build_core.specs.declared.plan.Entry.{Entry}
 use Rattle.build_core.specs.declared.ending.Ending.{Ending}
 use Rattle.build_core.specs.declared.ending.Ending.TheVariants as ending
 use Rattle.build_core.specs.declared.ending.State.{State}
 use Rattle.build_core.specs.declared.ending.State.TheVariants.{Waiting, Skipped, Ended}
-use Rattle.build_core.specs.OneThread.{Supply, Progress, Fetched, beginning, ends, fetched, after_fetch, one_module, is_built, first_unbuilt, next_module, one_thread}
+use Rattle.build_core.specs.OneThread.{Supply, Progress, Fetched, beginning, ends, fetched, after_fetch, one_module, is_built, first_unbuilt, next_module, one_thread, request, classpath}
 use Rattle.run_report.specs.declared.row.RowEnd.{RowEnd}
 use Rattle.run_report.specs.declared.row.RowEnd.TheVariants as row
 use Rattle.run_report.specs.Report.{report_text}
-use Rattle.one_hand.specs.Running.{nth_answer}
+use Rattle.one_hand.specs.Running.{nth_answer, bare_request, AreAnswers}
 use Rattle.one_hand.specs.Built.{LeavesFiles, EndsAfterFetch}
 use Rattle.mvn_top.specs.declared.outcome.Outcome.{Outcome}
 use Rattle.mvn_top.specs.Rows.{call_text_of, said, ending_row, bare_row, rows, states_status}
+use Rattle.mvn_top.specs.Headline.{FitsRequests}
 use Rattle.mvn_top.specs.Ran.{ran, IsOne, clean_outcome, RanSo, RanAlways}
 
 -- a module without a fetch list
@@ -76,3 +80,12 @@ leaves_ran plan m answers own end answer (Some told) now tells one clean h = λ 
 pub always_ran : (plan : Plan) (m : PlanModule) (answers : List GoalAnswer) (own : List OwnBytes) (end : Ending) (answer : Outcome) → IsOne plan m → clean_outcome m answers end answer
     → ((before : Files) → (after : Files) × EndsAfterFetch plan m answers own end before after) → RanAlways plan answers answer
 always_ran plan m answers own end answer one clean h before = let left = h before in (left.0, ran_so plan m answers own end answer before left.0 one left.1 clean)
+
+-- ---- requests
+
+-- without entries of a classpath the definition's request has none
+request_is_bare : (plan : Plan) (files : Files) (outputs : List (List OwnBytes)) (m : PlanModule) (call : GoalCall) (own : List OwnBytes) → m.entries ≡ [] → request plan files outputs m call own ≡ bare_request m call own
+request_is_bare plan files outputs m call own e = ap (λ (es : List Entry). record { «module» = m.gav; call = call; sources = m.sources; own = own; classpath = classpath plan files outputs call.need es }) e
+
+pub fits_requests : (test : GoalRequest → GoalAnswer → Bool) (plan : Plan) (m : PlanModule) (answers : List GoalAnswer) → m.entries ≡ [] → AreAnswers test m answers → FitsRequests test plan m answers
+fits_requests test plan m answers e h files outputs i answer at call here = ap (λ (r : GoalRequest). test r answer) (request_is_bare plan files outputs m call _ e) ∙ h i answer at call here

@@ -1,13 +1,16 @@
 -- What a call answers and leaves, as a function of its words and of what stands outside. Own rules.
-use Rattle.std.specs.Prelude.{◌≡◌, ◌⊎◌, ℕ, suc, Bool, List, [], ◌∷◌, map, Option, Some, None, Result, Ok, Err}
+use Rattle.std.specs.Prelude.{◌≡◌, ◌⊎◌, ℕ, suc, Bool, true, List, [], ◌∷◌, map, slice_get, Option, Some, None, Result, Ok, Err}
 use Rattle.mvn_shared.specs.Files.{Files}
 use Rattle.mvn_outside.specs.declared.goal.GoalAnswer.{GoalAnswer}
+use Rattle.mvn_outside.specs.declared.goal.GoalCall.{GoalCall}
+use Rattle.mvn_outside.specs.declared.goal.OwnBytes.{OwnBytes}
 use Rattle.mvn_outside.specs.declared.goal.GoalRequest.{GoalRequest}
 use Rattle.build_core.specs.declared.plan.Plan.{Plan}
 use Rattle.build_core.specs.declared.plan.PlanModule.{PlanModule}
 use Rattle.build_core.specs.declared.event.Answered.{Answered}
-use Rattle.build_core.specs.OneThread.{Supply, answer_at, one_thread}
-use Rattle.one_hand.specs.Running.{nth_answer, AreAnswers, HasAllAnswers}
+use Rattle.build_core.specs.Slots.{slots_before}
+use Rattle.build_core.specs.OneThread.{Supply, answer_at, request, one_thread}
+use Rattle.one_hand.specs.Running.{nth_answer, HasAllAnswers}
 use Rattle.mvn_top.specs.declared.command.Command.{Command}
 use Rattle.mvn_top.specs.declared.outcome.Outcome.{Outcome}
 use Rattle.mvn_top.specs.Commands.{command_of}
@@ -59,9 +62,14 @@ files_after words world = files_with world (plan_of words world.tree)
 abbrev pub IsSingle : Plan → Type 0
 IsSingle plan = (m : PlanModule) × IsOne plan m
 
--- the answers are the gate's, to the requests that the definition names
+-- each answer that was kept is one to the request that the definition names, whatever files and other modules' outputs there are
+abbrev pub FitsRequests : (GoalRequest → GoalAnswer → Bool) → Plan → PlanModule → List GoalAnswer → Type 0
+FitsRequests test plan m answers = (files : Files) (outputs : List (List OwnBytes)) (i : ℕ) (answer : GoalAnswer) → slice_get answers i ≡ Some answer → (call : GoalCall) → slice_get m.goals i ≡ Some call
+    → test (request plan files outputs m call (slots_before m.budget (nth_answer answers) i m.goals)) answer ≡ true
+
+-- so of the one module of a plan
 abbrev pub AnswersFit : (GoalRequest → GoalAnswer → Bool) → Plan → List GoalAnswer → Type 0
-AnswersFit test plan answers = (m : PlanModule) → plan.modules ≡ m ∷ [] → AreAnswers test m answers
+AnswersFit test plan answers = (m : PlanModule) → plan.modules ≡ m ∷ [] → FitsRequests test plan m answers
 
 -- as many answers are kept as goals that the definition reaches by them
 abbrev pub CountFits : Plan → List GoalAnswer → Type 0

@@ -2,9 +2,9 @@
 ghost use Rattle.std.specs.Prelude.{◌≡◌, ◌<◌, ◌≤◌, ◌⊎◌, [], ◌∷◌, true, false, is_some, IfOk, IfSome};
 ghost use Rattle.mvn_shared.specs.Cause.{HasRisen};
 ghost use Rattle.mvn_outside.specs.Shelf.{IsSettled};
-ghost use Rattle.one_hand.specs.Running.{AreAnswers, HasAllAnswers};
+ghost use Rattle.one_hand.specs.Running.{HasAllAnswers};
 ghost use Rattle.one_hand.specs.Built.{is_quiet, is_bare_ending, LeavesFiles};
-ghost use Rattle.mvn_top.specs.Headline.{IsSingle, AnswersFit, CountFits};
+ghost use Rattle.mvn_top.specs.Headline.{IsSingle, FitsRequests, AnswersFit, CountFits};
 ghost use Rattle.mvn_top.specs.Once.{PublishesOnce};
 ghost use Rattle.mvn_top.specs.Ran.{is_clean, clean_outcome, is_memory, lacks_memory, IsOne, RanSo, RanAlways};
 ghost use Rattle.mvn_top.specs.Rows.{states_status};
@@ -118,7 +118,7 @@ fn build_one<R, S: Shelf, G: Gate>(
     ensures count { IfOk result.outcome (λ answer. answer.status < 3 → HasAllAnswers module.now result.answers) }
     ensures once { PublishesOnce (S.told shelf.old) (S.told shelf.new) }
     ensures settled { IfOk result.outcome (λ answer. answer.status < 3 → IfSome (S.told shelf.new) IsSettled) }
-    ensures answers { IfSome (G.answers hand.old.gate) (λ test. AreAnswers test module.now result.answers) }
+    ensures answers { IfSome (G.answers hand.old.gate) (λ test. FitsRequests test plan.now module.now result.answers) }
     ensures quiet { IfOk result.outcome (λ answer. answer.status < 3 → (S.faults shelf.new ≡ S.faults shelf.old) × (S.Area.faults hand.new.area ≡ S.Area.faults hand.old.area) × (G.faults hand.new.gate ≡ G.faults hand.old.gate)) }
     ensures fault { IfOk result.outcome (λ answer. answer.status ≡ 3 → HasRisen (S.faults shelf.old) (S.faults shelf.new) ⊎ (HasRisen (S.Area.faults hand.old.area) (S.Area.faults hand.new.area) ⊎ HasRisen (G.faults hand.old.gate) (G.faults hand.new.gate))) }
 {

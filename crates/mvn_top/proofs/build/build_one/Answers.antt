@@ -2,12 +2,14 @@ use Rattle.std.proofs.Common.{◌≡◌, ◌<◌, ◌⊎◌, List, true, false, 
 use Rattle.mvn_shared.specs.Cause.{HasRisen}
 use Rattle.mvn_outside.specs.declared.goal.GoalAnswer.{GoalAnswer}
 use Rattle.mvn_outside.specs.Shelf.{settled_all}
-use Rattle.one_hand.specs.Running.{HasAllAnswers}
+use Rattle.one_hand.specs.Running.{AreAnswers, HasAllAnswers}
 use Rattle.one_hand.specs.Built.{LeavesFiles}
 use Rattle.mvn_top.specs.Ran.{is_clean, lacks_memory, clean_outcome, RanSo, RanAlways}
 use Rattle.mvn_top.proofs.Builds.{clean_quiet, leaves_settled, low_is_clean, three_is_faulty, whose_fault, if_ok_both, if_ok_under}
 use Rattle.mvn_top.proofs.Onces.{once_of_adds}
-use Rattle.mvn_top.proofs.Rans.{leaves_ran, always_ran}
+use Rattle.mvn_top.specs.Headline.{FitsRequests}
+use Rattle.mvn_top.proofs.SourcesRead.{if_some_map}
+use Rattle.mvn_top.proofs.Rans.{leaves_ran, always_ran, fits_requests}
 use Rattle.mvn_top.proofs.build.build_one.Goals as goal
 
 pub returns-clause-outcome : goal.returns-clause-outcome
@@ -76,3 +78,10 @@ returns-clause-count g c =
     (λ answer bad again low. c.build_module-run.ensures.count (clean_quiet run.ending settled (low_is_clean run.ending settled answer (is_clean run.ending settled) refl bad low)).1)
     (if_ok_under (λ answer. answer.status ≡ 3) result c.outcome_of-outcome.ensures.fault)
     (if_ok_under (λ answer. answer.status ≡ 3) result c.outcome_of-outcome.ensures.fault)
+
+pub returns-clause-answers : goal.returns-clause-answers
+returns-clause-answers g c =
+    let run = c.build_module-run.result in
+    let m = c.args.module.now in
+    if_some_map (λ test. AreAnswers test m run.answers) (λ test. FitsRequests test c.args.plan.now m run.answers) (g.G.Gate.answers c.args.hand.now.gate)
+    (λ test h. fits_requests test c.args.plan.now m run.answers c.requires.one.bare.no_entries h) c.build_module-run.ensures.answers

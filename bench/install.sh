@@ -1,13 +1,7 @@
 #!/usr/bin/env bash
 # How the time of `mvn install` grows with the bytes of the sources, and with their number, as ratios in one run. A ratio of
 # the sizes is what a few passes cost; its square would be a rescan.
-set -eu
-cd "$(dirname "$0")/.."
-mvn=$PWD/bin/mvn
-[ -x "$mvn" ] || { echo "bench: no bin/mvn here; call ./build first"; exit 0; }
-work=$(mktemp -d)
-trap 'rm -rf "$work"' EXIT
-cd "$work"
+. "$(dirname "$0")/common.sh"
 printf '<project><modelVersion>4.0.0</modelVersion><groupId>demo</groupId><artifactId>app</artifactId><version>1.0</version></project>' > pom.xml
 
 # The nanoseconds of one install: the least of 7 tries, since a busy machine only adds

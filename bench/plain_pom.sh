@@ -1,13 +1,7 @@
 #!/usr/bin/env bash
 # How the time of `mvn validate` grows with the bytes of one plain POM, as ratios in one run. A ratio of the sizes is
 # what one pass costs; its square would be a rescan.
-set -eu
-cd "$(dirname "$0")/.."
-mvn=$PWD/bin/mvn
-[ -x "$mvn" ] || { echo "bench: no bin/mvn here; call ./build first"; exit 0; }
-work=$(mktemp -d)
-trap 'rm -rf "$work"' EXIT
-cd "$work"
+. "$(dirname "$0")/common.sh"
 
 # A plain POM of this many bytes, nearly all of them white space
 pom() {

@@ -23,7 +23,12 @@ pub struct Builtin {
 }
 
 impl Builtin {
-    pub fn new(alloc: Global) -> Builtin {
+    ghost use Rattle.std.specs.Prelude.{true};
+
+    /// The built-in goals; what they make is allocated with `alloc`. Constant cost. Own.
+    pub fn new(alloc: Global) -> Builtin
+        ensures never { ⟦<Builtin as Gate>⟧.never_fails result ≡ true }
+    {
         Builtin { alloc }
     }
 }

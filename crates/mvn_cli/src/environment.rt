@@ -44,7 +44,7 @@ fn bytes_of<R: Env>(rt: &R, alloc: Global, wanted: Wanted) -> Mem<Option<Vec<u8>
 }
 
 /// The words behind the program's name.
-pub fn words<R: Env>(rt: &R, alloc: Global) -> Mem<Vec<Bytes>> {
+pub(crate) fn words<R: Env>(rt: &R, alloc: Global) -> Mem<Vec<Bytes>> {
     let mut words = Vec::new(alloc);
     for i in 1..usize::MAX {
         let Some(word) = bytes_of(rt, alloc, Wanted::Word(i))? else {
@@ -80,7 +80,7 @@ fn put_variable(alloc: Global, variables: &mut BTreeMap<Text, Text>, entry: &[u8
 }
 
 /// The variables of the environment whose name and value are texts; of two with one name the first counts.
-pub fn variables<R: Env>(rt: &R, alloc: Global) -> Mem<BTreeMap<Text, Text>> {
+pub(crate) fn variables<R: Env>(rt: &R, alloc: Global) -> Mem<BTreeMap<Text, Text>> {
     let mut variables = BTreeMap::new(alloc);
     for i in 0..usize::MAX {
         let Some(entry) = bytes_of(rt, alloc, Wanted::Variable(i))? else {
@@ -92,7 +92,7 @@ pub fn variables<R: Env>(rt: &R, alloc: Global) -> Mem<BTreeMap<Text, Text>> {
 }
 
 /// The value of a variable, or the text that stands for it where there is none.
-pub fn variable_or(
+pub(crate) fn variable_or(
     alloc: Global,
     variables: &BTreeMap<Text, Text>,
     name: &str,
@@ -117,7 +117,7 @@ fn pairs(alloc: Global, variables: &BTreeMap<Text, Text>) -> Mem<List<Pair>> {
 }
 
 /// What a project may ask of this machine.
-pub fn machine(alloc: Global, variables: &BTreeMap<Text, Text>) -> Mem<Machine> {
+pub(crate) fn machine(alloc: Global, variables: &BTreeMap<Text, Text>) -> Mem<Machine> {
     Ok(Machine {
         root: variable_or(alloc, variables, "PWD", ".")?,
         env: pairs(alloc, variables)?,

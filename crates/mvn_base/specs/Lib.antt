@@ -1,5 +1,6 @@
 pub mod FileName
 pub mod Gav
+pub mod Key
 pub mod Names
 pub mod Phase
 pub mod Rule

@@ -1,6 +1,8 @@
 ghost use Rattle.std.specs.Prelude.{◌≡◌, IfOk};
+ghost use Rattle.mvn_base.specs.Gav.{lock_name};
 
-use mvn_shared::Text;
+use mvn_shared::{Mem, Text};
+use std::alloc::Global;
 use std::fmt;
 
 /// A coordinate: group, artifact and version. POM Reference, "Maven Coordinates".
@@ -24,4 +26,12 @@ impl fmt::Display for Gav {
         let version = &self.version;
         write!(f, "{group}:{artifact}:{version}")
     }
+}
+
+/// The name of the lock that covers a coordinate's files: `artifact:group:artifact:version`. Costs its length. An own
+/// spelling, by the three parts that the Resolver's GAV name mapper takes.
+pub fn lock_name(alloc: Global, gav: &Gav) -> Mem<Text>
+    ensures { IfOk result (λ name. name ≡ lock_name gav.now) }
+{
+    Ok(Text::of(format!(in alloc; "artifact:{gav}")?))
 }

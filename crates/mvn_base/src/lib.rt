@@ -3,6 +3,7 @@
 
 pub mod file_name;
 pub mod gav;
+pub mod key;
 pub mod machine;
 pub mod names;
 pub mod phase;
@@ -12,7 +13,8 @@ pub mod setting;
 pub mod type_rule;
 
 pub use file_name::{FileName, artifact_folder, file_of, version_in};
-pub use gav::Gav;
+pub use gav::{Gav, lock_name};
+pub use key::{Key, key_text};
 pub use machine::{Machine, Pair};
 pub use mvn_shared::{Bytes, FileMap, List, Mem, OutOfMemory, Text, TextError};
 pub use names::{valid_group, valid_name, valid_version};

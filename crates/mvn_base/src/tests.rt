@@ -1,8 +1,9 @@
 // Names and lines, as tables of outside examples.
 use crate::{
-    FileName, Gav, List, Mem, Phase, Place, PomId, Refusal, Rule, Setting, Text, file_of, handler,
-    phase_of, valid_group, valid_name, valid_version, version_in,
+    FileName, Gav, Key, List, Mem, Phase, Place, PomId, Refusal, Rule, Setting, Text, file_of,
+    handler, key_text, lock_name, phase_of, valid_group, valid_name, valid_version, version_in,
 };
+use std::alloc::Global;
 use std::test::Fail;
 
 #[test]
@@ -251,6 +252,44 @@ fn a_setting_is_copied_with_its_children(rt: HostRuntime) -> Result<(), Fail> {
     assert_eq!(rt;
         (copy.name.as_str(), second.name.as_str()),
         ("parent", "second")
+    );
+    Ok(())
+}
+
+fn key(alloc: Global, kind: &str, classifier: &str) -> Mem<Key> {
+    Ok(Key {
+        group: Text::from_str(alloc, "org.demo")?,
+        artifact: Text::from_str(alloc, "app")?,
+        kind: Text::from_str(alloc, kind)?,
+        classifier: Text::from_str(alloc, classifier)?,
+    })
+}
+
+#[test]
+fn a_key_is_written_with_its_classifier_where_it_has_one(rt: HostRuntime) -> Result<(), Fail> {
+    let alloc = rt.alloc();
+    for (kind, classifier, text) in [
+        ("jar", "", "org.demo:app:jar"),
+        ("test-jar", "tests", "org.demo:app:test-jar:tests"),
+        ("", "x", "org.demo:app::x"),
+    ] {
+        let written = key_text(alloc, &key(alloc, kind, classifier)?)?;
+        assert_eq!(rt; written.as_str(), text);
+    }
+    Ok(())
+}
+
+#[test]
+fn a_lock_is_named_by_its_coordinate(rt: HostRuntime) -> Result<(), Fail> {
+    let alloc = rt.alloc();
+    let gav = Gav {
+        group: Text::from_str(alloc, "org.demo")?,
+        artifact: Text::from_str(alloc, "app")?,
+        version: Text::from_str(alloc, "1.0")?,
+    };
+    assert_eq!(rt;
+        lock_name(alloc, &gav)?.as_str(),
+        "artifact:org.demo:app:1.0"
     );
     Ok(())
 }

@@ -1,0 +1,10 @@
+pub mod Splits
+pub mod Trims
+pub mod Numbers
+pub mod Gathers
+pub mod Ends
+pub mod Compares
+pub mod Spaces
+pub mod Words
+pub mod Greatest
+pub mod Equals

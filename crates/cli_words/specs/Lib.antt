@@ -1,0 +1,3 @@
+pub mod Faults
+pub mod Spellings
+pub mod Options

@@ -1,0 +1,38 @@
+use mvn_base::{Pair, Phase};
+use mvn_shared::{List, Text};
+
+/// A selector of modules, and the number of the word where it stands. Guide to Working with Multiple Modules.
+#[derive(Clone, Debug, Drop, PartialEq, Eq)]
+pub struct Word {
+    pub place: u32,
+    pub text: Text,
+}
+
+/// The profiles that are switched on and off by name. Introduction to Build Profiles.
+#[derive(Debug, Drop)]
+pub struct Choice {
+    pub on: List<Text>,
+    pub off: List<Text>,
+}
+
+/// What a command line asks for.
+#[derive(Debug, Drop)]
+pub struct CommandLine {
+    /// How many modules may be built at once, 1 where nothing is said. Parallel Builds in Maven 3.
+    pub workers: u32,
+    /// The last phase that runs. Introduction to the Build Lifecycle.
+    pub phase: Phase,
+    pub choice: Choice,
+    /// The properties that are given, in the order of the words: of one name the last counts.
+    pub defines: List<Pair>,
+    /// The selectors of modules; all modules where there is none. Guide to Working with Multiple Modules.
+    pub projects: List<Word>,
+    /// Whether what the selected modules stand on is built too.
+    pub also_make: bool,
+    /// Whether what stands on the selected modules is built too.
+    pub also_make_dependents: bool,
+    /// The module from which on is built.
+    pub from: Option<Word>,
+    /// Whether the report has the full lines. Own word.
+    pub full: bool,
+}

@@ -1,0 +1,27 @@
+use crate::command_line::{Choice, Word};
+use crate::spelling::Wanted;
+use mvn_base::{Pair, Phase};
+use mvn_shared::List;
+
+/// A number of workers, and the word where it stands.
+#[derive(Clone, Copy, Debug)]
+pub struct Count {
+    pub place: u32,
+    pub value: u32,
+}
+
+/// What the words so far say.
+#[derive(Debug, Drop)]
+pub struct Line {
+    /// The value that the next word is, where an option stands before it.
+    pub awaits: Option<Wanted>,
+    pub workers: Option<Count>,
+    pub phase: Option<Phase>,
+    pub choice: Choice,
+    pub defines: List<Pair>,
+    pub projects: List<Word>,
+    pub also_make: bool,
+    pub also_make_dependents: bool,
+    pub from: Option<Word>,
+    pub full: bool,
+}

@@ -77,6 +77,12 @@ pub enum WordError {
 }
 
 impl fmt::Display for WordError {
+    ghost use Rattle.std.specs.Prelude.{Some};
+    ghost use Rattle.cli_words.specs.Faults.{error_text};
+
+    ghost output = { λ error. Some (error_text error) };
+
+    #[tactic(auto, unfolding(crate::specs::Faults::error_text))]
     fn fmt<W: fmt::Write>(&self, f: &mut fmt::Formatter<W>) -> fmt::Result {
         match self {
             WordError::Fault(fault) => write!(f, "{fault}"),

@@ -7,3 +7,4 @@ pub mod Intervals
 pub mod Requirements
 pub mod Stands
 pub mod Highest
+pub mod Faults

@@ -13,6 +13,12 @@ pub enum RequirementError {
 }
 
 impl fmt::Display for RequirementError {
+    ghost use Rattle.std.specs.Prelude.{Some};
+    ghost use Rattle.version_order.specs.Faults.{error_text};
+
+    ghost output = { λ error. Some (error_text error) };
+
+    #[tactic(auto, unfolding(crate::specs::Faults::error_text))]
     fn fmt<W: fmt::Write>(&self, f: &mut fmt::Formatter<W>) -> fmt::Result {
         match self {
             RequirementError::BadRange { place } => write!(

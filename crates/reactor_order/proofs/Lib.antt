@@ -1,0 +1,12 @@
+pub mod Marking
+pub mod Reaching
+pub mod Adjacency
+pub mod Keeping
+pub mod Releasing
+pub mod Placing
+pub mod Beginning
+pub mod Turning
+pub mod Going
+pub mod Walks
+pub mod Selecting
+pub mod Orders

@@ -1,0 +1,11 @@
+pub mod Graph
+pub mod Marks
+pub mod Keep
+pub mod Order
+pub mod Ready
+pub mod Waiting
+pub mod Cycle
+pub mod Walking
+pub mod Answers
+pub mod Select
+pub mod Laws

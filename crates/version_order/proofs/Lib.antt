@@ -8,3 +8,6 @@ pub mod Spaces
 pub mod Words
 pub mod Greatest
 pub mod Equals
+pub mod Listed
+pub mod Reached
+pub mod Spelled

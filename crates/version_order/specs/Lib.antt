@@ -8,3 +8,4 @@ pub mod Requirements
 pub mod Stands
 pub mod Highest
 pub mod Faults
+pub mod Spelling

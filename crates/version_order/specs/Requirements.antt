@@ -78,14 +78,14 @@ read_on at reading (b ∷ text) = by (next reading b) (λ further. read_on (at +
     by None rest = Err at
     by (Some further) rest = rest further
 
--- the intervals, or the place from which there are none
+-- the intervals, or the place from which there are none: the length, where more has to follow
+abbrev pub list_of : ℕ → Result Reading ℕ → Result (List Interval) ℕ
+list_of end (Ok (behind done)) = Ok done
+list_of end (Ok reading) = Err end
+list_of end (Err place) = Err place
+
 abbrev pub hard : List ℕ → Result (List Interval) ℕ
-hard text = by (read_on 0 (before []) text)
-  where
-    by : Result Reading ℕ → Result (List Interval) ℕ
-    by (Ok (behind done)) = Ok done
-    by (Ok reading) = Err (length text)
-    by (Err place) = Err place
+hard text = list_of (length text) (read_on 0 (before []) text)
 
 -- where the first divider stands
 abbrev pub divider_place : List ℕ → ℕ

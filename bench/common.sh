@@ -1,8 +1,36 @@
-# What each measurement begins with: the built program as `mvn`, and a folder of its own to work in, gone when it ends.
+# What each measurement begins with: a built program by its path, a folder of its own to work in, gone when it ends, and how
+# the time of one run is taken and told. A script says what one run is, by a function `once`, and what comes before it
+# untimed, by `prepare`.
 set -eu
 cd "$(dirname "$0")/.."
-mvn=$PWD/bin/mvn
-[ -x "$mvn" ] || { echo "bench: no bin/mvn here; call ./build first"; exit 0; }
 work=$(mktemp -d)
 trap 'rm -rf "$work"' EXIT
-cd "$work"
+
+# PROGRAM, HOW IT IS MADE: leaves its path in `program`
+want() {
+  program=$PWD/$1
+  [ -x "$program" ] || { echo "bench: no $1 here; call $2 first"; exit 0; }
+  cd "$work"
+}
+
+prepare() { :; }
+
+# TRIES: the nanoseconds of one run, the least of so many, since a busy machine only adds
+least() {
+  local begin spent best=
+  for _ in $(seq "$1"); do
+    prepare
+    begin=$(date +%s%N)
+    once
+    spent=$(($(date +%s%N) - begin))
+    if [ -z "$best" ] || [ "$spent" -lt "$best" ]; then best=$spent; fi
+  done
+  echo "$best"
+}
+
+# LABEL, SIZE, NANOSECONDS over the empty case: a line, with the ratio to the first since `first` was emptied
+row() {
+  [ -n "$first" ] || first=$3
+  awk -v label="$1" -v size="$2" -v spent="$3" -v first="$first" \
+    'BEGIN { printf "%s %9d  over the empty case %9.2f ms  ratio %5.2f\n", label, size, spent / 1e6, spent / first }'
+}

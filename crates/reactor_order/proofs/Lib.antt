@@ -10,3 +10,4 @@ pub mod Going
 pub mod Walks
 pub mod Selecting
 pub mod Orders
+pub mod Cycles

@@ -1,5 +1,5 @@
 -- What an order is, and that there is one at most.
-use Rattle.std.proofs.Common.{◌≡◌, ◌↔◌, ◌⊎◌, inl, inr, ℕ, zero, suc, ◌+◌, ◌<◌, ◌≤◌, Bool, true, false, not, ◌&&◌, ◌||◌, ◌==◌, List, [], ◌∷◌, ◌++◌, length, get_or, set, replicate, find, Option, Some, None, Result, Ok, Err, append-nil, append_assoc, refl, sym, ap, subst, ◌∙◌, arith}
+use Rattle.std.proofs.Common.{◌≡◌, ◌↔◌, ◌⊎◌, inl, inr, ℕ, zero, suc, ◌+◌, ◌<◌, ◌≤◌, Bool, true, false, not, ◌&&◌, ◌||◌, ◌==◌, List, [], ◌∷◌, ◌++◌, length, get_or, set, replicate, find, Option, Some, None, Result, Ok, Err, append-nil, append_assoc, length-append, refl, sym, ap, subst, ◌∙◌, arith}
 use Rattle.std.proofs.lemmas.Bool.{false≢true}
 use Rattle.std.proofs.lemmas.Bool.Decides.{nat_tests}
 use Rattle.std.specs.List.{list_all}
@@ -67,7 +67,7 @@ order_exactly n edges list = (is_order n edges list (length (all_placed n edges)
         rw (same, whole) refl
 
 -- what a search finds passes
-find_passes : (p : ℕ → Bool) (from count m : ℕ) → find p (numbers from count) ≡ Some m → (p m ≡ true) × (m < from + count)
+pub find_passes : (p : ℕ → Bool) (from count m : ℕ) → find p (numbers from count) ≡ Some m → (p m ≡ true) × (m < from + count)
 find_passes p from zero m e = absurd (never e)
   where
     nothing : Option ℕ
@@ -88,7 +88,7 @@ and_both : (a b : Bool) → (a && b) ≡ true → (a ≡ true) × (b ≡ true)
 and_both true b e = (refl, e)
 and_both false b e = absurd (false≢true e)
 
-not_true : (a : Bool) → not a ≡ true → a ≡ false
+pub not_true : (a : Bool) → not a ≡ true → a ≡ false
 not_true true e = absurd (false≢true e)
 not_true false e = refl
 
@@ -112,11 +112,11 @@ upstreams_before n edges list is front rest m u e there =
     all_have front (upstreams edges m) u (and_both (not (has front m)) (list_all (has front) (upstreams edges m)) passes.0).1 there
 
 -- the marks of a list without repeats
-record MarksOf (n : ℕ) (list : List ℕ) : Type 0 where
-  marks : List Bool
-  marked : IsMarked marks list
-  long : length marks ≡ n
-  once : (m : ℕ) → times m list ≤ 1
+pub record MarksOf (n : ℕ) (list : List ℕ) : Type 0 where
+  pub marks : List Bool
+  pub marked : IsMarked marks list
+  pub long : length marks ≡ n
+  pub once : (m : ℕ) → times m list ≤ 1
 
 times_of : (front : List ℕ) (x m : ℕ) → has front x ≡ false → times x front ≡ 0
 times_of [] x m e = refl
@@ -126,7 +126,7 @@ times_of (y ∷ front) x m e = by (y == x) refl (times_of front x m)
     by true same rest = absurd (false≢true (sym e ∙ ap (λ b. b || has front x) same))
     by false other rest = rw other (rest (sym (ap (λ b. b || has front x) other) ∙ e))
 
-marks_more : (n : ℕ) (front : List ℕ) (x : ℕ) → x < n → has front x ≡ false → MarksOf n front → MarksOf n (front ++ x ∷ [])
+pub marks_more : (n : ℕ) (front : List ℕ) (x : ℕ) → x < n → has front x ≡ false → MarksOf n front → MarksOf n (front ++ x ∷ [])
 marks_more n front x low free is =
     let more = mark_one is.marks front x is.marked (subst (λ k. x < k) (sym is.long) low) (sym (is.marked.same x) ∙ free) in
     record { marks = set is.marks x true; marked = more.marked; long = more.long ∙ is.long; once = λ m. by m (x == m) refl }
@@ -140,17 +140,17 @@ marks_more n front x low free is =
         let other : times m (x ∷ []) ≡ 0 = rw e refl in
         omega (arith, other, times_append m front (x ∷ []), is.once m)
 
-marks_all : (n : ℕ) (edges : Edges) (front rest : List ℕ) → GoesOn n edges front rest → MarksOf n front → MarksOf n (front ++ rest)
+pub marks_all : (n : ℕ) (edges : Edges) (front rest : List ℕ) → GoesOn n edges front rest → MarksOf n front → MarksOf n (front ++ rest)
 marks_all n edges front [] g is = subst (MarksOf n) (sym (append-nil front)) is
 marks_all n edges front (x ∷ rest) g is =
     let passes = find_passes (can_follow edges front) 0 n x g.0 in
     let free = not_true (has front x) (and_both (not (has front x)) (list_all (has front) (upstreams edges x)) passes.0).0 in
     subst (MarksOf n) (append_assoc front (x ∷ []) rest) (marks_all n edges (front ++ x ∷ []) rest g.1 (marks_more n front x (omega (arith, passes.1)) free is))
 
-no_marks : (n : ℕ) → MarksOf n []
+pub no_marks : (n : ℕ) → MarksOf n []
 no_marks n = record { marks = replicate n false; marked = (all_free n).marked; long = (all_free n).long; once = λ m. omega arith }
 
-full_marks : (marks : List Bool) (m : ℕ) → unmarked marks ≡ 0 → m < length marks → get_or marks m false ≡ true
+pub full_marks : (marks : List Bool) (m : ℕ) → unmarked marks ≡ 0 → m < length marks → get_or marks m false ≡ true
 full_marks [] m none low = absurd (never (omega (arith, low)))
   where
     never : ⊥ → ⊥
@@ -182,3 +182,29 @@ each_once n edges list is = record {
 
     each : (m : ℕ) → m < n → has list m ≡ true
     each m low = marks.marked.same m ∙ full_marks marks.marks m (omega (arith, marks.marked.count, marks.long, is.all)) (subst (λ k. m < k) (sym marks.long) low)
+
+-- what is placed has marks
+pub placed_marks : (n : ℕ) (edges : Edges) → MarksOf n (all_placed n edges)
+placed_marks n edges = let p = placed_goes n n edges [] in subst (MarksOf n) (sym p.is) (marks_all n edges [] p.rest p.goes (no_marks n))
+
+-- the turns end with none that can follow, or each has placed one
+full_or_none : (turns n : ℕ) (edges : Edges) (front : List ℕ) → (next_module n edges (placed_from turns n edges front) ≡ None) ⊎ (length (placed_from turns n edges front) ≡ turns + length front)
+full_or_none zero n edges front = inr (omega arith)
+full_or_none (suc turns) n edges front = by (next_module n edges front) refl (λ m. full_or_none turns n edges (front ++ m ∷ []))
+  where
+    longer : (m : ℕ) → (next_module n edges (placed_from turns n edges (front ++ m ∷ [])) ≡ None) ⊎ (length (placed_from turns n edges (front ++ m ∷ [])) ≡ turns + length (front ++ m ∷ [])) → (next_module n edges (placed_from turns n edges (front ++ m ∷ [])) ≡ None) ⊎ (length (placed_from turns n edges (front ++ m ∷ [])) ≡ suc turns + length front)
+    longer m (inl none) = inl none
+    longer m (inr full) = inr (omega (arith, full, length-append front (m ∷ [])))
+
+    by : (o : Option ℕ) → next_module n edges front ≡ o → ((m : ℕ) → (next_module n edges (placed_from turns n edges (front ++ m ∷ [])) ≡ None) ⊎ (length (placed_from turns n edges (front ++ m ∷ [])) ≡ turns + length (front ++ m ∷ []))) → (next_module n edges (placed_from (suc turns) n edges front) ≡ None) ⊎ (length (placed_from (suc turns) n edges front) ≡ suc turns + length front)
+    by None e more = let same : placed_from (suc turns) n edges front ≡ front = rw e refl in inl (ap (next_module n edges) same ∙ e)
+    by (Some m) e more =
+        let same : placed_from (suc turns) n edges front ≡ placed_from turns n edges (front ++ m ∷ []) = rw e refl in
+        subst (λ l. (next_module n edges l ≡ None) ⊎ (length l ≡ suc turns + length front)) (sym same) (longer m (more m))
+
+pub none_follows_all : (n : ℕ) (edges : Edges) → (length (all_placed n edges) == n) ≡ false → next_module n edges (all_placed n edges) ≡ None
+none_follows_all n edges short = by (full_or_none n n edges [])
+  where
+    by : (next_module n edges (all_placed n edges) ≡ None) ⊎ (length (all_placed n edges) ≡ n + 0) → next_module n edges (all_placed n edges) ≡ None
+    by (inl none) = none
+    by (inr full) = let whole : (length (all_placed n edges) == n) ≡ true = grind (arith, nat_tests, full) in absurd (false≢true (sym short ∙ whole))

@@ -23,3 +23,16 @@ pub record HasEachOnce (n : ℕ) (list : List ℕ) : Type 0 where
 -- each upstream of a module stands before it
 abbrev pub HasUpstreamsBefore : Edges → List ℕ → Type 0
 HasUpstreamsBefore edges list = (front rest : List ℕ) (m u : ℕ) → list ≡ front ++ m ∷ rest → has (upstreams edges m) u ≡ true → has front u ≡ true
+
+-- each module of a list has the next as an upstream
+abbrev pub IsChain : Edges → List ℕ → Type 0
+IsChain edges [] = Unit {0}
+IsChain edges (a ∷ []) = Unit {0}
+IsChain edges (a ∷ b ∷ list) = (has (upstreams edges a) b ≡ true) × IsChain edges (b ∷ list)
+
+-- and the last has the first
+pub record IsCycle (edges : Edges) (list : List ℕ) : Type 0 where
+  pub first : ℕ
+  pub rest : List ℕ
+  pub begins : list ≡ first ∷ rest
+  pub chain : IsChain edges (list ++ first ∷ [])

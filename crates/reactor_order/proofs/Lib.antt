@@ -11,3 +11,4 @@ pub mod Walks
 pub mod Selecting
 pub mod Orders
 pub mod Cycles
+pub mod Clearing

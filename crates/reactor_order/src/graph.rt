@@ -1,6 +1,6 @@
 ghost use Rattle.std.specs.Prelude.{◌≡◌, ℕ, ◌<◌, [], ◌∷◌, ◌++◌, length, get_or, IfOk, OnOk};
 ghost use Rattle.reactor_order.specs.Graph.{AreBelow, AreEdgesBelow, Edges, IsGraph, upstreams};
-ghost use Rattle.reactor_order.specs.Marks.{AreReached};
+ghost use Rattle.reactor_order.specs.Marks.{AreFree, AreReached, IsMarked};
 
 use crate::marks::Marks;
 use mvn_shared::{List, Mem};
@@ -46,24 +46,39 @@ impl Graph {
         Ok(graph)
     }
 
+    /// Marks the modules that one comes to from these over upstreams, where none is marked. Costs what is marked and the
+    /// edges there.
+    pub(crate) fn reach(&self, marks: &mut Marks, starts: &[u32]) -> Mem<()>
+        requires graph { (m : ℕ) → AreBelow (length self.now.lists.items) (get_or self.now.lists.items m []) }
+        requires free { AreFree (length self.now.lists.items) marks.old.marks.items marks.old.found.items }
+        requires starts { AreBelow (length self.now.lists.items) starts.now }
+        ensures marked { OnOk result (IsMarked marks.new.marks.items marks.new.found.items) }
+        ensures reached { (n : ℕ) (edges : Edges) → IsGraph n edges self.now.lists.items → OnOk result (AreReached (upstreams edges) starts.now n marks.new.marks.items) }
+    {
+        reach(&self.lists, marks, starts)?;
+        Ok(())
+    }
+
     /// Which modules one comes to from these over upstreams. Costs the modules and the edges.
     pub(crate) fn reached(&self, alloc: Global, starts: &[u32]) -> Mem<Vec<bool>>
         requires graph { (m : ℕ) → AreBelow (length self.now.lists.items) (get_or self.now.lists.items m []) }
         requires starts { AreBelow (length self.now.lists.items) starts.now }
         ensures { (n : ℕ) (edges : Edges) → IsGraph n edges self.now.lists.items → IfOk result (λ marks. AreReached (upstreams edges) starts.now n marks.items) }
     {
-        let marks = reached(alloc, &self.lists, starts)?;
-        Ok(marks)
+        let mut marks = Marks::new(alloc, self.lists.len())?;
+        self.reach(&mut marks, starts)?;
+        Ok(marks.marks)
     }
 }
 
-// Which modules one comes to from these over what stands next.
-fn reached(alloc: Global, next: &[List<u32>], starts: &[u32]) -> Mem<Vec<bool>>
+// Marks the modules that one comes to from these over what stands next.
+fn reach(next: &[List<u32>], marks: &mut Marks, starts: &[u32]) -> Mem<()>
     requires next { (m : ℕ) → AreBelow (length next.now) (get_or next.now m []) }
+    requires free { AreFree (length next.now) marks.old.marks.items marks.old.found.items }
     requires starts { AreBelow (length next.now) starts.now }
-    ensures { IfOk result (λ marks. AreReached (λ m. get_or next.now m []) starts.now (length next.now) marks.items) }
+    ensures marked { OnOk result (IsMarked marks.new.marks.items marks.new.found.items) }
+    ensures reached { OnOk result (AreReached (λ m. get_or next.now m []) starts.now (length next.now) marks.new.marks.items) }
 {
-    let mut marks = Marks::new(alloc, next.len())?;
     marks.mark_all(starts)?;
     let mut at = 0;
     while at < marks.found.len() {
@@ -71,5 +86,5 @@ fn reached(alloc: Global, next: &[List<u32>], starts: &[u32]) -> Mem<Vec<bool>>
         marks.mark_all(next[m].as_slice())?;
         at += 1;
     }
-    Ok(marks.marks)
+    Ok(())
 }

@@ -48,4 +48,16 @@ impl Marks {
         }
         Ok(())
     }
+
+    /// Takes all marks away. Costs their number.
+    pub(crate) fn clear(&mut self)
+        requires { IsMarked self.old.marks.items self.old.found.items }
+        ensures { AreFree (length self.old.marks.items) self.new.marks.items self.new.found.items }
+    {
+        for at in 0..self.found.len() {
+            let m = self.found[at] as usize;
+            self.marks[m] = false;
+        }
+        self.found.clear();
+    }
 }

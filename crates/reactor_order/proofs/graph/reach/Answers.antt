@@ -3,10 +3,10 @@ use Rattle.std.proofs.lemmas.List.{get_or_default}
 use Rattle.reactor_order.specs.Graph.{has}
 use Rattle.reactor_order.specs.Marks.{AreMarked}
 use Rattle.reactor_order.proofs.Reaching.{search_begins, search_goes_on, search_ends, looks_at}
-use Rattle.reactor_order.proofs.graph.reached.Goals as goal
+use Rattle.reactor_order.proofs.graph.reach.Goals as goal
 
 pub loop-at-init : goal.loop-at-init
-loop-at-init c = search_begins (λ m. get_or c.args.next.now m []) c.args.starts.now _ _ _ _ _ c.in_ok-marks.ensures c.in_ok-mark_all.ensures
+loop-at-init c = search_begins (λ m. get_or c.args.next.now m []) c.args.starts.now _ _ _ _ _ c.requires.free c.in_ok-mark_all.ensures
 
 pub bounds-next-m : goal.bounds-next-m
 bounds-next-m c =
@@ -39,5 +39,5 @@ loop-at-preserved c =
     subst (λ l. AreMarked l c.loop-at.marks.marks.items c.mark_all-in-loop-at.new.self.marks.items found c.mark_all-in-loop-at.new.self.found.items) list c.in_ok-mark_all-2.ensures in
     search_goes_on (λ m. get_or next m []) c.args.starts.now (length next) c.loop-at.at c.loop-at.marks.marks.items c.mark_all-in-loop-at.new.self.marks.items found c.mark_all-in-loop-at.new.self.found.items c.loop-at.invariant at_found more
 
-pub returns : goal.returns
-returns c = search_ends (λ m. get_or c.args.next.now m []) c.args.starts.now (length c.args.next.now) c.loop-at.at c.loop-at.marks.marks.items c.loop-at.marks.found.items c.loop-at.invariant (search rules)
+pub returns-clause-reached : goal.returns-clause-reached
+returns-clause-reached c = search_ends (λ m. get_or c.args.next.now m []) c.args.starts.now (length c.args.next.now) c.loop-at.at c.loop-at.marks.marks.items c.loop-at.marks.found.items c.loop-at.invariant (search rules)

@@ -1,0 +1,39 @@
+#!/usr/bin/env bash
+# How fast texts are read, in MB/s of the built program `element_count`, each of 1 MiB or just below: a POM like those that
+# people write, elements in 63 others, one long text, references alone, and one comment that doesn't end. A tenth of each is
+# measured beside it: ten times its time is what linear costs.
+. "$(dirname "$0")/common.sh"
+want crates/element_count/out/element_count '(cd crates/element_count && rt run)'
+once() { "$program" < in > out; }
+
+# BYTES: a text of as many or a few less
+dependencies() {
+  awk -v most="$1" 'BEGIN {
+    print "<?xml version=\"1.0\" encoding=\"UTF-8\"?>\n<project xmlns=\"http://maven.apache.org/POM/4.0.0\">\n  <modelVersion>4.0.0</modelVersion>\n  <dependencies>"
+    for (i = 0; (i + 4) * 190 < most; i++)
+      printf "    <!-- number %06d -->\n    <dependency>\n      <groupId>org.example.group</groupId>\n      <artifactId>artifact-%06d</artifactId>\n      <version>1.2.%06d</version>\n    </dependency>\n", i, i, i
+    print "  </dependencies>\n</project>" }'
+}
+nested() {
+  awk -v most="$1" 'BEGIN {
+    printf "<r>"
+    for (i = 0; (i + 1) * 441 < most; i++) {
+      for (k = 0; k < 63; k++) printf "<b>"
+      for (k = 0; k < 63; k++) printf "</b>"
+    }
+    printf "</r>" }'
+}
+long() { printf '<r>'; head -c $(($1 - 8)) /dev/zero | tr '\0' 'x'; printf '</r>'; }
+references() { awk -v most="$1" 'BEGIN { printf "<r>"; for (i = 0; (i + 3) * 5 < most; i++) printf "&amp;"; printf "</r>" }'; }
+unfinished() { printf '<r><!--'; head -c $(($1 - 8)) /dev/zero | tr '\0' '-'; }
+
+printf '<r/>' > in
+base=$(least 15)
+for kind in dependencies nested long references unfinished; do
+  for most in 104857 1048576; do
+    "$kind" "$most" > in
+    spent=$(($(least 15) - base))
+    awk -v kind="$kind" -v bytes="$(wc -c < in)" -v spent="$spent" -v told="$(cat out)" \
+      'BEGIN { printf "%-12s %7d bytes  %8.2f ms  %7.1f MB/s  %s\n", kind, bytes, spent / 1e6, bytes * 1e3 / spent, told }'
+  done
+done

@@ -1,0 +1,17 @@
+pub mod Marks
+pub mod Digits
+pub mod Texts
+pub mod Fronts
+pub mod Ups
+pub mod Attributes
+pub mod Tags
+pub mod Pieces
+pub mod Runs
+pub mod Chains
+pub mod Ends
+pub mod Decodes
+pub mod Declarations
+pub mod Bounds
+pub mod Opens
+pub mod Answered
+pub mod Trees

@@ -1,0 +1,14 @@
+-- An element that is changed in a list of elements.
+use Rattle.std.proofs.Common.{◌≡◌, ℕ, zero, suc, ◌<◌, ◌≤◌, List, [], ◌∷◌, length, get_or, set, refl, ap, ◌∙◌, arith}
+use Rattle.pom_text.specs.declared.node.Node.{Node}
+use Rattle.pom_text.specs.Tree.{changed}
+
+pub set_changed : (f : Node → Node) (at : ℕ) (nodes : List Node) (old now : Node) → at < length nodes → old ≡ get_or nodes at old → now ≡ f old → set nodes at now ≡ changed f at nodes
+set_changed f at [] old now low here is = absurd (omega (arith, low))
+set_changed f zero (node ∷ nodes) old now low here is = ap (λ n. n ∷ nodes) (is ∙ ap f here)
+set_changed f (suc at) (node ∷ nodes) old now low here is = ap (λ l. node ∷ l) (set_changed f at nodes old now (omega (arith, low)) here is)
+
+pub not_changed : (f : Node → Node) (at : ℕ) (nodes : List Node) → length nodes ≤ at → changed f at nodes ≡ nodes
+not_changed f at [] end = refl
+not_changed f zero (node ∷ nodes) end = absurd (omega (arith, end))
+not_changed f (suc at) (node ∷ nodes) end = ap (λ l. node ∷ l) (not_changed f at nodes (omega (arith, end)))

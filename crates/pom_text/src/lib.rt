@@ -1,0 +1,26 @@
+//! The text of a POM, read into elements: the grammar, exactly, and the first place at which it fails.
+#![tactic(auto)]
+
+mod attribute;
+mod character;
+mod declaration;
+mod encoding;
+mod fault;
+mod law;
+mod node;
+mod part;
+mod piece;
+mod read;
+mod reader;
+mod reference;
+mod spelled;
+mod tree;
+mod words;
+
+pub use fault::TextFault;
+pub use law::one_reading;
+pub use node::{Node, PomText};
+pub use read::{TEXT_LIMIT, read_text};
+
+#[cfg(test)]
+mod tests;

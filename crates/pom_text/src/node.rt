@@ -1,0 +1,18 @@
+use mvn_shared::{List, Text};
+
+/// An element: its name, the names of its attributes, its own text, and the numbers of the elements directly in it. Texts
+/// are in UTF-8; the text joins what stands directly in the element, with references and CDATA resolved and each line end a
+/// line feed. XML 1.0.
+#[derive(Clone, Debug, Drop)]
+pub struct Node {
+    pub name: Text,
+    pub attributes: List<Text>,
+    pub text: Text,
+    pub children: List<u32>,
+}
+
+/// The elements of a POM, in the order in which they begin: the root is number 0, and each child comes after its parent.
+#[derive(Clone, Debug, Drop)]
+pub struct PomText {
+    pub nodes: List<Node>,
+}

@@ -47,7 +47,15 @@ want 'no word' 2 $'not built yet\n'
 want 'a word that is not UTF-8' 2 $'not built yet\n' $'\xff\xfe'
 want 'the version' 0 $'mvn 0.1.0 (POM model 4.0.0)\n' --version
 head -c 1048577 /dev/zero > pom.xml
-want 'a POM over the limit' 2 $'not built yet\n' validate
+want 'a POM over the limit' 2 $'refused pom.xml rule 1 TooLarge at 1048576\n' validate
+printf '<project><modelVersion>4.0.0</modelVersion></project' > pom.xml
+want 'a POM without its last bracket' 2 $'refused pom.xml rule 3 NotPomText at 43\n' validate
+printf '<!DOCTYPE project><project/>' > pom.xml
+want 'a document type' 2 $'refused pom.xml rule 4 Doctype at 0\n' validate
+printf '<project><modelVersion>4.0.0</modelVersion><dependencies><dependency/></dependencies></project>' > pom.xml
+want 'a dependency of nothing' 2 $'refused pom.xml rule 8 MissingField at project/dependencies/dependency[1]/groupId\n' validate
+printf '\xef\xbb\xbf<?xml version="1.0"?>\r\n<!-- by hand -->\r\n%s\r\n' "${pom/<version>/<name>An app<\/name><version>}" > pom.xml
+want 'a POM with more in it' 0 "$report" validate
 printf '%s' "$pom" > pom.xml
 
 # install: the POM and the jar lie in the repository, whole, and a second run changes no byte

@@ -1,6 +1,5 @@
 pub mod Builds
 pub mod Calls
-pub mod Elements
 pub mod Onces
 pub mod Planned
 pub mod Projects
@@ -10,4 +9,3 @@ pub mod SourcesRead
 pub mod Stops
 pub mod Tops
 pub mod Valid
-pub mod Spelling

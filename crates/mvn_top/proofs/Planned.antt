@@ -12,7 +12,7 @@ use Rattle.mvn_top.specs.declared.sources.SourcesFault.{SourcesFault}
 use Rattle.mvn_top.specs.declared.sources.SourcesFault.TheVariants.{Failed, TooMany, Memory}
 use Rattle.mvn_top.specs.Planning.{plan_for}
 use Rattle.mvn_top.specs.Sources.{sources_of, sources_failed, GivesSources}
-use Rattle.mvn_top.specs.Outcome.{fault_tree, refused, too_many_sources}
+use Rattle.mvn_top.specs.Outcome.{fault_tree, refused_by, too_many_sources}
 use Rattle.mvn_top.specs.Project.{PlannedFrom, GivesModule, plan_failed}
 use Rattle.mvn_top.proofs.SourcesRead.{if_some_map}
 
@@ -48,7 +48,7 @@ unfolding fault_tree
 fault_tree_failed = refl
 
 too_many_is_no_fault : plan_failed (Err too_many_sources) ≡ false
-unfolding too_many_sources refused
+unfolding too_many_sources refused_by
 too_many_is_no_fault = refl
 
 -- the plan fails where the sources do

@@ -1,5 +1,5 @@
 -- A project's plan by what reading its POM gave.
-use Rattle.std.proofs.Common.{◌≡◌, inl, inr, ℕ, Bool, true, false, ◌==◌, not, cond, List, length, Option, Some, None, Result, Ok, Err, IfSome, refl, sym, ap, subst, ◌∙◌}
+use Rattle.std.proofs.Common.{◌≡◌, inl, inr, ℕ, Bool, true, false, ◌==◌, List, Option, Some, None, Result, Ok, Err, IfSome, refl, sym, ap, subst, ◌∙◌}
 use Rattle.mvn_shared.specs.Cause.{HasCause}
 use Rattle.mvn_shared.specs.Files.{Files}
 use Rattle.mvn_base.specs.declared.gav.Gav.{Gav}
@@ -7,18 +7,20 @@ use Rattle.mvn_base.specs.declared.rule.Rule.{Rule}
 use Rattle.mvn_base.specs.declared.rule.Rule.TheVariants as rule
 use Rattle.mvn_base.specs.declared.refusal.Place.{Place}
 use Rattle.mvn_base.specs.declared.refusal.Place.TheVariants.{Byte, Name}
-use Rattle.mvn_base.specs.Names.{is_filled}
+use Rattle.mvn_base.specs.declared.refusal.PomId.TheVariants.{Path}
+use Rattle.mvn_base.specs.declared.refusal.Refusal.{Refusal}
+use Rattle.model_types.specs.declared.model.RawModel.{RawModel}
+use Rattle.pom_model.specs.Raw.{raw}
+use Rattle.pom_text.specs.Answers.{Answer, answer}
 use Rattle.build_core.specs.declared.plan.Plan.{Plan}
 use Rattle.mvn_top.specs.declared.command.Command.{Command}
-use Rattle.mvn_top.specs.declared.plain.Field.TheVariants.{GroupId, Version, ArtifactId}
 use Rattle.mvn_top.specs.declared.outcome.Outcome.{Outcome}
 use Rattle.mvn_top.specs.declared.reading.Reading.{Reading}
 use Rattle.mvn_top.specs.declared.reading.Reading.TheVariants.{Faulty, TooLong, Missing, Found}
-use Rattle.mvn_top.specs.Plain.{Value}
-use Rattle.mvn_top.specs.Elements.{text_of, plain_of}
-use Rattle.mvn_top.specs.Reading.{reading_of, pom_path, Agrees, is_faulty}
+use Rattle.mvn_top.specs.Simple.{bare_gav}
+use Rattle.mvn_top.specs.Reading.{reading_of, pom_limit, pom_path, Agrees, is_faulty}
 use Rattle.mvn_top.specs.Sources.{sources_of}
-use Rattle.mvn_top.specs.Outcome.{fault_tree, not_built, refused, missing_field, of_elements, of_plain, of_text, of_pom, pom_bytes, sources_for, planned_of, planned_with}
+use Rattle.mvn_top.specs.Outcome.{fault_tree, not_built, refused, refused_by, of_answer, of_bare, of_raw, of_text, of_pom, pom_bytes, sources_for, planned_of, planned_with}
 use Rattle.mvn_top.specs.Project.{GivesModule, GivesProject, plan_failed}
 use Rattle.mvn_top.proofs.SourcesRead.{if_some_both}
 use Rattle.mvn_top.proofs.Planned.{told_sources}
@@ -82,31 +84,28 @@ unfolding not_built
 not_built_refuses = refl
 
 refused_refuses : (r : Rule) (place : Place) → IsRefusal (Err (refused r place))
-unfolding refused
+unfolding refused_by
 refused_refuses r place = refl
 
-missing_refuses : (path : List ℕ) → IsRefusal (Err (missing_field path))
-unfolding missing_field
-missing_refuses path = refused_refuses rule.MissingField (Name path)
+by_refuses : (refusal : Refusal) → IsRefusal (Err (refused_by refusal))
+unfolding refused_by
+by_refuses refusal = refl
 
-cond_refuses : (b : Bool) (x y : Result Gav Outcome) → IsRefusal x → IsRefusal y → IsRefusal (cond b x y)
-cond_refuses true x y p q = p
-cond_refuses false x y p q = q
+bare_refuses : (o : Option Gav) → IsRefusal (of_bare o)
+bare_refuses None = not_built_refuses
+bare_refuses (Some gav) = tt
 
-elements_refuse : (values : List Value) → IsRefusal (of_elements values)
-unfolding of_elements
-elements_refuse values =
-    cond_refuses (not (is_filled (text_of GroupId values))) _ _ (missing_refuses _)
-    (cond_refuses (not (is_filled (text_of Version values))) _ _ (missing_refuses _)
-    (cond_refuses (not (is_filled (text_of ArtifactId values))) _ _ (missing_refuses _) tt))
+raw_refuses : (r : Result RawModel Refusal) → IsRefusal (of_raw r)
+raw_refuses (Ok model) = bare_refuses (bare_gav model)
+raw_refuses (Err refusal) = by_refuses refusal
 
-plain_refuses : (o : Option (List Value)) → IsRefusal (of_plain o)
-plain_refuses None = not_built_refuses
-plain_refuses (Some values) = elements_refuse values
+answer_refuses : (a : Answer) → IsRefusal (of_answer a)
+answer_refuses (Ok nodes) = raw_refuses (raw nodes (Path pom_path))
+answer_refuses (Err e) = refused_refuses e.0 (Byte e.1)
 
 text_refuses : (bytes : List ℕ) → IsRefusal (of_text bytes)
 unfolding of_text
-text_refuses bytes = cond_refuses (length bytes == 0) _ _ (refused_refuses rule.NotPomText (Byte 0)) (plain_refuses (plain_of bytes))
+text_refuses bytes = answer_refuses (answer bytes)
 
 no_fault : (o : Outcome) (before now : ℕ) → (o.status == 3) ≡ false → now ≡ before → HasCause before now (plan_failed (Err o))
 no_fault o before now s q = subst (HasCause before now) (sym s) q
@@ -122,6 +121,6 @@ is_fault o before now e h = subst (λ (r : Result Gav Outcome). HasCause before 
 pub cause_of_refusal : (reading : Reading) (o : Outcome) (before now : ℕ) → of_pom reading ≡ Err o → HasCause before now (is_faulty (Ok reading)) → HasCause before now (plan_failed (Err o))
 unfolding of_pom
 cause_of_refusal Faulty o before now e h = is_fault o before now e h
-cause_of_refusal TooLong o before now e h = no_fault o before now (subst IsRefusal e not_built_refuses) h
+cause_of_refusal TooLong o before now e h = no_fault o before now (subst IsRefusal e (refused_refuses rule.TooLarge (Byte pom_limit))) h
 cause_of_refusal Missing o before now e h = no_fault o before now (subst IsRefusal e (refused_refuses rule.ModuleNotFound (Name pom_path))) h
 cause_of_refusal (Found bytes) o before now e h = no_fault o before now (subst IsRefusal e (text_refuses bytes)) h

@@ -1,10 +1,10 @@
 -- From the words to the outcome: what is answered without a build, and the plan that a build is given.
-use Rattle.std.proofs.Common.{◌≡◌, inl, inr, ℕ, ◌<◌, ◌≤◌, Bool, true, false, not, ◌==◌, cond, length, List, Option, Some, None, Result, Ok, Err, IfOk, IfSome, refl, sym, ap, subst, ◌∙◌, arith}
+use Rattle.std.proofs.Common.{◌≡◌, inl, inr, ℕ, ◌<◌, ◌≤◌, Bool, true, false, cond, length, List, Option, Some, None, Result, Ok, Err, IfOk, IfSome, refl, sym, ap, subst, ◌∙◌, arith}
 use Rattle.mvn_shared.specs.Files.{Files}
 use Rattle.mvn_base.specs.declared.gav.Gav.{Gav}
 use Rattle.mvn_base.specs.declared.rule.Rule.{Rule}
 use Rattle.mvn_base.specs.declared.refusal.Place.{Place}
-use Rattle.mvn_base.specs.Names.{is_filled}
+use Rattle.mvn_base.specs.declared.refusal.Place.TheVariants.{Byte}
 use Rattle.mvn_outside.specs.declared.goal.SourceFile.{SourceFile}
 use Rattle.mvn_outside.specs.declared.goal.GoalAnswer.{GoalAnswer}
 use Rattle.mvn_outside.specs.declared.shelf.ShelfTold.{ShelfTold}
@@ -14,17 +14,21 @@ use Rattle.one_hand.specs.Running.{HasNoPom}
 use Rattle.one_hand.specs.Built.{LeavesFiles}
 use Rattle.mvn_top.specs.declared.command.Command.{Command}
 use Rattle.mvn_top.specs.declared.command.Command.TheVariants.{Validate, Install}
-use Rattle.mvn_top.specs.declared.plain.Field.TheVariants.{GroupId, Version, ArtifactId}
 use Rattle.mvn_top.specs.declared.outcome.Outcome.{Outcome}
 use Rattle.mvn_top.specs.declared.reading.Reading.{Reading}
 use Rattle.mvn_top.specs.declared.reading.Reading.TheVariants.{Faulty, TooLong, Missing, Found}
-use Rattle.mvn_top.specs.Plain.{Value}
-use Rattle.mvn_top.specs.Elements.{text_of, plain_of}
+use Rattle.mvn_base.specs.declared.refusal.PomId.TheVariants.{Path}
+use Rattle.mvn_base.specs.declared.refusal.Refusal.{Refusal}
+use Rattle.model_types.specs.declared.model.RawModel.{RawModel}
+use Rattle.pom_model.specs.Raw.{raw}
+use Rattle.pom_text.specs.Answers.{Answer, answer}
+use Rattle.mvn_top.specs.Reading.{pom_path}
+use Rattle.mvn_top.specs.Simple.{bare_gav}
 use Rattle.mvn_top.specs.Reading.{reading_of}
 use Rattle.mvn_top.specs.Sources.{sources_of}
 use Rattle.mvn_top.specs.Commands.{command_of}
 use Rattle.mvn_top.specs.Planning.{jar_goals, goals_for, module_for, plan_for}
-use Rattle.mvn_top.specs.Outcome.{fault_tree, not_built, refused, missing_field, too_many_sources, of_elements, of_plain, of_text, of_pom, pom_bytes, sources_for, planned_of, planned_with, planned}
+use Rattle.mvn_top.specs.Outcome.{fault_tree, not_built, refused, refused_by, too_many_sources, of_answer, of_bare, of_raw, of_text, of_pom, pom_bytes, sources_for, planned_of, planned_with, planned}
 use Rattle.mvn_top.specs.Project.{GivesProject}
 use Rattle.mvn_top.specs.Ran.{IsOne, RanSo}
 use Rattle.mvn_top.proofs.Onces.{file_names_distinct}
@@ -148,12 +152,8 @@ not_built_high : IsRefused not_built.status
 not_built_high = (omega (arith, not_built_status), omega (arith, not_built_status))
 
 refused_high : (r : Rule) (place : Place) → IsRefused (refused r place).status
-unfolding refused
+unfolding refused_by
 refused_high r place = (omega arith, omega arith)
-
-missing_high : (path : List ℕ) → IsRefused (missing_field path).status
-unfolding missing_field
-missing_high path = refused_high _ _
 
 too_many_high : IsRefused too_many_sources.status
 unfolding too_many_sources
@@ -163,25 +163,30 @@ cond_high : {A : Type 0} (b : Bool) (x y : Result A Outcome) → IsHigh x → Is
 cond_high true x y p q = p
 cond_high false x y p q = q
 
-elements_high : (values : List Value) → IsHigh (of_elements values)
-unfolding of_elements
-elements_high values =
-    cond_high (not (is_filled (text_of GroupId values))) _ _ (missing_high _)
-    (cond_high (not (is_filled (text_of Version values))) _ _ (missing_high _)
-    (cond_high (not (is_filled (text_of ArtifactId values))) _ _ (missing_high _) tt))
+by_high : (refusal : Refusal) → IsRefused (refused_by refusal).status
+unfolding refused_by
+by_high refusal = (omega arith, omega arith)
 
-plain_high : (o : Option (List Value)) → IsHigh (of_plain o)
-plain_high None = not_built_high
-plain_high (Some values) = elements_high values
+bare_high : (o : Option Gav) → IsHigh (of_bare o)
+bare_high None = not_built_high
+bare_high (Some gav) = tt
+
+raw_high : (r : Result RawModel Refusal) → IsHigh (of_raw r)
+raw_high (Ok model) = bare_high (bare_gav model)
+raw_high (Err refusal) = by_high refusal
+
+answer_high : (a : Answer) → IsHigh (of_answer a)
+answer_high (Ok nodes) = raw_high (raw nodes (Path pom_path))
+answer_high (Err e) = refused_high e.0 (Byte e.1)
 
 text_high : (bytes : List ℕ) → IsHigh (of_text bytes)
 unfolding of_text
-text_high bytes = cond_high (length bytes == 0) _ _ (refused_high _ _) (plain_high (plain_of bytes))
+text_high bytes = answer_high (answer bytes)
 
 pom_high : (reading : Reading) → IsHigh (of_pom reading)
 unfolding of_pom
 pom_high Faulty = (omega (arith, fault_status), omega (arith, fault_status))
-pom_high TooLong = not_built_high
+pom_high TooLong = refused_high _ _
 pom_high Missing = refused_high _ _
 pom_high (Found bytes) = text_high bytes
 

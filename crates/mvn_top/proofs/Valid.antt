@@ -1,75 +1,71 @@
--- The coordinates of a plain POM are valid.
-use Rattle.std.proofs.Common.{◌≡◌, ℕ, Bool, true, false, ◌&&◌, ◌||◌, ◌==◌, nat_eq, if◌then◌else◌, List, codes, length, Option, Some, None, Result, Ok, Err, unwrap_or, refl, sym, ap, subst, ◌∙◌}
-use Rattle.std.specs.Cmp.Lexicographic.{pointwise}
+-- The coordinates of a module that is built are valid.
+use Rattle.std.proofs.Common.{◌≡◌, ℕ, Bool, true, false, ◌&&◌, if◌then◌else◌, List, Option, Some, None, Result, Ok, Err, refl, ap, subst}
 use Rattle.mvn_base.specs.declared.gav.Gav.{Gav}
+use Rattle.mvn_base.specs.declared.refusal.PomId.TheVariants.{Path}
+use Rattle.mvn_base.specs.declared.refusal.Refusal.{Refusal}
 use Rattle.mvn_base.specs.FileName.{IsValid}
 use Rattle.mvn_base.specs.Names.{is_group, is_name, is_version}
-use Rattle.mvn_top.specs.declared.plain.Field.TheVariants.{ModelVersion, GroupId, Version, ArtifactId}
+use Rattle.model_types.specs.declared.model.RawModel.{RawModel}
+use Rattle.pom_model.specs.Raw.{raw}
+use Rattle.pom_text.specs.Answers.{Answer, answer}
 use Rattle.mvn_top.specs.declared.outcome.Outcome.{Outcome}
 use Rattle.mvn_top.specs.declared.reading.Reading.{Reading}
 use Rattle.mvn_top.specs.declared.reading.Reading.TheVariants.{Faulty, TooLong, Missing, Found}
-use Rattle.mvn_top.specs.Plain.{◌>>=◌, Value}
-use Rattle.mvn_top.specs.Elements.{text_of, is_unique, is_empty_or, is_plain, project_of, plain_of}
-use Rattle.mvn_top.specs.Outcome.{of_elements, of_plain, of_text, of_pom}
+use Rattle.mvn_top.specs.Outcome.{of_answer, of_bare, of_pom, of_raw, of_text}
+use Rattle.mvn_top.specs.Reading.{pom_path}
+use Rattle.mvn_top.specs.Simple.{bare_gav, coordinates, is_bare}
 
-gav_in : Gav → Result Gav Outcome → Gav
-gav_in other (Ok gav) = gav
-gav_in other (Err answer) = other
+all_three : (a b c : Bool) → (a && b && c) ≡ true → (a ≡ true) × (b ≡ true) × (c ≡ true)
+all_three true true true h = (refl, refl, refl)
+all_three false b c h = cc
+all_three true false c h = cc
+all_three true true false h = cc
 
--- three tests, of which none held
-none_held : (b c d : Bool) (x y z : Outcome) (g gav : Gav) → (if b then Err x else (if c then Err y else (if d then Err z else Ok g))) ≡ Ok gav → (b ≡ false) × (c ≡ false) × (d ≡ false) × (g ≡ gav)
+gav_in : Gav → Option Gav → Gav
+gav_in other (Some gav) = gav
+gav_in other None = other
+
+tested : (group artifact version : List ℕ) (gav : Gav) (b : Bool) → (is_group group && is_name artifact && is_version version) ≡ b → (if b then Some (record { group = group; artifact = artifact; version = version }) else None) ≡ Some gav → IsValid gav
 unfolding gav_in
-none_held true c d x y z g gav e = cc
-none_held false true d x y z g gav e = cc
-none_held false false true x y z g gav e = cc
-none_held false false false x y z g gav e = (refl, refl, refl, ap (gav_in g) e)
+tested group artifact version gav true t e =
+    let each = all_three (is_group group) (is_name artifact) (is_version version) t in
+    let this : Gav = record { group = group; artifact = artifact; version = version } in
+    subst IsValid (ap (gav_in this) e) (record { group = each.0; artifact = each.1; version = each.2 })
+tested group artifact version gav false t e = cc
 
-last_three : (a b c d e : Bool) → (a && b && c && d && e) ≡ true → (c ≡ true) × (d ≡ true) × (e ≡ true)
-last_three true true true true true h = (refl, refl, refl)
-last_three false b c d e h = cc
-last_three true false c d e h = cc
-last_three true true false d e h = cc
-last_three true true true false e h = cc
-last_three true true true true false h = cc
+coordinates_valid : (group : Option (List ℕ)) (artifact : List ℕ) (version : Option (List ℕ)) (gav : Gav) → coordinates group artifact version ≡ Some gav → IsValid gav
+coordinates_valid (Some group) artifact (Some version) gav e = tested group artifact version gav (is_group group && is_name artifact && is_version version) refl e
+coordinates_valid (Some group) artifact None gav e = cc
+coordinates_valid None artifact version gav e = cc
 
-passes : (x y : Bool) → x ≡ false → (x || y) ≡ true → y ≡ true
-passes true y p q = cc
-passes false y p q = q
+bare_valid : (model : RawModel) (gav : Gav) → bare_gav model ≡ Some gav → IsValid gav
+unfolding bare_gav
+bare_valid model gav e = by (is_bare model) e
+  where
+    by : (b : Bool) → (if b then coordinates model.group model.artifact model.version else None) ≡ Some gav → IsValid gav
+    by true s = coordinates_valid model.group model.artifact model.version gav s
+    by false s = cc
 
-elements_valid : (values : List Value) (gav : Gav) → is_plain values ≡ true → of_elements values ≡ Ok gav → IsValid gav
-unfolding of_elements is_plain
-elements_valid values gav plain e =
-    let none = none_held _ _ _ _ _ _ _ gav e in
-    let each = last_three (is_unique values) (pointwise nat_eq (text_of ModelVersion values) (codes "4.0.0")) (is_empty_or is_group (text_of GroupId values)) (is_empty_or is_version (text_of Version values)) (is_empty_or is_name (text_of ArtifactId values)) plain in
-    subst IsValid none.3 (record {
-      group = passes _ _ none.0 each.0;
-      artifact = passes _ _ none.2 each.2;
-      version = passes _ _ none.1 each.1;
-    })
+result_in : Gav → Result Gav Outcome → Gav
+result_in other (Ok gav) = gav
+result_in other (Err answer) = other
 
-tested_plain : (vs values : List Value) (b : Bool) → is_plain vs ≡ b → (if b then Some vs else None) ≡ Some values → is_plain values ≡ true
-tested_plain vs values true p e = ap (λ (o : Option (List Value)). is_plain (unwrap_or o vs)) (sym e) ∙ p
-tested_plain vs values false p e = cc
+of_bare_valid : (o : Option Gav) (gav : Gav) → ((g : Gav) → o ≡ Some g → IsValid g) → of_bare o ≡ Ok gav → IsValid gav
+unfolding result_in
+of_bare_valid None gav h e = cc
+of_bare_valid (Some g) gav h e = subst IsValid (ap (result_in g) e) (h g refl)
 
-found_plain : (o : Option (List Value)) (values : List Value) → (o >>= λ vs. if is_plain vs then Some vs else None) ≡ Some values → is_plain values ≡ true
-found_plain None values e = cc
-found_plain (Some vs) values e = tested_plain vs values (is_plain vs) refl e
+raw_valid : (r : Result RawModel Refusal) (gav : Gav) → of_raw r ≡ Ok gav → IsValid gav
+raw_valid (Ok model) gav e = of_bare_valid (bare_gav model) gav (bare_valid model) e
+raw_valid (Err refusal) gav e = cc
 
-plain_is_plain : (bytes : List ℕ) (values : List Value) → plain_of bytes ≡ Some values → is_plain values ≡ true
-unfolding plain_of
-plain_is_plain bytes values e = found_plain (project_of bytes) values e
-
-of_plain_valid : (o : Option (List Value)) (gav : Gav) → ((values : List Value) → o ≡ Some values → is_plain values ≡ true) → of_plain o ≡ Ok gav → IsValid gav
-of_plain_valid None gav h e = cc
-of_plain_valid (Some values) gav h e = elements_valid values gav (h values refl) e
-
-tested_text : (b : Bool) (x : Outcome) (bytes : List ℕ) (gav : Gav) → (if b then Err x else of_plain (plain_of bytes)) ≡ Ok gav → IsValid gav
-tested_text true x bytes gav e = cc
-tested_text false x bytes gav e = of_plain_valid (plain_of bytes) gav (plain_is_plain bytes) e
+answer_valid : (a : Answer) (gav : Gav) → of_answer a ≡ Ok gav → IsValid gav
+answer_valid (Ok nodes) gav e = raw_valid (raw nodes (Path pom_path)) gav e
+answer_valid (Err refusal) gav e = cc
 
 pub valid_gav : (reading : Reading) (gav : Gav) → of_pom reading ≡ Ok gav → IsValid gav
 unfolding of_pom of_text
 valid_gav Faulty gav e = cc
 valid_gav TooLong gav e = cc
 valid_gav Missing gav e = cc
-valid_gav (Found bytes) gav e = tested_text (length bytes == 0) _ bytes gav e
+valid_gav (Found bytes) gav e = answer_valid (answer bytes) gav e

@@ -1,25 +1,26 @@
 -- What the top call answers, as a function of its words and of the project's POM. Own rules.
-use Rattle.std.specs.Prelude.{ℕ, not, ◌==◌, List, [], ◌∷◌, ◌++◌, length, codes, Option, Some, None, Result, Ok, Err, if◌then◌else◌}
+use Rattle.std.specs.Prelude.{ℕ, List, [], ◌∷◌, ◌++◌, codes, Option, Some, None, Result, Ok, Err}
 use Rattle.mvn_base.specs.declared.gav.Gav.{Gav}
 use Rattle.mvn_base.specs.declared.rule.Rule.{Rule}
 use Rattle.mvn_base.specs.declared.rule.Rule.TheVariants as rule
 use Rattle.mvn_base.specs.declared.refusal.Place.{Place}
 use Rattle.mvn_base.specs.declared.refusal.Place.TheVariants.{Byte, Name}
 use Rattle.mvn_base.specs.declared.refusal.PomId.TheVariants.{Path}
-use Rattle.mvn_base.specs.Names.{is_filled}
+use Rattle.mvn_base.specs.declared.refusal.Refusal.{Refusal}
 use Rattle.mvn_base.specs.Refusal.{refusal_text}
-use Rattle.mvn_top.specs.declared.plain.Field.TheVariants.{GroupId, Version, ArtifactId}
 use Rattle.mvn_top.specs.declared.reading.Reading.{Reading}
 use Rattle.mvn_top.specs.declared.reading.Reading.TheVariants.{Faulty, TooLong, Missing, Found}
 use Rattle.mvn_top.specs.declared.outcome.Outcome.{Outcome}
-use Rattle.mvn_top.specs.Plain.{Value}
-use Rattle.mvn_top.specs.Elements.{plain_of, text_of}
+use Rattle.model_types.specs.declared.model.RawModel.{RawModel}
+use Rattle.pom_model.specs.Raw.{raw}
+use Rattle.pom_text.specs.Answers.{Answer, answer}
 use Rattle.mvn_outside.specs.declared.goal.SourceFile.{SourceFile}
 use Rattle.build_core.specs.declared.plan.Plan.{Plan}
 use Rattle.mvn_top.specs.declared.command.Command.{Command}
 use Rattle.mvn_top.specs.declared.command.Command.TheVariants.{Validate, Install}
 use Rattle.mvn_top.specs.Planning.{plan_for}
-use Rattle.mvn_top.specs.Reading.{pom_path}
+use Rattle.mvn_top.specs.Reading.{pom_limit, pom_path}
+use Rattle.mvn_top.specs.Simple.{bare_gav}
 
 -- a text with a line feed behind it
 abbrev pub line : List ℕ → List ℕ
@@ -34,37 +35,39 @@ unfoldable pub fault_tree : Outcome
 fault_tree = record { text = line (codes "fault tree"); status = 3 }
 
 -- the project's POM is refused
-unfoldable pub refused : Rule → Place → Outcome
-refused rule place = record { text = line (refusal_text (record { pom = Path pom_path; rule = rule; place = place })); status = 2 }
+unfoldable pub refused_by : Refusal → Outcome
+refused_by refusal = record { text = line (refusal_text refusal); status = 2 }
 
--- a required element is missing or empty
-unfoldable pub missing_field : List ℕ → Outcome
-missing_field path = refused rule.MissingField (Name path)
+abbrev pub refused : Rule → Place → Outcome
+refused rule place = refused_by (record { pom = Path pom_path; rule = rule; place = place })
 
 -- the sources are too many, or too large
 unfoldable pub too_many_sources : Outcome
 too_many_sources = refused rule.TooLarge (Name (codes "sources"))
 
--- a plain POM: the first of its three coordinates that is missing or empty, or the module
-unfoldable pub of_elements : List Value → Result Gav Outcome
-of_elements values =
-    if not (is_filled (text_of GroupId values)) then Err (missing_field (codes "project/groupId")) else
-    (if not (is_filled (text_of Version values)) then Err (missing_field (codes "project/version")) else
-    (if not (is_filled (text_of ArtifactId values)) then Err (missing_field (codes "project/artifactId")) else
-    Ok (record { group = text_of GroupId values; artifact = text_of ArtifactId values; version = text_of Version values })))
+-- the module of a model that this stage builds
+abbrev pub of_bare : Option Gav → Result Gav Outcome
+of_bare (Some gav) = Ok gav
+of_bare None = Err not_built
 
-abbrev pub of_plain : Option (List Value) → Result Gav Outcome
-of_plain None = Err not_built
-of_plain (Some values) = of_elements values
+-- what a POM says, or its refusal
+abbrev pub of_raw : Result RawModel Refusal → Result Gav Outcome
+of_raw (Ok model) = of_bare (bare_gav model)
+of_raw (Err refusal) = Err (refused_by refusal)
+
+-- its elements, or their refusal
+abbrev pub of_answer : Answer → Result Gav Outcome
+of_answer (Ok nodes) = of_raw (raw nodes (Path pom_path))
+of_answer (Err e) = Err (refused e.0 (Byte e.1))
 
 -- the text of the project's POM
 unfoldable pub of_text : List ℕ → Result Gav Outcome
-of_text bytes = if length bytes == 0 then Err (refused rule.NotPomText (Byte 0)) else of_plain (plain_of bytes)
+of_text bytes = of_answer (answer bytes)
 
 -- what reading it gave
 unfoldable pub of_pom : Reading → Result Gav Outcome
 of_pom Faulty = Err fault_tree
-of_pom TooLong = Err not_built
+of_pom TooLong = Err (refused rule.TooLarge (Byte pom_limit))
 of_pom Missing = Err (refused rule.ModuleNotFound (Name pom_path))
 of_pom (Found bytes) = of_text bytes
 

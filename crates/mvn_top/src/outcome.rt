@@ -1,13 +1,22 @@
 // What a call answers that builds nothing, by what reading the POM gave.
-ghost use Rattle.std.specs.Prelude.{◌≡◌, map, IfOk};
+ghost use Rattle.std.specs.Prelude as logic;
+ghost use Rattle.std.specs.Prelude.{◌≡◌, IfOk};
+ghost use Rattle.mvn_base.specs.declared.refusal.Refusal as refusals;
+ghost use Rattle.model_types.specs.declared.model.RawModel as models;
 ghost use Rattle.std.specs.String.{string_bytes};
-ghost use Rattle.mvn_top.specs.Elements.{view, text_of};
-ghost use Rattle.mvn_top.specs.Outcome.{line, not_built, fault_tree, refused, missing_field, too_many_sources, of_elements, of_text, of_pom};
+ghost use Rattle.mvn_base.specs.declared.refusal.PomId.TheVariants.{Path};
+ghost use Rattle.mvn_top.specs.Outcome.{line, not_built, fault_tree, refused, refused_by, too_many_sources, of_bare, of_raw, of_text, of_pom};
+ghost use Rattle.mvn_top.specs.Reading.{pom_path};
+ghost use Rattle.mvn_top.specs.Simple.{bare_gav};
+ghost use Rattle.pom_model.specs.Raw.{Answers, raw};
 
-use crate::plain::{Element, Field, read_plain};
-use crate::reading::{POM_PATH, Reading};
+use crate::reading::{POM_LIMIT, POM_PATH, Reading};
+use crate::simple::bare_gav;
+use model_types::{ModelError, RawModel};
 use mvn_base::{Gav, Place, PomId, Refusal, Rule};
 use mvn_shared::{Bytes, Mem, OutOfMemory, Text};
+use pom_model::read_model;
+use pom_text::{PomText, TextFault, read_text};
 use std::alloc::Global;
 
 /// What a call answers: the text that it writes, and the exit status.
@@ -64,13 +73,11 @@ pub fn fault_tree(alloc: Global) -> Mem<Outcome>
     })
 }
 
-// The refusal of the project's POM.
-#[tactic(auto, unfolding(crate::specs::Outcome::refused))]
-fn refused(alloc: Global, rule: Rule, place: Place) -> Mem<Outcome>
-    ensures { IfOk result (λ outcome. outcome ≡ refused rule place) }
+// A refusal.
+#[tactic(auto, unfolding(crate::specs::Outcome::refused_by))]
+fn refused_by(alloc: Global, refusal: &Refusal) -> Mem<Outcome>
+    ensures { IfOk result (λ outcome. outcome ≡ refused_by refusal.now) }
 {
-    let pom = PomId::Path(Text::from_str(alloc, POM_PATH)?);
-    let refusal = Refusal { pom, rule, place };
     let text = line(format!(in alloc; "{refusal}")?)?;
     Ok(Outcome {
         text,
@@ -78,12 +85,19 @@ fn refused(alloc: Global, rule: Rule, place: Place) -> Mem<Outcome>
     })
 }
 
-#[tactic(auto, unfolding(crate::specs::Outcome::missing_field))]
-fn missing_field(alloc: Global, path: &str) -> Mem<Outcome>
-    ensures { IfOk result (λ outcome. outcome ≡ missing_field path.now) }
+// The project's POM.
+fn project_pom(alloc: Global) -> Mem<PomId>
+    ensures { IfOk result (λ pom. pom ≡ Path pom_path) }
 {
-    let place = Place::Name(Text::from_str(alloc, path)?);
-    refused(alloc, Rule::MissingField, place)
+    Ok(PomId::Path(Text::from_str(alloc, POM_PATH)?))
+}
+
+// The refusal of the project's POM.
+fn refused(alloc: Global, rule: Rule, place: Place) -> Mem<Outcome>
+    ensures { IfOk result (λ outcome. outcome ≡ refused rule place) }
+{
+    let pom = project_pom(alloc)?;
+    refused_by(alloc, &Refusal { pom, rule, place })
 }
 
 /// The refusal of too many sources, or too large ones.
@@ -95,40 +109,34 @@ pub fn too_many_sources(alloc: Global) -> Mem<Outcome>
     refused(alloc, Rule::TooLarge, place)
 }
 
-// The text of a value. A value has ASCII letters, digits, `.`, `_` and `-` alone, so that only memory can be wanting.
-fn value_text(alloc: Global, value: &[u8]) -> Mem<Text>
-    ensures { IfOk result (λ text. text ≡ value.now) }
+// The module of a model that this stage builds.
+fn of_model(alloc: Global, model: &RawModel) -> Mem<Result<Gav, Outcome>>
+    ensures { IfOk result (λ answer. answer ≡ of_bare (bare_gav model.now)) }
 {
-    match Text::from_slice(alloc, value) {
-        Ok(text) => Ok(text),
-        Err(_) => Err(OutOfMemory),
+    match bare_gav(model)? {
+        Some(gav) => Ok(Ok(gav)),
+        None => Ok(Err(not_built(alloc)?)),
     }
 }
 
-// The module of a plain POM of these elements, or its refusal.
-#[tactic(auto, unfolding(crate::specs::Outcome::of_elements))]
-fn of_elements(alloc: Global, elements: &[Element]) -> Mem<Result<Gav, Outcome>>
-    ensures { IfOk result (λ answer. answer ≡ of_elements (map view elements.now)) }
+// The module of what a POM says, or its refusal.
+fn of_read(alloc: Global, read: &Result<RawModel, ModelError>) -> Mem<Result<Gav, Outcome>>
+    ensures { (said : logic.Result models.RawModel refusals.Refusal) → Answers said read.now → IfOk result (λ answer. answer ≡ of_raw said) }
 {
-    let group = Field::GroupId.text_in(elements);
-    let version = Field::Version.text_in(elements);
-    let artifact = Field::ArtifactId.text_in(elements);
-    if group.is_empty() {
-        Ok(Err(missing_field(alloc, "project/groupId")?))
-    } else if version.is_empty() {
-        Ok(Err(missing_field(alloc, "project/version")?))
-    } else if artifact.is_empty() {
-        Ok(Err(missing_field(alloc, "project/artifactId")?))
-    } else {
-        let group = value_text(alloc, group)?;
-        let artifact = value_text(alloc, artifact)?;
-        let version = value_text(alloc, version)?;
-        Ok(Ok(Gav {
-            group,
-            artifact,
-            version,
-        }))
+    match read {
+        Ok(model) => of_model(alloc, model),
+        Err(ModelError::Refused(refusal)) => Ok(Err(refused_by(alloc, refusal)?)),
+        Err(ModelError::Memory) => Err(OutOfMemory),
     }
+}
+
+// The module of a POM's elements, or their refusal.
+fn of_elements(alloc: Global, text: &PomText) -> Mem<Result<Gav, Outcome>>
+    ensures { IfOk result (λ answer. answer ≡ of_raw (raw text.now.nodes (Path pom_path))) }
+{
+    let pom = project_pom(alloc)?;
+    let read = read_model(alloc, text, &pom);
+    of_read(alloc, &read)
 }
 
 // The module of a POM's text, or what is answered to it.
@@ -136,12 +144,12 @@ fn of_elements(alloc: Global, elements: &[Element]) -> Mem<Result<Gav, Outcome>>
 fn of_text(alloc: Global, bytes: &[u8]) -> Mem<Result<Gav, Outcome>>
     ensures { IfOk result (λ answer. answer ≡ of_text bytes.now) }
 {
-    if bytes.is_empty() {
-        return Ok(Err(refused(alloc, Rule::NotPomText, Place::Byte(0))?));
-    }
-    match read_plain(alloc, bytes)? {
-        Some(elements) => of_elements(alloc, &elements),
-        None => Ok(Err(not_built(alloc)?)),
+    match read_text(alloc, bytes) {
+        Ok(text) => of_elements(alloc, &text),
+        Err(TextFault::Refused { rule, place }) => {
+            Ok(Err(refused(alloc, rule, Place::Byte(place))?))
+        }
+        Err(TextFault::Memory) => Err(OutOfMemory),
     }
 }
 
@@ -152,7 +160,7 @@ pub fn of_pom(alloc: Global, reading: &Reading) -> Mem<Result<Gav, Outcome>>
 {
     match reading {
         Reading::Faulty => Ok(Err(fault_tree(alloc)?)),
-        Reading::TooLong => Ok(Err(not_built(alloc)?)),
+        Reading::TooLong => Ok(Err(refused(alloc, Rule::TooLarge, Place::Byte(POM_LIMIT))?)),
         Reading::Missing => {
             let place = Place::Name(Text::from_str(alloc, POM_PATH)?);
             Ok(Err(refused(alloc, Rule::ModuleNotFound, place)?))

@@ -139,57 +139,93 @@ fn an_empty_pom_is_no_pom_text(rt: HostRuntime) -> Result<(), Fail> {
     Ok(())
 }
 
+// POMs that aren't built, and what is answered.
+const ANSWERED: [(&str, &str); 17] = [
+    (
+        "<project><modelVersion>4.0.0</modelVersion><groupId>demo</groupId><artifactId>app</artifactId></project>",
+        "refused pom.xml rule 8 MissingField at project/version\n",
+    ),
+    (
+        "<project><modelVersion>4.0.0</modelVersion><groupId>demo</groupId><artifactId>app</artifactId><version> </version></project>",
+        "refused pom.xml rule 8 MissingField at project/version\n",
+    ),
+    (
+        "<project><modelVersion>4.0.0</modelVersion><artifactId>app</artifactId></project>",
+        "refused pom.xml rule 8 MissingField at project/groupId\n",
+    ),
+    (
+        "<project><modelVersion>4.0.0</modelVersion><groupId>demo</groupId><version>1.0</version></project>",
+        "refused pom.xml rule 8 MissingField at project/artifactId\n",
+    ),
+    (
+        "<project></project>",
+        "refused pom.xml rule 7 ModelVersion at \n",
+    ),
+    (
+        "<project><modelVersion>4.0.1</modelVersion></project>",
+        "refused pom.xml rule 7 ModelVersion at 4.0.1\n",
+    ),
+    (
+        "<project><modelVersion>4.0.0</modelVersion><groupId>a</groupId><groupId>a</groupId></project>",
+        "refused pom.xml rule 6 RepeatedElement at project/groupId\n",
+    ),
+    (
+        "<module/>",
+        "refused pom.xml rule 5 RootNotProject at module\n",
+    ),
+    (
+        "<project><modelVersion>4.0.0</modelVersion></project><project></project>",
+        "refused pom.xml rule 3 NotPomText at 53\n",
+    ),
+    (
+        "<project><modelVersion>4.0.0</modelVersion></project",
+        "refused pom.xml rule 3 NotPomText at 43\n",
+    ),
+    (
+        "<!DOCTYPE project><project/>",
+        "refused pom.xml rule 4 Doctype at 0\n",
+    ),
+    (
+        "<?xml version='1.0' encoding='UTF-16'?><project/>",
+        "refused pom.xml rule 2 Encoding at 30\n",
+    ),
+    (
+        "<project><modelVersion>4.0.0</modelVersion><dependencies><dependency/></dependencies></project>",
+        "refused pom.xml rule 8 MissingField at project/dependencies/dependency[1]/groupId\n",
+    ),
+    (
+        "<project><modelVersion>4.0.0</modelVersion><groupId>a..b</groupId><artifactId>a</artifactId><version>1</version></project>",
+        "not built yet\n",
+    ),
+    (
+        "<project><modelVersion>4.0.0</modelVersion><groupId>a</groupId><artifactId>a</artifactId><version>1</version><packaging>pom</packaging></project>",
+        "not built yet\n",
+    ),
+    (
+        "<project><modelVersion>4.0.0</modelVersion><groupId>a</groupId><artifactId>a</artifactId><version>1</version><properties><x/></properties></project>",
+        "not built yet\n",
+    ),
+    (
+        "<project><modelVersion>4.0.0</modelVersion><parent><groupId>p</groupId><artifactId>q</artifactId><version>2</version></parent><artifactId>a</artifactId></project>",
+        "not built yet\n",
+    ),
+];
+
 #[test]
-fn missing_version_is_refused(rt: HostRuntime) -> Result<(), Fail> {
-    for (pom, text) in [
-        (
-            "<project><modelVersion>4.0.0</modelVersion><groupId>demo</groupId><artifactId>app</artifactId></project>",
-            "refused pom.xml rule 8 MissingField at project/version\n",
-        ),
-        (
-            "<project><modelVersion>4.0.0</modelVersion><groupId>demo</groupId><artifactId>app</artifactId><version></version></project>",
-            "refused pom.xml rule 8 MissingField at project/version\n",
-        ),
-        (
-            "<project><modelVersion>4.0.0</modelVersion><artifactId>app</artifactId></project>",
-            "refused pom.xml rule 8 MissingField at project/groupId\n",
-        ),
-        (
-            "<project><modelVersion>4.0.0</modelVersion><groupId>demo</groupId><version>1.0</version></project>",
-            "refused pom.xml rule 8 MissingField at project/artifactId\n",
-        ),
-        ("<project></project>", "not built yet\n"),
-        (
-            "<project><modelVersion>4.0.1</modelVersion></project>",
-            "not built yet\n",
-        ),
-        (
-            "<project><modelVersion>4.0.0</modelVersion><groupId>a..b</groupId></project>",
-            "not built yet\n",
-        ),
-        (
-            "<project><modelVersion>4.0.0</modelVersion><groupId>a</groupId><groupId>a</groupId></project>",
-            "not built yet\n",
-        ),
-        (
-            "<project><modelVersion>4.0.0</modelVersion><name>a</name></project>",
-            "not built yet\n",
-        ),
-        (
-            "<project><modelVersion>4.0.0</modelVersion><groupId> a</groupId></project>",
-            "not built yet\n",
-        ),
-        (
-            "<project><modelVersion>4.0.0</modelVersion></project><project></project>",
-            "not built yet\n",
-        ),
-        (
-            "<project><modelVersion>4.0.0</modelVersion></project",
-            "not built yet\n",
-        ),
-    ] {
+fn other_poms_are_refused_or_not_built_yet(rt: HostRuntime) -> Result<(), Fail> {
+    for (pom, text) in ANSWERED {
         check_pom(&rt, rt.alloc(), pom, 2, text)?;
     }
+    Ok(())
+}
+
+// The POM of a stranger: Windows line ends, a comment, name spaces, elements that aren't read.
+const STRANGER: &str =
+    "\u{feff}<?xml version=\"1.0\" encoding=\"UTF-8\"?>\r\n<!-- by hand -->\r\n<project xmlns=\"http://maven.apache.org/POM/4.0.0\">\r\n  <modelVersion>4.0.0</modelVersion>\r\n  <groupId> demo </groupId>\r\n  <artifactId><![CDATA[app]]></artifactId>\r\n  <version>1&#46;0</version>\r\n  <packaging>jar</packaging>\r\n  <name>R&amp;D</name>\r\n  <build/>\r\n</project>\r\n";
+
+#[test]
+fn poms_of_strangers_are_built(rt: HostRuntime) -> Result<(), Fail> {
+    check_pom(&rt, rt.alloc(), STRANGER, 0, REPORT)?;
     Ok(())
 }
 
@@ -208,7 +244,7 @@ fn a_pom_at_the_size_limit_is_read_and_one_past_it_is_not(rt: HostRuntime) -> Re
         &["validate"],
         Some(pom.as_slice()),
         2,
-        "not built yet\n",
+        "refused pom.xml rule 1 TooLarge at 1048576\n",
     )?;
     Ok(())
 }

@@ -1,5 +1,5 @@
 -- The step by step answer is what the definitions say, and the other way round.
-use Rattle.std.proofs.Common.{◌≡◌, ℕ, ◌+◌, ◌-◌, ◌<◌, ◌≤◌, Bool, true, false, nat_lt, List, [], ◌++◌, flat_map, length, take, drop, Option, Some, None, Result, Ok, Err, refl, sym, ap, subst, ◌∙◌, arith, append_assoc, length-append, if◌then◌else◌}
+use Rattle.std.proofs.Common.{◌≡◌, ◌↔◌, ℕ, ◌+◌, ◌-◌, ◌<◌, ◌≤◌, Bool, true, false, nat_lt, List, [], ◌++◌, flat_map, length, take, drop, Option, Some, None, Result, Ok, Err, refl, sym, ap, subst, ◌∙◌, arith, append_assoc, length-append, if◌then◌else◌}
 use Rattle.std.proofs.lemmas.Bool.Decides.{nat_tests}
 use Rattle.std.specs.List.{list_all, prefix_len}
 use Rattle.mvn_base.specs.declared.rule.Rule.{Rule}
@@ -227,3 +227,16 @@ place_once bytes one other place at a b = ap (λ p. p.1) (refused_once bytes one
 
 pub apart : (bytes : List ℕ) (nodes : List Node) (rule : Rule) (place : ℕ) → IsText bytes nodes → Refuses bytes rule place → ⊥
 apart bytes nodes rule place t r = ok_err nodes (rule, place) (sym (text_answered bytes nodes t) ∙ refusal_answered bytes r)
+
+-- the answer, both ways
+text_right : (bytes : List ℕ) (nodes : List Node) → answer bytes ≡ Ok nodes → IsText bytes nodes
+text_right bytes nodes e = subst (Right bytes) e (answer_right bytes)
+
+pub text_exactly : (bytes : List ℕ) (nodes : List Node) → (answer bytes ≡ Ok nodes) ↔ IsText bytes nodes
+text_exactly bytes nodes = (text_right bytes nodes, text_answered bytes nodes)
+
+refusal_right : (bytes : List ℕ) (rule : Rule) (place : ℕ) → answer bytes ≡ Err (rule, place) → Refuses bytes rule place
+refusal_right bytes rule place e = subst (Right bytes) e (answer_right bytes)
+
+pub refusal_exactly : (bytes : List ℕ) (rule : Rule) (place : ℕ) → (answer bytes ≡ Err (rule, place)) ↔ Refuses bytes rule place
+refusal_exactly bytes rule place = (refusal_right bytes rule place, λ r. refusal_answered bytes r)

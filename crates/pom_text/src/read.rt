@@ -140,7 +140,8 @@ fn read_bytes(alloc: Global, bytes: &[u8]) -> Result<PomText, TextFault>
 /// byte order mark of UTF-8 is skipped, and counts in places. One pass for the encoding and one for the elements; time and memory
 /// are linear in the bytes. XML 1.0; own limits.
 pub fn read_text(alloc: Global, bytes: &[u8]) -> Result<PomText, TextFault>
-    ensures answer { IsAnswered bytes.now result }
+    ensures answer { Agrees (answer bytes.now) result }
+    ensures right { IsAnswered bytes.now result }
     ensures elements { (nodes : List nodes.Node) → IsText bytes.now nodes → AreElements nodes result }
     ensures refusal { (rule : rules.Rule) (place : ℕ) → Refuses bytes.now rule place → IsRefusal rule place result }
 {

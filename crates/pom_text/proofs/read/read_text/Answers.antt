@@ -3,7 +3,8 @@ use Rattle.pom_text.proofs.read.read_text.Goals as goal
 
 pub returns : goal.returns
 returns c = record {
-  answer = answered c.args.bytes.now c.before.read_bytes.result c.before.read_bytes.ensures;
+  answer = c.before.read_bytes.ensures;
+  right = answered c.args.bytes.now c.before.read_bytes.result c.before.read_bytes.ensures;
   elements = elements_answered c.args.bytes.now c.before.read_bytes.result c.before.read_bytes.ensures;
   refusal = refused_answered c.args.bytes.now c.before.read_bytes.result c.before.read_bytes.ensures;
 }

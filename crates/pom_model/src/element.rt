@@ -1,0 +1,101 @@
+ghost use Rattle.std.specs.Prelude.{◌≡◌, option_map, is_some, slice_get, IfOk, Some};
+ghost use Rattle.std.specs.Option.{option_copied};
+ghost use Rattle.pom_model.specs.Elements.{child, named, text_of, text_or, trimmed};
+ghost use Rattle.pom_model.specs.Fields.{text_is};
+
+use mvn_shared::{Mem, Text};
+use pom_text::Node;
+use std::alloc::Global;
+
+// Without the white space round it. A form feed counts too, which stands in no POM text.
+fn trimmed(text: &str) -> &str
+    ensures { result.now ≡ trimmed text.now }
+{
+    text.trim_ascii()
+}
+
+/// The element of a number.
+pub(crate) fn at(nodes: &[Node], k: u32) -> Option<&Node>
+    ensures { option_copied result ≡ slice_get nodes.now k }
+{
+    nodes.get(k as usize)
+}
+
+/// The element of a number, where it has this name.
+pub(crate) fn named<'a>(nodes: &'a [Node], k: u32, name: &str) -> Option<&'a Node>
+    ensures { option_copied result ≡ named nodes.now name.now k }
+{
+    match nodes.get(k as usize) {
+        Some(node) if node.name.as_str() == name => Some(node),
+        _ => None,
+    }
+}
+
+/// The first element of a name in another, or in none. Costs the number of elements in it.
+pub(crate) fn child<'a>(nodes: &'a [Node], node: Option<&'a Node>, name: &str) -> Option<&'a Node>
+    ensures { option_copied result ≡ child nodes.now name.now (option_copied node.entry) }
+{
+    for k in node?.children.as_slice() {
+        if let Some(child) = named(nodes, *k, name) {
+            return Some(child);
+        }
+    }
+    None
+}
+
+/// An element's own text, without the white space round it.
+pub(crate) fn own_text(alloc: Global, node: &Node) -> Mem<Text>
+    ensures { IfOk result (λ text. text ≡ trimmed node.now.text) }
+{
+    Text::from_str(alloc, trimmed(node.text.as_str()))
+}
+
+// The text of the first element of a name, where it isn't empty.
+fn filled<'a>(nodes: &'a [Node], node: Option<&'a Node>, name: &str) -> Option<&'a str>
+    ensures { option_map (λ text. text.now) result ≡ text_of nodes.now name.now (option_copied node.entry) }
+{
+    let text = trimmed(child(nodes, node, name)?.text.as_str());
+    if text.is_empty() { None } else { Some(text) }
+}
+
+/// The text of the first element of a name, where it isn't empty. Costs the number of elements, and the text.
+pub(crate) fn text_of(
+    alloc: Global,
+    nodes: &[Node],
+    node: Option<&Node>,
+    name: &str,
+) -> Mem<Option<Text>>
+    ensures { IfOk result (λ text. text ≡ text_of nodes.now name.now (option_copied node.entry)) }
+{
+    match filled(nodes, node, name) {
+        Some(text) => Ok(Some(Text::from_str(alloc, text)?)),
+        None => Ok(None),
+    }
+}
+
+/// Or a default.
+pub(crate) fn text_or(
+    alloc: Global,
+    nodes: &[Node],
+    node: Option<&Node>,
+    name: &str,
+    default: &str,
+) -> Mem<Text>
+    ensures { IfOk result (λ text. text ≡ text_or nodes.now name.now default.now (option_copied node.entry)) }
+{
+    Text::from_str(alloc, filled(nodes, node, name).unwrap_or(default))
+}
+
+/// Whether the first element of a name has a text that isn't empty.
+pub(crate) fn is_filled(nodes: &[Node], node: &Node, name: &str) -> bool
+    ensures { result ≡ is_some (text_of nodes.now name.now (Some node.now)) }
+{
+    filled(nodes, Some(node), name).is_some()
+}
+
+/// Whether the text of the first element of a name is this one; an absent text is empty.
+pub(crate) fn text_is(nodes: &[Node], node: Option<&Node>, name: &str, value: &str) -> bool
+    ensures { result ≡ text_is nodes.now name.now value.now (option_copied node.entry) }
+{
+    filled(nodes, node, name).unwrap_or("") == value
+}

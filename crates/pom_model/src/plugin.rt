@@ -1,0 +1,81 @@
+ghost use Rattle.std.specs.Prelude.{◌≡◌, IfOk};
+ghost use Rattle.std.specs.Option.{option_copied};
+ghost use Rattle.pom_model.specs.Fields.{execution, gav, managed_plugins, plugin, plugins};
+
+use crate::element::{child, text_is, text_of, text_or};
+use crate::item::{Item, list_in};
+use crate::setting::configuration;
+use model_types::{Execution, Plugin};
+use mvn_base::Gav;
+use mvn_shared::{List, Mem};
+use pom_text::Node;
+use std::alloc::Global;
+
+impl Item for Gav {
+    ghost value = { gav };
+
+    #[tactic(auto, unfolding(crate::specs::Fields::gav))]
+    fn read(alloc: Global, nodes: &[Node], node: &Node) -> Mem<Gav> {
+        let group = text_or(alloc, nodes, Some(node), "groupId", "")?;
+        let artifact = text_or(alloc, nodes, Some(node), "artifactId", "")?;
+        let version = text_or(alloc, nodes, Some(node), "version", "")?;
+        Ok(Gav {
+            group,
+            artifact,
+            version,
+        })
+    }
+}
+
+impl Item for Execution {
+    ghost value = { execution };
+
+    #[tactic(auto, unfolding(crate::specs::Fields::execution))]
+    fn read(alloc: Global, nodes: &[Node], node: &Node) -> Mem<Execution> {
+        Ok(Execution {
+            id: text_or(alloc, nodes, Some(node), "id", "default")?,
+            phase: text_of(alloc, nodes, Some(node), "phase")?,
+            goals: list_in(alloc, nodes, Some(node), "goals", "goal")?,
+            inherited: !text_is(nodes, Some(node), "inherited", "false"),
+            configuration: configuration(alloc, nodes, Some(node))?,
+        })
+    }
+}
+
+/// The group of Maven's own plugins, where none is stated.
+const MAVEN_PLUGINS: &str = "org.apache.maven.plugins";
+
+impl Item for Plugin {
+    ghost value = { plugin };
+
+    #[tactic(auto, unfolding(crate::specs::Fields::plugin))]
+    fn read(alloc: Global, nodes: &[Node], node: &Node) -> Mem<Plugin> {
+        Ok(Plugin {
+            group: text_or(alloc, nodes, Some(node), "groupId", MAVEN_PLUGINS)?,
+            artifact: text_or(alloc, nodes, Some(node), "artifactId", "")?,
+            version: text_of(alloc, nodes, Some(node), "version")?,
+            inherited: !text_is(nodes, Some(node), "inherited", "false"),
+            dependencies: list_in(alloc, nodes, Some(node), "dependencies", "dependency")?,
+            executions: list_in(alloc, nodes, Some(node), "executions", "execution")?,
+            configuration: configuration(alloc, nodes, Some(node))?,
+        })
+    }
+}
+
+/// The plugins of a build, or of none.
+pub(crate) fn plugins(alloc: Global, nodes: &[Node], node: Option<&Node>) -> Mem<List<Plugin>>
+    ensures { IfOk result (λ list. list ≡ plugins nodes.now (option_copied node.entry)) }
+{
+    list_in(alloc, nodes, node, "plugins", "plugin")
+}
+
+/// Those that it manages.
+pub(crate) fn managed_plugins(
+    alloc: Global,
+    nodes: &[Node],
+    node: Option<&Node>,
+) -> Mem<List<Plugin>>
+    ensures { IfOk result (λ list. list ≡ managed_plugins nodes.now (option_copied node.entry)) }
+{
+    plugins(alloc, nodes, child(nodes, node, "pluginManagement"))
+}

@@ -1,0 +1,339 @@
+ghost use Rattle.std.specs.Prelude.{◌≡◌, map, find, option_map};
+ghost use Rattle.pom_model.specs.Table.{found, is_row, kind_number, row_view, table};
+
+/// What an element of a POM is read as.
+#[derive(Clone, Copy, Debug, PartialEq, Eq)]
+pub(crate) enum Kind {
+    Project,
+    Parent,
+    Modules,
+    Properties,
+    DependencyManagement,
+    Dependencies,
+    Dependency,
+    Exclusions,
+    Exclusion,
+    Build,
+    Resources,
+    TestResources,
+    Resource,
+    PluginManagement,
+    Plugins,
+    Plugin,
+    Executions,
+    Execution,
+    Goals,
+    Extensions,
+    Extension,
+    Configuration,
+    Profiles,
+    Profile,
+    ProfileBuild,
+    Activation,
+    ActivationProperty,
+    ActivationFile,
+    ActivationOs,
+    Leaf,
+}
+
+/// How often an element may stand under its parent.
+#[derive(Clone, Copy, Debug, PartialEq, Eq)]
+pub(crate) enum Times {
+    /// Once, or not at all.
+    Optional,
+    /// Once, with a text.
+    Required,
+    /// Once, with a text where there is no `parent`.
+    RequiredAlone,
+    /// As often as there are items.
+    Repeated,
+}
+
+/// A line of the read table: under what, the element's name, `*` for any, what it is read as, and how often it may stand.
+pub(crate) type Row = (Kind, &'static str, Kind, Times);
+
+/// The read table: what isn't here is skipped, with all that is in it. POM Reference.
+const TABLE: [Row; 89] = [
+    (Kind::Project, "modelVersion", Kind::Leaf, Times::Optional),
+    (Kind::Project, "parent", Kind::Parent, Times::Optional),
+    (Kind::Project, "groupId", Kind::Leaf, Times::RequiredAlone),
+    (Kind::Project, "version", Kind::Leaf, Times::RequiredAlone),
+    (Kind::Project, "artifactId", Kind::Leaf, Times::Required),
+    (Kind::Project, "packaging", Kind::Leaf, Times::Optional),
+    (Kind::Project, "modules", Kind::Modules, Times::Optional),
+    (
+        Kind::Project,
+        "properties",
+        Kind::Properties,
+        Times::Optional,
+    ),
+    (
+        Kind::Project,
+        "dependencyManagement",
+        Kind::DependencyManagement,
+        Times::Optional,
+    ),
+    (
+        Kind::Project,
+        "dependencies",
+        Kind::Dependencies,
+        Times::Optional,
+    ),
+    (Kind::Project, "build", Kind::Build, Times::Optional),
+    (Kind::Project, "profiles", Kind::Profiles, Times::Optional),
+    (Kind::Parent, "groupId", Kind::Leaf, Times::Required),
+    (Kind::Parent, "artifactId", Kind::Leaf, Times::Required),
+    (Kind::Parent, "version", Kind::Leaf, Times::Required),
+    (Kind::Parent, "relativePath", Kind::Leaf, Times::Optional),
+    (Kind::Modules, "module", Kind::Leaf, Times::Repeated),
+    (Kind::Properties, "*", Kind::Leaf, Times::Repeated),
+    (
+        Kind::DependencyManagement,
+        "dependencies",
+        Kind::Dependencies,
+        Times::Optional,
+    ),
+    (
+        Kind::Dependencies,
+        "dependency",
+        Kind::Dependency,
+        Times::Repeated,
+    ),
+    (Kind::Dependency, "groupId", Kind::Leaf, Times::Required),
+    (Kind::Dependency, "artifactId", Kind::Leaf, Times::Required),
+    (Kind::Dependency, "version", Kind::Leaf, Times::Optional),
+    (Kind::Dependency, "type", Kind::Leaf, Times::Optional),
+    (Kind::Dependency, "classifier", Kind::Leaf, Times::Optional),
+    (Kind::Dependency, "scope", Kind::Leaf, Times::Optional),
+    (Kind::Dependency, "optional", Kind::Leaf, Times::Optional),
+    (
+        Kind::Dependency,
+        "exclusions",
+        Kind::Exclusions,
+        Times::Optional,
+    ),
+    (
+        Kind::Exclusions,
+        "exclusion",
+        Kind::Exclusion,
+        Times::Repeated,
+    ),
+    (Kind::Exclusion, "groupId", Kind::Leaf, Times::Optional),
+    (Kind::Exclusion, "artifactId", Kind::Leaf, Times::Optional),
+    (Kind::Build, "directory", Kind::Leaf, Times::Optional),
+    (Kind::Build, "outputDirectory", Kind::Leaf, Times::Optional),
+    (
+        Kind::Build,
+        "testOutputDirectory",
+        Kind::Leaf,
+        Times::Optional,
+    ),
+    (Kind::Build, "finalName", Kind::Leaf, Times::Optional),
+    (Kind::Build, "sourceDirectory", Kind::Leaf, Times::Optional),
+    (
+        Kind::Build,
+        "testSourceDirectory",
+        Kind::Leaf,
+        Times::Optional,
+    ),
+    (Kind::Build, "resources", Kind::Resources, Times::Optional),
+    (
+        Kind::Build,
+        "testResources",
+        Kind::TestResources,
+        Times::Optional,
+    ),
+    (Kind::Build, "plugins", Kind::Plugins, Times::Optional),
+    (
+        Kind::Build,
+        "pluginManagement",
+        Kind::PluginManagement,
+        Times::Optional,
+    ),
+    (Kind::Build, "extensions", Kind::Extensions, Times::Optional),
+    (Kind::Resources, "resource", Kind::Resource, Times::Repeated),
+    (
+        Kind::TestResources,
+        "testResource",
+        Kind::Resource,
+        Times::Repeated,
+    ),
+    (Kind::Resource, "directory", Kind::Leaf, Times::Optional),
+    (
+        Kind::PluginManagement,
+        "plugins",
+        Kind::Plugins,
+        Times::Optional,
+    ),
+    (Kind::Plugins, "plugin", Kind::Plugin, Times::Repeated),
+    (Kind::Plugin, "groupId", Kind::Leaf, Times::Optional),
+    (Kind::Plugin, "artifactId", Kind::Leaf, Times::Required),
+    (Kind::Plugin, "version", Kind::Leaf, Times::Optional),
+    (Kind::Plugin, "inherited", Kind::Leaf, Times::Optional),
+    (
+        Kind::Plugin,
+        "dependencies",
+        Kind::Dependencies,
+        Times::Optional,
+    ),
+    (
+        Kind::Plugin,
+        "executions",
+        Kind::Executions,
+        Times::Optional,
+    ),
+    (
+        Kind::Plugin,
+        "configuration",
+        Kind::Configuration,
+        Times::Optional,
+    ),
+    (
+        Kind::Executions,
+        "execution",
+        Kind::Execution,
+        Times::Repeated,
+    ),
+    (Kind::Execution, "id", Kind::Leaf, Times::Optional),
+    (Kind::Execution, "phase", Kind::Leaf, Times::Optional),
+    (Kind::Execution, "goals", Kind::Goals, Times::Optional),
+    (Kind::Execution, "inherited", Kind::Leaf, Times::Optional),
+    (
+        Kind::Execution,
+        "configuration",
+        Kind::Configuration,
+        Times::Optional,
+    ),
+    (Kind::Goals, "goal", Kind::Leaf, Times::Repeated),
+    (
+        Kind::Extensions,
+        "extension",
+        Kind::Extension,
+        Times::Repeated,
+    ),
+    (Kind::Extension, "groupId", Kind::Leaf, Times::Required),
+    (Kind::Extension, "artifactId", Kind::Leaf, Times::Required),
+    (Kind::Extension, "version", Kind::Leaf, Times::Required),
+    (
+        Kind::Configuration,
+        "*",
+        Kind::Configuration,
+        Times::Repeated,
+    ),
+    (Kind::Profiles, "profile", Kind::Profile, Times::Repeated),
+    (Kind::Profile, "id", Kind::Leaf, Times::Optional),
+    (
+        Kind::Profile,
+        "activation",
+        Kind::Activation,
+        Times::Optional,
+    ),
+    (Kind::Profile, "modules", Kind::Modules, Times::Optional),
+    (
+        Kind::Profile,
+        "properties",
+        Kind::Properties,
+        Times::Optional,
+    ),
+    (
+        Kind::Profile,
+        "dependencyManagement",
+        Kind::DependencyManagement,
+        Times::Optional,
+    ),
+    (
+        Kind::Profile,
+        "dependencies",
+        Kind::Dependencies,
+        Times::Optional,
+    ),
+    (Kind::Profile, "build", Kind::ProfileBuild, Times::Optional),
+    (
+        Kind::ProfileBuild,
+        "plugins",
+        Kind::Plugins,
+        Times::Optional,
+    ),
+    (
+        Kind::ProfileBuild,
+        "pluginManagement",
+        Kind::PluginManagement,
+        Times::Optional,
+    ),
+    (
+        Kind::Activation,
+        "activeByDefault",
+        Kind::Leaf,
+        Times::Optional,
+    ),
+    (
+        Kind::Activation,
+        "property",
+        Kind::ActivationProperty,
+        Times::Optional,
+    ),
+    (
+        Kind::Activation,
+        "file",
+        Kind::ActivationFile,
+        Times::Optional,
+    ),
+    (Kind::Activation, "jdk", Kind::Leaf, Times::Optional),
+    (Kind::Activation, "os", Kind::ActivationOs, Times::Optional),
+    (
+        Kind::ActivationProperty,
+        "name",
+        Kind::Leaf,
+        Times::Optional,
+    ),
+    (
+        Kind::ActivationProperty,
+        "value",
+        Kind::Leaf,
+        Times::Optional,
+    ),
+    (Kind::ActivationFile, "exists", Kind::Leaf, Times::Optional),
+    (Kind::ActivationFile, "missing", Kind::Leaf, Times::Optional),
+    (Kind::ActivationOs, "name", Kind::Leaf, Times::Optional),
+    (Kind::ActivationOs, "family", Kind::Leaf, Times::Optional),
+    (Kind::ActivationOs, "arch", Kind::Leaf, Times::Optional),
+    (Kind::ActivationOs, "version", Kind::Leaf, Times::Optional),
+];
+
+impl Kind {
+    /// Its place in the list of kinds.
+    #[tactic(auto, unfolding(crate::specs::Table::kind_number))]
+    pub(crate) fn number(self) -> u8
+        ensures { result ≡ kind_number self }
+    {
+        self as u8
+    }
+}
+
+// What the first of these rows says of an element.
+fn found_among(rows: &[Row], under: Kind, name: &str) -> Option<(Kind, Times)>
+    ensures { result ≡ option_map (λ r. (r.inner, r.times)) (find (is_row under name.now) (map row_view rows.now)) }
+{
+    for (kind, element, inner, times) in rows {
+        if kind.number() == under.number() && (*element == "*" || *element == name) {
+            return Some((*inner, *times));
+        }
+    }
+    None
+}
+
+/// All of its lines.
+#[tactic(auto, unfolding(crate::specs::Table::table))]
+pub(crate) fn rows() -> &'static [Row]
+    ensures { map row_view result.now ≡ table }
+{
+    TABLE.as_slice()
+}
+
+/// What the table says of an element, by what it stands in and its name. Constant time, besides comparing names.
+#[tactic(auto, unfolding(crate::specs::Table::found))]
+pub(crate) fn found(under: Kind, name: &str) -> Option<(Kind, Times)>
+    ensures { result ≡ found under name.now }
+{
+    found_among(rows(), under, name)
+}

@@ -1,0 +1,215 @@
+ghost use Rattle.std.specs.Prelude.{◌≡◌, ◌<◌, ◌≤◌, ℕ, Some, map, length, option_map, is_some, slice_get, IfOk};
+ghost use Rattle.pom_model.specs.Faults.{begun, combines, ended, fault_within, first_fault, has_name, is_alone, is_combine, is_kind, is_required, missing, missing_name, read_child, version_fault};
+ghost use Rattle.pom_model.specs.Table.{row_view};
+
+use crate::element::{child, is_filled, named, text_or};
+use crate::fault::{Fault, Spot};
+use crate::table::{Kind, Row, Times, found, rows};
+use mvn_base::Rule;
+use mvn_shared::{Mem, Text};
+use pom_text::Node;
+use std::alloc::Global;
+
+/// The most items of one list.
+const ITEMS: usize = 1024;
+
+/// The most elements that may be open at once.
+const DEPTH: u32 = 64;
+
+// An element that is read, by its number.
+#[tactic(auto, unfolding(crate::specs::Faults::read_child))]
+fn read_child<'a>(nodes: &'a [Node], kind: Kind, k: u32) -> Option<((Kind, Times), &'a Node)>
+    ensures { option_map (λ e. (e.0, e.1.now)) result ≡ read_child nodes.now kind k }
+{
+    let node = nodes.get(k as usize)?;
+    Some((found(kind, node.name.as_str())?, node))
+}
+
+// Whether one of these has this name.
+fn has_name(nodes: &[Node], name: &str, before: &[u32]) -> bool
+    ensures { result ≡ has_name nodes.now name.now before.now }
+{
+    for k in before {
+        if named(nodes, *k, name).is_some() {
+            return true;
+        }
+    }
+    false
+}
+
+// Whether an attribute says how configurations merge.
+fn is_combine(name: &str) -> bool
+    ensures { result ≡ is_combine name.now }
+{
+    name == "combine.children" || name == "combine.self"
+}
+
+fn combines(node: &Node) -> bool
+    ensures { result ≡ combines node.now }
+{
+    for name in node.attributes.as_slice() {
+        if is_combine(name.as_str()) {
+            return true;
+        }
+    }
+    false
+}
+
+impl Kind {
+    fn is(self, other: Kind) -> bool
+        ensures { result ≡ is_kind self other }
+    {
+        self.number() == other.number()
+    }
+}
+
+// What is refused where an element begins, behind some, so many of which are read.
+#[tactic(auto, unfolding(crate::specs::Faults::begun))]
+fn begun(
+    alloc: Global,
+    nodes: &[Node],
+    before: &[u32],
+    read: usize,
+    kind: Kind,
+    times: Times,
+    node: &Node,
+) -> Mem<Option<Fault>>
+    requires { read < 18446744073709551615 }
+    ensures { IfOk result (λ fault. fault ≡ begun nodes.now before.now read (kind, times) node.now) }
+{
+    let name = node.name.as_str();
+    if !times.is_repeated() && has_name(nodes, name, before) {
+        return Ok(Some(Fault::at_path(alloc, Rule::RepeatedElement, name)?));
+    }
+    if kind.is(Kind::Configuration) && combines(node) {
+        let step = times.step(alloc, read, name)?;
+        return Ok(Some(Fault::at_path(alloc, Rule::CombineAttribute, step.as_str())?));
+    }
+    if times.is_repeated() && read == ITEMS {
+        return Ok(Some(Fault::at_path(alloc, Rule::TooLarge, "")?));
+    }
+    Ok(None)
+}
+
+impl Times {
+    // Whether an element has to be there, in a POM without a parent or with one.
+    fn is_required(self, alone: bool) -> bool
+        ensures { result ≡ is_required alone self }
+    {
+        match self {
+            Times::Optional | Times::Repeated => false,
+            Times::Required => true,
+            Times::RequiredAlone => alone,
+        }
+    }
+}
+
+// The first name of these rows that an element lacks.
+fn missing_name(
+    rows: &[Row],
+    nodes: &[Node],
+    kind: Kind,
+    node: &Node,
+    alone: bool,
+) -> Option<&'static str>
+    ensures { option_map (λ name. name.now) result ≡ missing_name (map row_view rows.now) nodes.now kind node.now alone }
+{
+    for (under, name, _, times) in rows {
+        if under.is(kind) && times.is_required(alone) && !is_filled(nodes, node, name) {
+            return Some(*name);
+        }
+    }
+    None
+}
+
+// What an element lacks, first in the table's order.
+#[tactic(auto, unfolding(crate::specs::Faults::missing))]
+fn missing(alloc: Global, nodes: &[Node], kind: Kind, node: &Node) -> Mem<Option<Fault>>
+    ensures { IfOk result (λ fault. fault ≡ missing nodes.now kind node.now) }
+{
+    let alone = child(nodes, Some(node), "parent").is_none();
+    match missing_name(rows(), nodes, kind, node, alone) {
+        Some(name) => Ok(Some(Fault::at_path(alloc, Rule::MissingField, name)?)),
+        None => Ok(None),
+    }
+}
+
+// Another form of POM than this.
+#[tactic(auto, unfolding(crate::specs::Faults::version_fault))]
+fn version_fault(alloc: Global, nodes: &[Node], kind: Kind, node: &Node) -> Mem<Option<Fault>>
+    ensures { IfOk result (λ fault. fault ≡ version_fault nodes.now kind node.now) }
+{
+    if !kind.is(Kind::Project) {
+        return Ok(None);
+    }
+    let text = text_or(alloc, nodes, Some(node), "modelVersion", "")?;
+    if text.as_str() == "4.0.0" {
+        return Ok(None);
+    }
+    let rule = Rule::ModelVersion;
+    let spot = Spot::Own(text);
+    Ok(Some(Fault { rule, spot }))
+}
+
+// What is refused where an element ends.
+#[tactic(auto, unfolding(crate::specs::Faults::ended))]
+fn ended(alloc: Global, nodes: &[Node], kind: Kind, node: &Node) -> Mem<Option<Fault>>
+    ensures { IfOk result (λ fault. fault ≡ ended nodes.now kind node.now) }
+{
+    match version_fault(alloc, nodes, kind, node)? {
+        Some(fault) => Ok(Some(fault)),
+        None => missing(alloc, nodes, kind, node),
+    }
+}
+
+// What is refused in an element, first in document order.
+fn fault_within(
+    alloc: Global,
+    depth: u32,
+    nodes: &[Node],
+    kind: Kind,
+    node: &Node,
+) -> Mem<Option<Fault>>
+    ensures { IfOk result (λ fault. fault ≡ fault_within depth nodes.now kind node.now) }
+{
+    if depth == 0 {
+        return Ok(None);
+    }
+    let children = node.children.as_slice();
+    let mut read = 0;
+    for (i, k) in children.iter().enumerate() {
+        if let Some(((inner, times), child)) = read_child(nodes, kind, *k) {
+            let (before, _) = children.split_at(i);
+            if let Some(fault) = begun(alloc, nodes, before, read, inner, times, child)? {
+                return Ok(Some(fault));
+            }
+            if let Some(fault) = fault_within(alloc, depth - 1, nodes, inner, child)? {
+                let step = times.step(alloc, read, child.name.as_str())?;
+                return Ok(Some(fault.under(alloc, step.as_str())?));
+            }
+            read += 1;
+        }
+    }
+    ended(alloc, nodes, kind, node)
+}
+
+/// What is refused in a POM, first in document order. Costs its elements, and on a refusal its path.
+#[tactic(auto, unfolding(crate::specs::Faults::first_fault))]
+pub(crate) fn first_fault(alloc: Global, nodes: &[Node]) -> Mem<Option<Fault>>
+    ensures { IfOk result (λ fault. fault ≡ first_fault nodes.now) }
+{
+    let Some(root) = nodes.get(0) else {
+        let rule = Rule::RootNotProject;
+        let spot = Spot::Own(Text::of(String::new(alloc)));
+        return Ok(Some(Fault { rule, spot }));
+    };
+    if root.name.as_str() != "project" {
+        let rule = Rule::RootNotProject;
+        let spot = Spot::Own(root.name.clone()?);
+        return Ok(Some(Fault { rule, spot }));
+    }
+    match fault_within(alloc, DEPTH, nodes, Kind::Project, root)? {
+        Some(fault) => Ok(Some(fault.under(alloc, "project")?)),
+        None => Ok(None),
+    }
+}

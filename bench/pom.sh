@@ -22,11 +22,11 @@ for size in 131072 262144 524288 1048576; do
   row 'bytes, 20 runs' "$size" $(($(least 15) - base))
 done
 
-# A POM of as many bytes or a few less: a profile of six dependencies has 1,137 bytes
+# A POM of as many bytes or a few less: a profile of six dependencies has 1,138 bytes
 profiles() {
   awk -v most="$1" 'BEGIN {
     printf "<project><modelVersion>4.0.0</modelVersion><groupId>demo</groupId><artifactId>app</artifactId><version>1.0</version><profiles>"
-    for (i = 0; (i + 1) * 1137 + 200 < most; i++) {
+    for (i = 0; (i + 1) * 1138 + 200 < most; i++) {
       printf "<profile><id>p%06d</id><dependencies>", i
       for (k = 0; k < 6; k++)
         printf "<dependency><groupId>org.example.group</groupId><artifactId>artifact-%06d</artifactId><version>1.2.%06d</version><classifier>tests</classifier><scope>test</scope></dependency>", i, k

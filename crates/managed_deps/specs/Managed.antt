@@ -1,0 +1,65 @@
+-- Which dependency is managed under a key, and what a declaration takes from it. Introduction to the Dependency Mechanism,
+-- "Dependency Management".
+use Rattle.std.specs.Prelude.{ℕ, Bool, false, not, ◌&&◌, List, [], ◌∷◌, ◌++◌, flat_map, filter, codes, Option, Some, None, if◌then◌else◌}
+use Rattle.std.specs.Map.{lookup}
+use Rattle.std.specs.Option.{option_or}
+use Rattle.std.specs.Str.{bytes_eq}
+use Rattle.mvn_base.specs.declared.key.Key.{Key}
+use Rattle.model_types.specs.declared.dependency.Dependency.{Dependency}
+use Rattle.model_types.specs.declared.dependency.Exclusion.{Exclusion}
+
+-- what tells one dependency from another
+abbrev pub key_of : Dependency → Key
+key_of d = record { group = d.group; artifact = d.artifact; kind = d.kind; classifier = d.classifier }
+
+abbrev pub same_key : Key → Key → Bool
+same_key a b = bytes_eq a.group b.group && (bytes_eq a.artifact b.artifact && (bytes_eq a.kind b.kind && bytes_eq a.classifier b.classifier))
+
+-- an entry that stands for what another POM manages
+abbrev pub is_scope : List ℕ → Option (List ℕ) → Bool
+is_scope name (Some scope) = bytes_eq scope name
+is_scope name None = false
+
+abbrev pub is_import : Dependency → Bool
+is_import d = is_scope (codes "import") d.scope
+
+-- the entry of a key, the first that is there
+abbrev pub find_entry : List Dependency → Key → Option Dependency
+find_entry [] key = None
+find_entry (d ∷ entries) key = if same_key key (key_of d) then Some d else find_entry entries key
+
+-- so of entries that each stand under a key
+abbrev pub find_pair : List (Key × Dependency) → Key → Option Dependency
+find_pair entries key = lookup (same_key key) entries
+
+abbrev pub only_under : Dependency → Key → Option Dependency
+only_under d key = if same_key key (key_of d) then Some d else None
+
+-- own entries without imports, and then those of the imports in order
+abbrev pub own_entries : List Dependency → List Dependency
+own_entries own = filter (λ d. not (is_import d)) own
+
+abbrev pub all_entries : List Dependency → List (List Dependency) → List Dependency
+all_entries own imports = own_entries own ++ flat_map (λ entries. entries) imports
+
+-- what a declaration takes where it has none
+abbrev pub exclusions_of : List Exclusion → List Exclusion → List Exclusion
+exclusions_of [] managed = managed
+exclusions_of (e ∷ own) managed = e ∷ own
+
+abbrev pub with_managed : Dependency → Option Dependency → Dependency
+with_managed d None = d
+with_managed d (Some m) = record {
+  group = d.group;
+  artifact = d.artifact;
+  version = option_or d.version m.version;
+  kind = d.kind;
+  classifier = d.classifier;
+  scope = option_or d.scope m.scope;
+  optional = d.optional;
+  exclusions = exclusions_of d.exclusions m.exclusions;
+}
+
+-- a declaration with what is managed under its key
+abbrev pub apply_one : List (Key × Dependency) → Dependency → Dependency
+apply_one set d = with_managed d (find_pair set (key_of d))

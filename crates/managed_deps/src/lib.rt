@@ -1,0 +1,11 @@
+//! Which dependencies are managed, and what declarations take from that.
+#![tactic(auto)]
+
+mod application;
+mod set;
+
+pub use application::apply;
+pub use set::{ManagedSet, managed};
+
+#[cfg(test)]
+mod tests;

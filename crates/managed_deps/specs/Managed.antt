@@ -1,19 +1,17 @@
 -- Which dependency is managed under a key, and what a declaration takes from it. Introduction to the Dependency Mechanism,
 -- "Dependency Management".
-use Rattle.std.specs.Prelude.{ℕ, Bool, false, not, ◌&&◌, List, [], ◌∷◌, ◌++◌, flat_map, filter, codes, Option, Some, None, if◌then◌else◌}
+pub use Rattle.model_merge.specs.Keyed.{same_key}
+pub use Rattle.model_merge.specs.Merging.{key_of_dependency as key_of}
+use Rattle.std.specs.Prelude.{ℕ, Bool, false, not, List, [], ◌∷◌, ◌++◌, map, flat_map, filter, codes, Option, Some, None, if◌then◌else◌}
 use Rattle.std.specs.Map.{lookup}
 use Rattle.std.specs.Option.{option_or}
 use Rattle.std.specs.Str.{bytes_eq}
 use Rattle.mvn_base.specs.declared.key.Key.{Key}
 use Rattle.model_types.specs.declared.dependency.Dependency.{Dependency}
 use Rattle.model_types.specs.declared.dependency.Exclusion.{Exclusion}
-
--- what tells one dependency from another
-abbrev pub key_of : Dependency → Key
-key_of d = record { group = d.group; artifact = d.artifact; kind = d.kind; classifier = d.classifier }
-
-abbrev pub same_key : Key → Key → Bool
-same_key a b = bytes_eq a.group b.group && (bytes_eq a.artifact b.artifact && (bytes_eq a.kind b.kind && bytes_eq a.classifier b.classifier))
+use Rattle.model_types.specs.declared.plugin.Plugin.{Plugin}
+use Rattle.model_merge.specs.Keyed.{settled, underlaid}
+use Rattle.model_merge.specs.Merging.{key_of_plugin, merged_plugin}
 
 -- an entry that stands for what another POM manages
 abbrev pub is_scope : List ℕ → Option (List ℕ) → Bool
@@ -63,3 +61,7 @@ with_managed d (Some m) = record {
 -- a declaration with what is managed under its key
 abbrev pub apply_one : List (Key × Dependency) → Dependency → Dependency
 apply_one set d = with_managed d (find_pair set (key_of d))
+
+-- each plugin, merged as child with the managed one of its name; of equal names among the managed ones the later counts
+abbrev pub apply_plugins : List Plugin → List Plugin → List Plugin
+apply_plugins plugins managed = map (underlaid key_of_plugin merged_plugin (settled key_of_plugin managed)) plugins

@@ -1,9 +1,10 @@
 ghost use Rattle.std.specs.Prelude.{◌≡◌, map, Some, IfOk};
 ghost use Rattle.std.specs.Option.{option_or};
-ghost use Rattle.managed_deps.specs.Managed.{apply_one, exclusions_of, with_managed};
+ghost use Rattle.managed_deps.specs.Managed.{apply_one, apply_plugins, exclusions_of, with_managed};
 
-use crate::set::{ManagedSet, copy, key_of};
-use model_types::{Dependency, Exclusion};
+use crate::set::ManagedSet;
+use model_merge::{Keyed, merged_under};
+use model_types::{Dependency, Exclusion, Plugin};
 use mvn_shared::{List, Mem, Text};
 use std::alloc::Global;
 
@@ -45,12 +46,12 @@ fn with_managed(own: &Dependency, managed: &Dependency) -> Mem<Dependency>
 }
 
 // A declaration with what is managed under its key.
-fn applied(dependency: &Dependency, set: &ManagedSet) -> Mem<Dependency>
+fn applied(alloc: Global, dependency: &Dependency, set: &ManagedSet) -> Mem<Dependency>
     ensures { IfOk result (λ value. value ≡ apply_one set.now dependency.now) }
 {
-    match set.find(&key_of(dependency)?) {
+    match set.find(&dependency.key(alloc)?) {
         Some(managed) => with_managed(dependency, managed),
-        None => copy(dependency),
+        None => dependency.copy(),
     }
 }
 
@@ -61,7 +62,15 @@ pub fn apply(alloc: Global, dependencies: &[Dependency], set: &ManagedSet) -> Me
 {
     let mut list = List::new(alloc);
     for dependency in dependencies {
-        list.push(applied(dependency, set)?)?;
+        list.push(applied(alloc, dependency, set)?)?;
     }
     Ok(list)
+}
+
+/// Plugins, each merged as child with the managed one of its name; of equal names among the managed ones the later counts. Costs both,
+/// on the average. POM Reference, "Plugin Management".
+pub fn apply_plugins(alloc: Global, plugins: &[Plugin], managed: &[Plugin]) -> Mem<List<Plugin>>
+    ensures { IfOk result (λ list. list ≡ apply_plugins plugins.now managed.now) }
+{
+    merged_under(alloc, plugins, managed)
 }

@@ -4,7 +4,7 @@
 mod application;
 mod set;
 
-pub use application::apply;
+pub use application::{apply, apply_plugins};
 pub use set::{ManagedSet, managed};
 
 #[cfg(test)]

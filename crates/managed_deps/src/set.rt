@@ -2,9 +2,10 @@ ghost use Rattle.std.specs.Prelude.{◌≡◌, ◌++◌, [], Some, is_some, IfOk
 ghost use Rattle.std.specs.Option.{option_copied, option_or};
 ghost use Rattle.indexmap.specs.IndexMap.{insert_entry};
 ghost use Rattle.mvn_base.specs.declared.key.Key as keys;
-ghost use Rattle.managed_deps.specs.Managed.{all_entries, own_entries, find_entry, find_pair, is_import, key_of, only_under, same_key};
+ghost use Rattle.managed_deps.specs.Managed.{all_entries, own_entries, find_entry, find_pair, is_import, only_under, same_key};
 
 use indexmap::IndexMap;
+use model_merge::Keyed;
 use model_types::Dependency;
 use mvn_base::Key;
 use mvn_shared::{List, Mem};
@@ -28,22 +29,6 @@ impl Model for ManagedSet {
     ghost view = { λ set. set.entries.entries };
 }
 
-// What tells one dependency from another.
-pub(crate) fn key_of(dependency: &Dependency) -> Mem<Key>
-    ensures { IfOk result (λ key. key ≡ key_of dependency.now) }
-{
-    let group = dependency.group.clone()?;
-    let artifact = dependency.artifact.clone()?;
-    let kind = dependency.kind.clone()?;
-    let classifier = dependency.classifier.clone()?;
-    Ok(Key {
-        group,
-        artifact,
-        kind,
-        classifier,
-    })
-}
-
 // Whether an entry stands for what another POM manages.
 fn is_import(dependency: &Dependency) -> bool
     ensures { result ≡ is_import dependency.now }
@@ -52,13 +37,6 @@ fn is_import(dependency: &Dependency) -> bool
         Some(scope) => scope.as_str() == "import",
         None => false,
     }
-}
-
-// The same dependency.
-pub(crate) fn copy(dependency: &Dependency) -> Mem<Dependency>
-    ensures { IfOk result (λ copy. copy ≡ dependency.now) }
-{
-    Ok(dependency.clone()?)
 }
 
 // One entry more, under a key.
@@ -94,35 +72,35 @@ impl ManagedSet {
     }
 
     // One entry more, where none is there under its key.
-    fn add(&mut self, dependency: &Dependency) -> Mem<()>
+    fn add(&mut self, alloc: Global, dependency: &Dependency) -> Mem<()>
         ensures { OnOk result ((key : keys.Key) → find_pair self.new key ≡ option_or (find_pair self.old key) (only_under dependency.now key)) }
     {
-        let key = key_of(dependency)?;
+        let key = dependency.key(alloc)?;
         if self.has(&key) {
             return Ok(());
         }
-        put(&mut self.entries, key, copy(dependency)?)?;
+        put(&mut self.entries, key, dependency.copy()?)?;
         Ok(())
     }
 }
 
 // The entries of a list, each where none is there under its key.
-fn add_all(set: &mut ManagedSet, entries: &[Dependency]) -> Mem<()>
+fn add_all(alloc: Global, set: &mut ManagedSet, entries: &[Dependency]) -> Mem<()>
     ensures { OnOk result ((key : keys.Key) → find_pair set.new key ≡ option_or (find_pair set.old key) (find_entry entries.now key)) }
 {
     for dependency in entries {
-        set.add(dependency)?;
+        set.add(alloc, dependency)?;
     }
     Ok(())
 }
 
 // So of those that are no imports.
-fn add_own(set: &mut ManagedSet, entries: &[Dependency]) -> Mem<()>
+fn add_own(alloc: Global, set: &mut ManagedSet, entries: &[Dependency]) -> Mem<()>
     ensures { OnOk result ((key : keys.Key) → find_pair set.new key ≡ option_or (find_pair set.old key) (find_entry (own_entries entries.now) key)) }
 {
     for dependency in entries {
         if !is_import(dependency) {
-            set.add(dependency)?;
+            set.add(alloc, dependency)?;
         }
     }
     Ok(())
@@ -134,9 +112,9 @@ pub fn managed(alloc: Global, own: &[Dependency], imports: &[List<Dependency>]) 
     ensures { IfOk result (λ set. (key : keys.Key) → find_pair set key ≡ find_entry (all_entries own.now imports.now) key) }
 {
     let mut set = ManagedSet::new(alloc);
-    add_own(&mut set, own)?;
+    add_own(alloc, &mut set, own)?;
     for entries in imports {
-        add_all(&mut set, entries.as_slice())?;
+        add_all(alloc, &mut set, entries.as_slice())?;
     }
     Ok(set)
 }

@@ -1,6 +1,6 @@
 // What is managed under which key, and what declarations take, worked out by hand.
-use crate::{apply, managed};
-use model_types::{Dependency, Exclusion};
+use crate::{apply, apply_plugins, managed};
+use model_types::{Dependency, Exclusion, Plugin};
 use mvn_base::Key;
 use mvn_shared::{List, Mem, Text};
 use std::alloc::Global;
@@ -147,5 +147,55 @@ fn nothing_is_managed_under_another_key(rt: HostRuntime) -> Result<(), Fail> {
     assert!(rt; set.find(&key(alloc, "a")?).is_some());
     assert!(rt; set.find(&key(alloc, "bom")?).is_none());
     assert!(rt; set.find(&key(alloc, "d")?).is_none());
+    Ok(())
+}
+
+// A plugin of the group `g`, with a version or none.
+fn plugin(alloc: Global, artifact: &str, version: &str) -> Mem<Plugin> {
+    let group = text(alloc, "g")?;
+    let artifact = text(alloc, artifact)?;
+    let version = option(alloc, version)?;
+    Ok(Plugin {
+        group,
+        artifact,
+        version,
+        inherited: true,
+        dependencies: List::new(alloc),
+        executions: List::new(alloc),
+        configuration: List::new(alloc),
+    })
+}
+
+fn plugins(alloc: Global, rows: &[(&str, &str)]) -> Mem<List<Plugin>> {
+    let mut list = List::new(alloc);
+    for (artifact, version) in rows {
+        list.push(plugin(alloc, *artifact, *version)?)?;
+    }
+    Ok(list)
+}
+
+fn shown_plugins(alloc: Global, plugins: &[Plugin]) -> Mem<String> {
+    let mut shown = String::new(alloc);
+    for plugin in plugins {
+        shown.push_str(plugin.artifact.as_str())?;
+        push_option(&mut shown, &plugin.version)?;
+        shown.push(' ')?;
+    }
+    Ok(shown)
+}
+
+#[test]
+fn plugins_take_what_is_managed(rt: HostRuntime) -> Result<(), Fail> {
+    let alloc = rt.alloc();
+    let declared = plugins(alloc, [("a", ""), ("b", "2"), ("c", "")].as_slice())?;
+    let managed = plugins(
+        alloc,
+        [("b", "3"), ("a", "1"), ("a", "4"), ("d", "5")].as_slice(),
+    )?;
+    let applied = apply_plugins(alloc, declared.as_slice(), managed.as_slice())?;
+    assert_eq!(rt;
+        shown_plugins(alloc, applied.as_slice())?.as_str(),
+        "a/4 b/2 c/ "
+    );
     Ok(())
 }

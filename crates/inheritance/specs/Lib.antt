@@ -1,0 +1,5 @@
+pub mod Inherit
+pub mod Others
+pub mod Parts
+pub mod Placing
+pub mod SuperPom

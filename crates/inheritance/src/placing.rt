@@ -1,0 +1,229 @@
+ghost use Rattle.std.specs.Prelude.{◌≡◌, List as Items, [], ◌∷◌, ◌++◌, ◌||◌, map, filter, flat_map, Some, None, if◌then◌else◌, IfOk, OnOk};
+ghost use Rattle.std.specs.HashSet.{contains};
+ghost use Rattle.std.specs.List.{list_any};
+ghost use Rattle.mvn_base.specs.declared.key.Key as names;
+ghost use Rattle.model_types.specs.declared.plugin.Plugin as plugins;
+ghost use Rattle.model_types.specs.declared.plugin.Execution as executions;
+ghost use Rattle.model_merge.specs.Keyed.{overlaid, same_key, settled};
+ghost use Rattle.model_merge.specs.Merging.{key_of_execution, key_of_plugin, merged_plugin};
+ghost use Rattle.inheritance.specs.Placing.{handed_on, inheritable, inherited_plugins, is_shared, leading};
+ghost use Rattle.inheritance.specs.Others.{Stands, HasKeys, listed};
+
+use model_merge::{Keyed, copies, merged_over, settled};
+use model_types::{Execution, Plugin};
+use mvn_base::Key;
+use mvn_shared::{List, Mem};
+use std::alloc::Global;
+use std::collections::{HashMap, HashSet};
+
+// The executions that a child takes over.
+fn inherited_executions(alloc: Global, list: List<Execution>) -> Mem<List<Execution>>
+    ensures { IfOk result (λ kept. kept ≡ filter (λ (e : executions.Execution). e.inherited) list) }
+{
+    let mut kept = List::new(alloc);
+    for execution in list.into_vec() {
+        if execution.inherited {
+            kept.push(execution)?;
+        }
+    }
+    Ok(kept)
+}
+
+// A parent's plugin as a child takes it over.
+fn handed_on(alloc: Global, plugin: Plugin) -> Mem<Plugin>
+    ensures { IfOk result (λ handed. handed ≡ handed_on plugin) }
+{
+    let executions = inherited_executions(alloc, settled(alloc, plugin.executions.as_slice())?)?;
+    Ok(Plugin {
+        group: plugin.group,
+        artifact: plugin.artifact,
+        version: plugin.version,
+        inherited: plugin.inherited,
+        dependencies: plugin.dependencies,
+        executions,
+        configuration: plugin.configuration,
+    })
+}
+
+// The plugins that a parent passes on.
+fn inheritable(alloc: Global, parent: &[Plugin]) -> Mem<List<Plugin>>
+    ensures { IfOk result (λ list. list ≡ inheritable parent.now) }
+{
+    let mut list = List::new(alloc);
+    for plugin in settled(alloc, parent)?.into_vec() {
+        if plugin.inherited {
+            list.push(handed_on(alloc, plugin)?)?;
+        }
+    }
+    Ok(list)
+}
+
+// One key more.
+fn add_key(alloc: Global, keys: &mut HashSet<Key>, plugin: &Plugin) -> Mem<()>
+    ensures { OnOk result ((q : names.Key) → contains same_key keys.new q ≡ (same_key (key_of_plugin plugin.now) q || contains same_key keys.old q)) }
+{
+    keys.insert(plugin.key(alloc)?)?;
+    Ok(())
+}
+
+// The keys of plugins.
+fn keys_of(alloc: Global, plugins: &[Plugin]) -> Mem<HashSet<Key>>
+    ensures { IfOk result (HasKeys plugins.now) }
+{
+    let mut keys = HashSet::new(alloc);
+    for plugin in plugins {
+        add_key(alloc, &mut keys, plugin)?;
+    }
+    Ok(keys)
+}
+
+// The child's plugins that its parent hasn't: those in front of each shared one, and those that no shared one follows.
+#[derive(Drop)]
+struct Others {
+    before: HashMap<Key, Vec<Plugin>>,
+    last: Vec<Plugin>,
+}
+
+// Plugins, one list behind the other.
+fn appended(first: Vec<Plugin>, second: Vec<Plugin>) -> Mem<Vec<Plugin>>
+    ensures { IfOk result (λ list. list.items ≡ first.items ++ second.items) }
+{
+    let mut list = first;
+    for plugin in second {
+        list.push(plugin)?;
+    }
+    Ok(list)
+}
+
+// Plugins more, under a key.
+fn add_before(
+    alloc: Global,
+    before: &mut HashMap<Key, Vec<Plugin>>,
+    key: Key,
+    plugins: Vec<Plugin>,
+) -> Mem<()>
+    ensures { OnOk result ((q : names.Key) → listed before.new q ≡ (if same_key key q then listed before.old q ++ plugins.items else listed before.old q)) }
+{
+    let list = match before.remove(&key) {
+        Some(list) => list,
+        None => Vec::new(alloc),
+    };
+    before.insert(key, appended(list, plugins)?)?;
+    Ok(())
+}
+
+impl Others {
+    // A shared plugin follows: the last ones stand in front of it.
+    fn before_shared(self, alloc: Global, key: Key) -> Mem<Others>
+        ensures before { IfOk result (λ others. (q : names.Key) → listed others.before q ≡ (if same_key key q then listed self.before q ++ self.last.items else listed self.before q)) }
+        ensures last { IfOk result (λ others. others.last.items ≡ []) }
+    {
+        let Others { mut before, last } = self;
+        add_before(alloc, &mut before, key, last)?;
+        Ok(Others {
+            before,
+            last: Vec::new(alloc),
+        })
+    }
+
+    // One more that isn't shared.
+    fn with(self, plugin: Plugin) -> Mem<Others>
+        ensures before { IfOk result (λ others. others.before ≡ self.before) }
+        ensures last { IfOk result (λ others. others.last.items ≡ self.last.items ++ plugin ∷ []) }
+    {
+        let Others { before, mut last } = self;
+        last.push(plugin)?;
+        Ok(Others { before, last })
+    }
+
+    // The child's next plugin.
+    fn next(self, alloc: Global, keys: &HashSet<Key>, plugin: Plugin) -> Mem<Others>
+        ensures { (parent done : Items plugins.Plugin) → HasKeys parent keys.now → Stands parent done self.before self.last.items
+            → IfOk result (λ others. Stands parent (done ++ plugin ∷ []) others.before others.last.items) }
+    {
+        let key = plugin.key(alloc)?;
+        if keys.contains(&key) {
+            return self.before_shared(alloc, key);
+        }
+        self.with(plugin)
+    }
+}
+
+// Where the child's others stand.
+fn others_of(alloc: Global, parent: &[Plugin], child: List<Plugin>) -> Mem<Others>
+    ensures { IfOk result (λ others. Stands parent.now child others.before others.last.items) }
+{
+    let keys = keys_of(alloc, parent)?;
+    let mut others = Others {
+        before: HashMap::new(alloc),
+        last: Vec::new(alloc),
+    };
+    for plugin in child.into_vec() {
+        others = others.next(alloc, &keys, plugin)?;
+    }
+    Ok(others)
+}
+
+// Copies of plugins, behind a list.
+fn push_copies(list: &mut List<Plugin>, plugins: &[Plugin]) -> Mem<()>
+    ensures { OnOk result (list.new ≡ list.old ++ plugins.now) }
+{
+    for plugin in plugins {
+        list.push(plugin.copy()?)?;
+    }
+    Ok(())
+}
+
+// Copies of what stands under a key, behind a list.
+fn push_listed(list: &mut List<Plugin>, before: &HashMap<Key, Vec<Plugin>>, key: &Key) -> Mem<()>
+    ensures { OnOk result (list.new ≡ list.old ++ listed before.now key.now) }
+{
+    match before.get(key) {
+        Some(plugins) => push_copies(list, plugins.as_slice()),
+        None => Ok(()),
+    }
+}
+
+// A parent's plugin, behind the child's others that stand in front of it.
+fn push_placed(
+    alloc: Global,
+    list: &mut List<Plugin>,
+    before: &HashMap<Key, Vec<Plugin>>,
+    plugin: Plugin,
+) -> Mem<()>
+    ensures { OnOk result (list.new ≡ (list.old ++ listed before.now (key_of_plugin plugin)) ++ plugin ∷ []) }
+{
+    let key = plugin.key(alloc)?;
+    push_listed(list, before, &key)?;
+    list.push(plugin)
+}
+
+// A parent's plugins, each behind the child's others that stand in front of it.
+fn in_place(
+    alloc: Global,
+    before: &HashMap<Key, Vec<Plugin>>,
+    parent: List<Plugin>,
+) -> Mem<List<Plugin>>
+    ensures { IfOk result (λ list. list ≡ flat_map (λ p. listed before.now (key_of_plugin p) ++ p ∷ []) parent) }
+{
+    let mut list = List::new(alloc);
+    for plugin in parent.into_vec() {
+        push_placed(alloc, &mut list, before, plugin)?;
+    }
+    Ok(list)
+}
+
+/// The plugins of a child and of its parent: in the parent's order those that it passes on, each merged with the child's of its name,
+/// and the child's others in front of the shared one that follows them, or at the end. Costs both, on the average. POM Reference,
+/// "Plugins", of `inherited`; the places are an own rule.
+#[tactic(auto, unfolding(crate::specs::Placing::inherited_plugins))]
+pub fn inherited_plugins(alloc: Global, child: &[Plugin], parent: &[Plugin]) -> Mem<List<Plugin>>
+    ensures { IfOk result (λ list. list ≡ inherited_plugins child.now parent.now) }
+{
+    let parents = inheritable(alloc, parent)?;
+    let Others { before, last } = others_of(alloc, parents.as_slice(), settled(alloc, child)?)?;
+    let merged = merged_over(alloc, child, parents)?;
+    let mut list = in_place(alloc, &before, merged)?;
+    push_copies(&mut list, last.as_slice())?;
+    Ok(list)
+}

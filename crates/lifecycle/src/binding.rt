@@ -1,0 +1,119 @@
+ghost use Rattle.std.specs.Prelude.{◌≡◌, [], ◌∷◌, map, filter, option_map, IfOk};
+ghost use Rattle.std.specs.Str.{bytes_eq};
+ghost use Rattle.lifecycle.specs.Bindings.{bindings, bound_execution, bound_id, bound_plugin, bound_plugins, bound_to, row_view};
+
+use crate::table::{Row, rows_of};
+use model_merge::{appended, merged_under, others_than, settled};
+use model_types::{Execution, Plugin};
+use mvn_shared::{List, Mem, Text};
+use std::alloc::Global;
+
+/// The group of Maven's own plugins.
+const MAVEN_PLUGINS: &str = "org.apache.maven.plugins";
+
+// The id of a bound execution.
+fn bound_id(alloc: Global, goal: &str) -> Mem<Text>
+    ensures { IfOk result (λ id. id ≡ bound_id goal.now) }
+{
+    Ok(Text::of(format!(in alloc; "default-{goal}")?))
+}
+
+// A list of one text.
+fn one_text(alloc: Global, text: &str) -> Mem<List<Text>>
+    ensures { IfOk result (λ list. list ≡ text.now ∷ []) }
+{
+    let mut list = List::new(alloc);
+    list.push(Text::from_str(alloc, text)?)?;
+    Ok(list)
+}
+
+// The execution that a binding gives.
+fn bound_execution(alloc: Global, row: &Row) -> Mem<Execution>
+    ensures { IfOk result (λ execution. execution ≡ bound_execution (row_view row.now)) }
+{
+    let (_, goal, phase) = *row;
+    Ok(Execution {
+        id: bound_id(alloc, goal)?,
+        phase: Some(Text::from_str(alloc, phase.name())?),
+        goals: one_text(alloc, goal)?,
+        inherited: true,
+        configuration: List::new(alloc),
+    })
+}
+
+// Those of a plugin.
+fn bound_executions(alloc: Global, rows: &[Row], name: &Text) -> Mem<List<Execution>>
+    ensures { IfOk result (λ list. list ≡ map bound_execution (filter (λ b. bytes_eq name.now b.plugin) (map row_view rows.now))) }
+{
+    let mut list = List::new(alloc);
+    for row in rows {
+        if name.as_str() == row.0 {
+            list.push(bound_execution(alloc, row)?)?;
+        }
+    }
+    Ok(list)
+}
+
+// A plugin with its bound executions.
+fn bound_plugin(alloc: Global, rows: &[Row], name: &Text) -> Mem<Plugin>
+    ensures { IfOk result (λ plugin. plugin ≡ bound_plugin (map row_view rows.now) name.now) }
+{
+    Ok(Plugin {
+        group: Text::from_str(alloc, MAVEN_PLUGINS)?,
+        artifact: name.clone()?,
+        version: None,
+        inherited: true,
+        dependencies: List::new(alloc),
+        executions: bound_executions(alloc, rows, name)?,
+        configuration: List::new(alloc),
+    })
+}
+
+// The plugins of bindings, once for each.
+fn names_of(alloc: Global, rows: &[Row]) -> Mem<List<Text>>
+    ensures { IfOk result (λ names. names ≡ map (λ b. b.plugin) (map row_view rows.now)) }
+{
+    let mut names = List::new(alloc);
+    for row in rows {
+        names.push(Text::from_str(alloc, row.0)?)?;
+    }
+    Ok(names)
+}
+
+// The bound plugins of these bindings.
+fn bound_plugins(alloc: Global, rows: &[Row]) -> Mem<List<Plugin>>
+    ensures { IfOk result (λ plugins. plugins ≡ bound_plugins (map row_view rows.now)) }
+{
+    let names = settled(alloc, names_of(alloc, rows)?.as_slice())?;
+    let mut plugins = List::new(alloc);
+    for name in names.as_slice() {
+        plugins.push(bound_plugin(alloc, rows, name)?)?;
+    }
+    Ok(plugins)
+}
+
+/// The plugins that a packaging binds, in the order of its bindings, each with an execution `default-goal` for each goal; none exactly
+/// where the packaging is unknown. Constant cost. Introduction to the Build Lifecycle, "Built-in Lifecycle Bindings".
+pub fn bindings(alloc: Global, packaging: &Text) -> Mem<Option<List<Plugin>>>
+    ensures { IfOk result (λ plugins. plugins ≡ bindings packaging.now) }
+{
+    match rows_of(packaging.as_str()) {
+        Some(rows) => Ok(Some(bound_plugins(alloc, rows)?)),
+        None => Ok(None),
+    }
+}
+
+/// Declared plugins, each in its place and merged as child with the bound one of its name, and then the other bound ones, each merged as
+/// child with its managed entry. Costs all lists, on the average. Introduction to the Build Lifecycle; the places are an own rule.
+pub fn bind(
+    alloc: Global,
+    plugins: &[Plugin],
+    managed: &[Plugin],
+    bound: List<Plugin>,
+) -> Mem<List<Plugin>>
+    ensures { IfOk result (λ list. list ≡ bound_to plugins.now managed.now bound) }
+{
+    let declared = merged_under(alloc, plugins, bound.as_slice())?;
+    let further = others_than(alloc, plugins, bound)?;
+    appended(declared, merged_under(alloc, further.as_slice(), managed)?)
+}

@@ -1,0 +1,147 @@
+ghost use Rattle.std.specs.Prelude.{◌≡◌, ◌++◌, [], unwrap_or, option_to_list, IfOk, OnOk};
+ghost use Rattle.std.specs.List.{list_any};
+ghost use Rattle.std.specs.Str.{bytes_eq};
+ghost use Rattle.lifecycle.specs.Bindings.{bound_id, row_view};
+ghost use Rattle.lifecycle.specs.Goals.{call_at, call_in, calls_of, is_bound_by, is_free, is_install, phase_at};
+
+use crate::table::Row;
+use model_merge::merged_configuration;
+use model_types::{Execution, Plugin};
+use mvn_base::{Phase, phase_of};
+use mvn_outside::{GoalCall, goal_rule};
+use mvn_shared::{List, Mem, Text};
+use std::alloc::Global;
+
+/// The group of Maven's own plugins.
+const MAVEN_PLUGINS: &str = "org.apache.maven.plugins";
+
+/// What the id of a bound execution begins with.
+const DEFAULT: &[u8] = b"default-";
+
+// Whether an id is that of the execution which is bound for a goal.
+fn is_bound_id(id: &[u8], goal: &[u8]) -> bool
+    ensures { result ≡ bytes_eq id.now (bound_id goal.now) }
+{
+    if id.len() < DEFAULT.len() {
+        return false;
+    }
+    let (front, rest) = id.split_at(DEFAULT.len());
+    front == DEFAULT && rest == goal
+}
+
+/// Whether a binding gives an execution.
+pub(crate) fn is_bound_by(row: &Row, plugin: &Plugin, execution: &Execution) -> bool
+    ensures { result ≡ is_bound_by (row_view row.now) (plugin.now, execution.now) }
+{
+    plugin.group.as_str() == MAVEN_PLUGINS
+        && plugin.artifact.as_str() == row.0
+        && is_bound_id(execution.id.as_bytes(), row.1.as_bytes())
+}
+
+/// The phase of a goal, where it has one.
+pub(crate) fn phase_at(plugin: &Plugin, execution: &Execution, goal: &Text) -> Option<Phase>
+    ensures { result ≡ phase_at (plugin.now, execution.now) goal.now }
+{
+    match &execution.phase {
+        Some(word) => phase_of(word.as_bytes()),
+        None => {
+            goal_rule(
+                plugin.group.as_bytes(),
+                plugin.artifact.as_bytes(),
+                goal.as_bytes(),
+            )
+            .phase
+        }
+    }
+}
+
+/// Whether a goal is the one that installs.
+pub(crate) fn is_install(plugin: &Plugin, execution: &Execution, goal: &Text) -> bool
+    ensures { result ≡ is_install (plugin.now, execution.now) goal.now }
+{
+    plugin.group.as_str() == MAVEN_PLUGINS
+        && plugin.artifact.as_str() == "maven-install-plugin"
+        && goal.as_str() == "install"
+}
+
+// A plugin's version, empty where none is declared.
+fn version_of(alloc: Global, plugin: &Plugin) -> Mem<Text>
+    ensures { IfOk result (λ version. version ≡ unwrap_or plugin.now.version []) }
+{
+    match &plugin.version {
+        Some(version) => Ok(version.clone()?),
+        None => Ok(Text::of(String::new(alloc))),
+    }
+}
+
+// The call of a goal in a phase.
+fn call_at(
+    alloc: Global,
+    plugin: &Plugin,
+    execution: &Execution,
+    goal: &Text,
+    phase: Phase,
+) -> Mem<GoalCall>
+    ensures { IfOk result (λ call. call ≡ call_at (plugin.now, execution.now) goal.now phase) }
+{
+    let rule = goal_rule(
+        plugin.group.as_bytes(),
+        plugin.artifact.as_bytes(),
+        goal.as_bytes(),
+    );
+    let configuration = merged_configuration(
+        alloc,
+        execution.configuration.as_slice(),
+        plugin.configuration.as_slice(),
+    )?;
+    let version = version_of(alloc, plugin)?;
+    let group = plugin.group.clone()?;
+    let artifact = plugin.artifact.clone()?;
+    let name = goal.clone()?;
+    let id = execution.id.clone()?;
+    Ok(GoalCall {
+        group,
+        artifact,
+        version,
+        goal: name,
+        execution: id,
+        phase,
+        configuration,
+        slot: rule.slot,
+        need: rule.need,
+    })
+}
+
+// A goal's call, where it ever runs, behind a list.
+fn push_call(
+    alloc: Global,
+    calls: &mut List<GoalCall>,
+    plugin: &Plugin,
+    execution: &Execution,
+    goal: &Text,
+) -> Mem<()>
+    ensures { OnOk result (calls.new ≡ calls.old ++ option_to_list (call_in (plugin.now, execution.now) goal.now (phase_at (plugin.now, execution.now) goal.now))) }
+{
+    let Some(phase) = phase_at(plugin, execution, goal) else {
+        return Ok(());
+    };
+    if is_install(plugin, execution, goal) {
+        return Ok(());
+    }
+    calls.push(call_at(alloc, plugin, execution, goal, phase)?)
+}
+
+/// The calls of an execution, behind a list.
+pub(crate) fn push_calls(
+    alloc: Global,
+    calls: &mut List<GoalCall>,
+    plugin: &Plugin,
+    execution: &Execution,
+) -> Mem<()>
+    ensures { OnOk result (calls.new ≡ calls.old ++ calls_of (plugin.now, execution.now)) }
+{
+    for goal in execution.goals.as_slice() {
+        push_call(alloc, calls, plugin, execution, goal)?;
+    }
+    Ok(())
+}

@@ -1,0 +1,99 @@
+// Which goals a packaging binds. Introduction to the Build Lifecycle, "Built-in Lifecycle Bindings".
+ghost use Rattle.std.specs.Prelude.{◌≡◌, map, option_map};
+ghost use Rattle.lifecycle.specs.Bindings.{bindings_of, row_view};
+
+use mvn_base::Phase;
+
+/// A binding: the plugin's artifact, the goal and the phase.
+pub(crate) type Row = (&'static str, &'static str, Phase);
+
+const RESOURCES: &str = "maven-resources-plugin";
+
+const COMPILER: &str = "maven-compiler-plugin";
+
+const SUREFIRE: &str = "maven-surefire-plugin";
+
+const EAR: &str = "maven-ear-plugin";
+
+const INSTALL: &str = "maven-install-plugin";
+
+const DEPLOY: &str = "maven-deploy-plugin";
+
+const POM_ROWS: [Row; 2] = [
+    (INSTALL, "install", Phase::Install),
+    (DEPLOY, "deploy", Phase::Deploy),
+];
+
+const JAR_ROWS: [Row; 8] = [
+    (RESOURCES, "resources", Phase::ProcessResources),
+    (COMPILER, "compile", Phase::Compile),
+    (RESOURCES, "testResources", Phase::ProcessTestResources),
+    (COMPILER, "testCompile", Phase::TestCompile),
+    (SUREFIRE, "test", Phase::Test),
+    ("maven-jar-plugin", "jar", Phase::Package),
+    (INSTALL, "install", Phase::Install),
+    (DEPLOY, "deploy", Phase::Deploy),
+];
+
+const EJB_ROWS: [Row; 8] = [
+    (RESOURCES, "resources", Phase::ProcessResources),
+    (COMPILER, "compile", Phase::Compile),
+    (RESOURCES, "testResources", Phase::ProcessTestResources),
+    (COMPILER, "testCompile", Phase::TestCompile),
+    (SUREFIRE, "test", Phase::Test),
+    ("maven-ejb-plugin", "ejb", Phase::Package),
+    (INSTALL, "install", Phase::Install),
+    (DEPLOY, "deploy", Phase::Deploy),
+];
+
+const RAR_ROWS: [Row; 8] = [
+    (RESOURCES, "resources", Phase::ProcessResources),
+    (COMPILER, "compile", Phase::Compile),
+    (RESOURCES, "testResources", Phase::ProcessTestResources),
+    (COMPILER, "testCompile", Phase::TestCompile),
+    (SUREFIRE, "test", Phase::Test),
+    ("maven-rar-plugin", "rar", Phase::Package),
+    (INSTALL, "install", Phase::Install),
+    (DEPLOY, "deploy", Phase::Deploy),
+];
+
+const WAR_ROWS: [Row; 8] = [
+    (RESOURCES, "resources", Phase::ProcessResources),
+    (COMPILER, "compile", Phase::Compile),
+    (RESOURCES, "testResources", Phase::ProcessTestResources),
+    (COMPILER, "testCompile", Phase::TestCompile),
+    (SUREFIRE, "test", Phase::Test),
+    ("maven-war-plugin", "war", Phase::Package),
+    (INSTALL, "install", Phase::Install),
+    (DEPLOY, "deploy", Phase::Deploy),
+];
+
+const EAR_ROWS: [Row; 5] = [
+    (EAR, "generate-application-xml", Phase::GenerateResources),
+    (RESOURCES, "resources", Phase::ProcessResources),
+    (EAR, "ear", Phase::Package),
+    (INSTALL, "install", Phase::Install),
+    (DEPLOY, "deploy", Phase::Deploy),
+];
+
+/// The bindings of a packaging, in order; none exactly where the packaging is unknown. Constant cost, and no memory.
+#[tactic(auto, unfolding(crate::specs::Bindings::bindings_of))]
+pub(crate) fn rows_of(packaging: &str) -> Option<&'static [Row]>
+    ensures { option_map (λ rows. map row_view rows.now) result ≡ bindings_of packaging.now }
+{
+    if packaging == "pom" {
+        Some(POM_ROWS.as_slice())
+    } else if packaging == "jar" {
+        Some(JAR_ROWS.as_slice())
+    } else if packaging == "ejb" {
+        Some(EJB_ROWS.as_slice())
+    } else if packaging == "rar" {
+        Some(RAR_ROWS.as_slice())
+    } else if packaging == "war" {
+        Some(WAR_ROWS.as_slice())
+    } else if packaging == "ear" {
+        Some(EAR_ROWS.as_slice())
+    } else {
+        None
+    }
+}

@@ -1,0 +1,2 @@
+pub mod UnderKeys
+mod Pairing

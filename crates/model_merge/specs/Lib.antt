@@ -1,0 +1,4 @@
+pub mod Configuration
+pub mod Keyed
+pub mod Merging
+pub mod Names

@@ -1,0 +1,60 @@
+-- What tells items of a POM's lists apart, and how executions and plugins are merged. POM Reference, "Plugins" and "Inheritance";
+-- the order of merged lists is an own rule.
+use Rattle.std.specs.Prelude.{ℕ, ◌&&◌, List, []}
+use Rattle.std.specs.Option.{option_or}
+use Rattle.mvn_base.specs.declared.gav.Gav.{Gav}
+use Rattle.mvn_base.specs.declared.key.Key.{Key}
+use Rattle.mvn_base.specs.declared.machine.Pair.{Pair}
+use Rattle.model_types.specs.declared.dependency.Dependency.{Dependency}
+use Rattle.model_types.specs.declared.plugin.Execution.{Execution}
+use Rattle.model_types.specs.declared.plugin.Plugin.{Plugin}
+use Rattle.model_types.specs.declared.profile.Profile.{Profile}
+use Rattle.model_merge.specs.Configuration.{merged_configuration}
+use Rattle.model_merge.specs.Keyed.{merged_lists, with_others}
+
+-- a key of one part, and of two
+abbrev pub key_of_name : List ℕ → Key
+key_of_name name = record { group = name; artifact = []; kind = []; classifier = [] }
+
+abbrev pub key_of_two : List ℕ → List ℕ → Key
+key_of_two group artifact = record { group = group; artifact = artifact; kind = []; classifier = [] }
+
+abbrev pub key_of_pair : Pair → Key
+key_of_pair p = key_of_name p.name
+
+abbrev pub key_of_dependency : Dependency → Key
+key_of_dependency d = record { group = d.group; artifact = d.artifact; kind = d.kind; classifier = d.classifier }
+
+abbrev pub key_of_extension : Gav → Key
+key_of_extension e = key_of_two e.group e.artifact
+
+abbrev pub key_of_execution : Execution → Key
+key_of_execution e = key_of_name e.id
+
+abbrev pub key_of_plugin : Plugin → Key
+key_of_plugin p = key_of_two p.group p.artifact
+
+abbrev pub key_of_profile : Profile → Key
+key_of_profile p = key_of_name p.id
+
+-- an execution, and the one of its id that it builds on
+unfoldable pub merged_execution : Execution → Execution → Execution
+merged_execution child parent = record {
+  id = child.id;
+  phase = option_or child.phase parent.phase;
+  goals = with_others key_of_name parent.goals child.goals;
+  inherited = child.inherited && parent.inherited;
+  configuration = merged_configuration child.configuration parent.configuration;
+}
+
+-- a plugin, and the one of its name that it builds on
+unfoldable pub merged_plugin : Plugin → Plugin → Plugin
+merged_plugin child parent = record {
+  group = child.group;
+  artifact = child.artifact;
+  version = option_or child.version parent.version;
+  inherited = child.inherited && parent.inherited;
+  dependencies = with_others key_of_dependency child.dependencies parent.dependencies;
+  executions = merged_lists key_of_execution merged_execution child.executions parent.executions;
+  configuration = merged_configuration child.configuration parent.configuration;
+}

@@ -1,0 +1,193 @@
+ghost use Rattle.std.specs.Prelude.{◌≡◌, ◌++◌, List, map, is_none, IfOk, OnOk};
+ghost use Rattle.std.specs.Option.{option_copied};
+ghost use Rattle.mvn_base.specs.declared.key.Key as keys;
+ghost use Rattle.model_merge.specs.Keyed.{item_of, keyed, merged_lists, others, overlaid, put, settled, underlaid, with_others};
+
+use crate::keyed::{Keyed, Mergeable};
+use indexmap::IndexMap;
+use mvn_base::Key;
+use mvn_shared::{List, Mem};
+use std::alloc::Global;
+
+// One item more: at the place of the one of its key, or at the end.
+fn put<T: Keyed>(alloc: Global, index: &mut IndexMap<Key, T>, item: T) -> Mem<()>
+    ensures { OnOk result ((items : List T) → index.old.entries ≡ keyed T.key_of items → index.new.entries ≡ keyed T.key_of (put T.key_of items item)) }
+{
+    let key = item.key(alloc)?;
+    index.insert(key, item)?;
+    Ok(())
+}
+
+// Items by their keys, the last of each key at the place of its first.
+fn index_of<T: Keyed>(alloc: Global, items: &[T]) -> Mem<IndexMap<Key, T>>
+    ensures { IfOk result (λ index. index.entries ≡ keyed T.key_of (settled T.key_of items.now)) }
+{
+    let mut index = IndexMap::new(alloc);
+    for item in items {
+        put(alloc, &mut index, item.copy()?)?;
+    }
+    Ok(index)
+}
+
+// The values of an index, in its order.
+fn values_of<T: Keyed>(alloc: Global, index: IndexMap<Key, T>) -> Mem<List<T>>
+    ensures { IfOk result (λ list. list ≡ map (λ e. e.1) index.entries) }
+{
+    Ok(List::of(index.into_values().collect(alloc)?))
+}
+
+// The items of an index, in its order.
+fn items_of<T: Keyed>(alloc: Global, index: IndexMap<Key, T>) -> Mem<List<T>>
+    ensures { (items : List T) → index.entries ≡ keyed T.key_of items → IfOk result (λ list. list ≡ items) }
+{
+    values_of(alloc, index)
+}
+
+/// The items of a list, of equal keys the last one, at the place of the first. Costs their number and texts, on the average. Own
+/// rule.
+pub fn settled<T: Keyed>(alloc: Global, items: &[T]) -> Mem<List<T>>
+    ensures { IfOk result (λ list. list ≡ settled T.key_of items.now) }
+{
+    let index = index_of(alloc, items)?;
+    items_of(alloc, index)
+}
+
+// The item of a key.
+fn find<'a, T: Keyed>(index: &'a IndexMap<Key, T>, key: &Key) -> Option<&'a T>
+    ensures { (items : List T) → index.now.entries ≡ keyed T.key_of items → option_copied result ≡ item_of T.key_of items key.now }
+{
+    index.get(key)
+}
+
+// Whether an index lacks the key of an item.
+fn is_new<T: Keyed>(alloc: Global, index: &IndexMap<Key, T>, item: &T) -> Mem<bool>
+    ensures { (items : List T) → index.now.entries ≡ keyed T.key_of items → IfOk result (λ is_new. is_new ≡ is_none (item_of T.key_of items (T.key_of item.now))) }
+{
+    let key = item.key(alloc)?;
+    Ok(find(index, &key).is_none())
+}
+
+// Those of other items whose keys aren't there.
+fn others<T: Keyed>(alloc: Global, index: &IndexMap<Key, T>, further: List<T>) -> Mem<List<T>>
+    ensures { (items : List T) → index.now.entries ≡ keyed T.key_of items → IfOk result (λ list. list ≡ others T.key_of items further) }
+{
+    let mut list = List::new(alloc);
+    for item in further.into_vec() {
+        if is_new(alloc, index, &item)? {
+            list.push(item)?;
+        }
+    }
+    Ok(list)
+}
+
+/// The same items. Costs them.
+pub fn copies<T: Keyed>(items: &List<T>) -> Mem<List<T>>
+    ensures { IfOk result (λ copies. copies ≡ items.now) }
+{
+    let mut copies = items.emptied()?;
+    for item in items.as_slice() {
+        copies.push(item.copy()?)?;
+    }
+    Ok(copies)
+}
+
+/// Two lists, one behind the other. Costs the second.
+pub fn appended<T: Drop>(first: List<T>, second: List<T>) -> Mem<List<T>>
+    ensures { IfOk result (λ list. list ≡ first ++ second) }
+{
+    let mut list = first;
+    for item in second.into_vec() {
+        list.push(item)?;
+    }
+    Ok(list)
+}
+
+/// The items of a list, and then those of a second list whose keys aren't there, each list settled. Costs both, on the average.
+/// Own rule of order.
+pub fn with_others<T: Keyed>(alloc: Global, first: &[T], second: &[T]) -> Mem<List<T>>
+    ensures { IfOk result (λ list. list ≡ with_others T.key_of first.now second.now) }
+{
+    let index = index_of(alloc, first)?;
+    let further = others(alloc, &index, settled(alloc, second)?)?;
+    appended(items_of(alloc, index)?, further)
+}
+
+// A parent's item, with the child's of its key.
+fn overlaid<T: Mergeable>(alloc: Global, index: &IndexMap<Key, T>, item: T) -> Mem<T>
+    ensures { (items : List T) → index.now.entries ≡ keyed T.key_of items → IfOk result (λ merged. merged ≡ overlaid T.key_of T.merge items item) }
+{
+    let key = item.key(alloc)?;
+    match find(index, &key) {
+        Some(child) => T::merged(alloc, child, &item),
+        None => Ok(item),
+    }
+}
+
+// So of each of a list.
+fn all_overlaid<T: Mergeable>(
+    alloc: Global,
+    index: &IndexMap<Key, T>,
+    parent: List<T>,
+) -> Mem<List<T>>
+    ensures { (items : List T) → index.now.entries ≡ keyed T.key_of items → IfOk result (λ list. list ≡ map (overlaid T.key_of T.merge items) parent) }
+{
+    let mut list = List::new(alloc);
+    for item in parent.into_vec() {
+        list.push(overlaid(alloc, index, item)?)?;
+    }
+    Ok(list)
+}
+
+// A child's item, with the parent's of its key.
+fn underlaid<T: Mergeable>(alloc: Global, index: &IndexMap<Key, T>, item: &T) -> Mem<T>
+    ensures { (items : List T) → index.now.entries ≡ keyed T.key_of items → IfOk result (λ merged. merged ≡ underlaid T.key_of T.merge items item.now) }
+{
+    let key = item.key(alloc)?;
+    match find(index, &key) {
+        Some(parent) => T::merged(alloc, item, parent),
+        None => item.copy(),
+    }
+}
+
+/// A child's items in order, each merged with the parent's of its key, the parent's list settled. Costs both, on the average, besides
+/// the merging.
+pub fn merged_under<T: Mergeable>(alloc: Global, child: &[T], parent: &[T]) -> Mem<List<T>>
+    ensures { IfOk result (λ list. list ≡ map (underlaid T.key_of T.merge (settled T.key_of parent.now)) child.now) }
+{
+    let parents = index_of(alloc, parent)?;
+    let mut list = List::new(alloc);
+    for item in child {
+        list.push(underlaid(alloc, &parents, item)?)?;
+    }
+    Ok(list)
+}
+
+/// Those of further items whose keys a list hasn't. Costs both, on the average.
+pub fn others_than<T: Keyed>(alloc: Global, items: &[T], further: List<T>) -> Mem<List<T>>
+    ensures { IfOk result (λ list. list ≡ others T.key_of (settled T.key_of items.now) further) }
+{
+    let index = index_of(alloc, items)?;
+    others(alloc, &index, further)
+}
+
+/// A parent's items, each merged with the child's of its key, the child's list settled. Costs both, on the average, besides the
+/// merging.
+pub fn merged_over<T: Mergeable>(alloc: Global, child: &[T], parent: List<T>) -> Mem<List<T>>
+    ensures { IfOk result (λ list. list ≡ map (overlaid T.key_of T.merge (settled T.key_of child.now)) parent) }
+{
+    let children = index_of(alloc, child)?;
+    all_overlaid(alloc, &children, parent)
+}
+
+/// A parent's items in order, each merged with the child's of its key, and then the child's others, each list settled. Costs both,
+/// on the average, besides the merging. Own rule of order.
+pub fn merged_lists<T: Mergeable>(alloc: Global, child: &[T], parent: &[T]) -> Mem<List<T>>
+    ensures { IfOk result (λ list. list ≡ merged_lists T.key_of T.merge child.now parent.now) }
+{
+    let parents = index_of(alloc, parent)?;
+    let further = others(alloc, &parents, settled(alloc, child)?)?;
+    appended(
+        merged_over(alloc, child, items_of(alloc, parents)?)?,
+        further,
+    )
+}

@@ -1,0 +1,29 @@
+ghost use Rattle.std.specs.Prelude.{◌≡◌, IfOk};
+
+use mvn_base::Key;
+use mvn_shared::Mem;
+use std::alloc::Global;
+
+/// An item that is told apart from others of its list by a key. A key of fewer than four parts leaves the last ones empty.
+pub trait Keyed: Sized + Drop {
+    ghost use Rattle.mvn_base.specs.declared.key.Key.{Key};
+
+    /// What it is told apart by.
+    ghost key_of: { Self → Key };
+
+    fn key(&self, alloc: Global) -> Mem<Key>
+        ensures { IfOk result (λ key. key ≡ key_of self.now) };
+
+    /// The same item.
+    fn copy(&self) -> Mem<Self>
+        ensures { IfOk result (λ copy. copy ≡ self.now) };
+}
+
+/// An item that can be merged with one of its key, which it builds on.
+pub trait Mergeable: Keyed {
+    /// The child's, and then the parent's.
+    ghost merge: { Self → Self → Self };
+
+    fn merged(alloc: Global, child: &Self, parent: &Self) -> Mem<Self>
+        ensures { IfOk result (λ merged. merged ≡ merge child.now parent.now) };
+}

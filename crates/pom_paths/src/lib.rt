@@ -1,0 +1,9 @@
+//! Paths in a project, and how they are joined.
+#![tactic(auto)]
+
+mod joining;
+
+pub use joining::joined;
+
+#[cfg(test)]
+mod tests;

@@ -45,3 +45,11 @@ module _ {T : Type 0} (key : T → Key) where
     -- the parent's items in order, each merged with the child's of its key, and then the child's others
     abbrev pub merged_lists : List T → List T → List T
     merged_lists child parent = map (overlaid (settled child)) (settled parent) ++ others (settled parent) (settled child)
+
+    -- an item more: merged with the one of its key, in its place, or at the end
+    abbrev pub absorb : List T → T → List T
+    absorb items x = put items (underlaid items x)
+
+    -- a list, and then further items, one by one
+    abbrev pub absorbed : List T → List T → List T
+    absorbed items further = fold absorb (settled items) further

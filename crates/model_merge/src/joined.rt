@@ -1,7 +1,7 @@
 ghost use Rattle.std.specs.Prelude.{◌≡◌, ◌++◌, List, map, is_none, IfOk, OnOk};
 ghost use Rattle.std.specs.Option.{option_copied};
 ghost use Rattle.mvn_base.specs.declared.key.Key as keys;
-ghost use Rattle.model_merge.specs.Keyed.{item_of, keyed, merged_lists, others, overlaid, put, settled, underlaid, with_others};
+ghost use Rattle.model_merge.specs.Keyed.{absorb, absorbed, item_of, keyed, merged_lists, others, overlaid, put, settled, underlaid, with_others};
 
 use crate::keyed::{Keyed, Mergeable};
 use indexmap::IndexMap;
@@ -160,6 +160,26 @@ pub fn merged_under<T: Mergeable>(alloc: Global, child: &[T], parent: &[T]) -> M
         list.push(underlaid(alloc, &parents, item)?)?;
     }
     Ok(list)
+}
+
+// An item more, merged with the one of its key.
+fn absorb<T: Mergeable>(alloc: Global, index: &mut IndexMap<Key, T>, item: &T) -> Mem<()>
+    ensures { OnOk result ((items : List T) → index.old.entries ≡ keyed T.key_of items → index.new.entries ≡ keyed T.key_of (absorb T.key_of T.merge items item.now)) }
+{
+    let merged = underlaid(alloc, index, item)?;
+    put(alloc, index, merged)
+}
+
+/// A settled list, and then further items one by one: each merged, as the child, with the one of its key, in its place, or else at the
+/// end. Costs both, on the average, besides the merging. Own rule of order.
+pub fn absorbed<T: Mergeable>(alloc: Global, items: &[T], further: &[T]) -> Mem<List<T>>
+    ensures { IfOk result (λ list. list ≡ absorbed T.key_of T.merge items.now further.now) }
+{
+    let mut index = index_of(alloc, items)?;
+    for item in further {
+        absorb(alloc, &mut index, item)?;
+    }
+    items_of(alloc, index)
 }
 
 /// Those of further items whose keys a list hasn't. Costs both, on the average.

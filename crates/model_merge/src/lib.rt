@@ -10,7 +10,8 @@ mod profile;
 
 pub use configuration::merged_configuration;
 pub use joined::{
-    appended, copies, merged_lists, merged_over, merged_under, others_than, settled, with_others,
+    absorbed, appended, copies, merged_lists, merged_over, merged_under, others_than, settled,
+    with_others,
 };
 pub use keyed::{Keyed, Mergeable};
 pub use plugin::{merged_execution, merged_plugin};

@@ -1,0 +1,4 @@
+mod Lists
+mod Plain
+mod Refusals
+mod Steps

@@ -1,0 +1,16 @@
+-- A refusal of a model names its POM.
+use Rattle.std.proofs.Common.{◌≡◌, ℕ, List, Option, sym, ap, ◌∙◌}
+use Rattle.mvn_base.specs.declared.machine.Machine.{Machine}
+use Rattle.mvn_base.specs.declared.machine.Pair.{Pair}
+use Rattle.model_types.specs.declared.model.RawModel.{RawModel}
+use Rattle.interpolate.specs.Filling.{fill, fill_model, refused_in}
+use Rattle.interpolate.specs.Joining.{TellsOf}
+use Rattle.interpolate.specs.Named.{named}
+use Rattle.interpolate.specs.Tables.{Fails}
+use Rattle.interpolate.specs.declared.fault.FillFault.{FillFault}
+use Rattle.interpolate.specs.declared.fault.FillFault.TheVariants.{Refused, Memory}
+
+pub fill_tells : (raw : RawModel) (basedir : Option (List ℕ)) (machine : Machine) (defines known : List Pair) (fault : FillFault) → known ≡ named raw basedir machine defines → Fails (fill_model known raw) fault → TellsOf raw.pom fault (fill raw basedir machine defines)
+unfolding fill
+fill_tells raw basedir machine defines known (Refused r place) is fails = ap (refused_in raw.pom) (ap (λ k. fill_model k raw) (sym is) ∙ fails)
+fill_tells raw basedir machine defines known Memory is fails = record {}

@@ -1,0 +1,8 @@
+use Rattle.std.proofs.Common.{◌≡◌, List, [], drop}
+use Rattle.mvn_base.specs.declared.machine.Pair.{Pair}
+use Rattle.interpolate.specs.Filling.{each}
+use Rattle.interpolate.specs.Tables.{IsTable, prefixed}
+use Rattle.interpolate.proofs.items.fill_each.Given as goal
+
+abbrev pub invariant-loop-item : goal.invariant-loop-item
+invariant-loop-item g l = (known : List Pair) → IsTable known [] l.initial.filler → IsTable known [] l.filler × (prefixed l.list (each (g.T.Fill.filled known) (drop l.item-index l.item-items)) ≡ each (g.T.Fill.filled known) l.item-items)

@@ -1,0 +1,8 @@
+use Rattle.std.proofs.Common.{◌≡◌, List, [], drop}
+use Rattle.mvn_base.specs.declared.machine.Pair.{Pair}
+use Rattle.interpolate.specs.Filling.{each, text_of}
+use Rattle.interpolate.specs.Tables.{IsTable, prefixed}
+use Rattle.interpolate.proofs.items.fill_texts.Given as goal
+
+abbrev pub invariant-loop-text : goal.invariant-loop-text
+invariant-loop-text l = (known : List Pair) → IsTable known [] l.initial.filler → IsTable known [] l.filler × (prefixed l.list (each (text_of known l.element) (drop l.text-index l.text-items)) ≡ each (text_of known l.element) l.text-items)

@@ -1,0 +1,202 @@
+ghost use Rattle.std.specs.Prelude.{List as Items, []};
+ghost use Rattle.mvn_base.specs.declared.machine.Pair as pairs;
+ghost use Rattle.interpolate.specs.Filling.{each, fill_dependency, fill_exclusion, fill_execution, fill_extension, fill_plugin, fill_property, fill_setting, if_there, name_of, text_of};
+ghost use Rattle.interpolate.specs.Tables.{Gives, IsTable};
+ghost use Rattle.interpolate.specs.Values.{Filled};
+
+use crate::fault::FillFault;
+use crate::filler::Filler;
+use crate::settings::fill_settings;
+use model_types::{Dependency, Exclusion, Execution, Plugin};
+use mvn_base::{Gav, Pair};
+use mvn_shared::{List, Text};
+use std::alloc::Global;
+
+/// What has texts that are filled.
+pub(crate) trait Fill: Sized + Drop {
+    ghost use Rattle.std.specs.Prelude.{List as Items, []};
+    ghost use Rattle.mvn_base.specs.declared.machine.Pair.{Pair};
+    ghost use Rattle.interpolate.specs.Values.{Filled};
+    ghost use Rattle.interpolate.specs.Tables.{Gives, IsTable};
+
+    /// With its texts filled, by what can be named.
+    ghost filled: { Items Pair → Self → Filled Self };
+
+    fn fill(&self, alloc: Global, filler: &mut Filler) -> Result<Self, FillFault>
+        ensures { (known : Items Pair) → IsTable known [] filler.old → Gives known (filled known self.now) filler.new result };
+}
+
+/// All of some, with their texts filled. Costs what these come to.
+pub(crate) fn fill_each<T: Fill>(
+    alloc: Global,
+    filler: &mut Filler,
+    items: &List<T>,
+) -> Result<List<T>, FillFault>
+    ensures { (known : Items pairs.Pair) → IsTable known [] filler.old → Gives known (each (T.filled known) items.now) filler.new result }
+{
+    let mut list = List::new(alloc);
+    for item in items.as_slice() {
+        match item.fill(alloc, filler) {
+            Ok(item) => list.push(item)?,
+            Err(fault) => return Err(fault),
+        }
+    }
+    Ok(list)
+}
+
+/// The texts of elements of one name.
+pub(crate) fn fill_texts(
+    alloc: Global,
+    filler: &mut Filler,
+    element: &str,
+    texts: &List<Text>,
+) -> Result<List<Text>, FillFault>
+    ensures { (known : Items pairs.Pair) → IsTable known [] filler.old → Gives known (each (text_of known element.now) texts.now) filler.new result }
+{
+    let mut list = List::new(alloc);
+    for text in texts.as_slice() {
+        match filler.text(alloc, element, text) {
+            Ok(text) => list.push(text)?,
+            Err(fault) => return Err(fault),
+        }
+    }
+    Ok(list)
+}
+
+/// The text of an element that may be missing.
+pub(crate) fn text_if(
+    alloc: Global,
+    filler: &mut Filler,
+    element: &str,
+    text: &Option<Text>,
+) -> Result<Option<Text>, FillFault>
+    ensures { (known : Items pairs.Pair) → IsTable known [] filler.old → Gives known (if_there (text_of known element.now) text.now) filler.new result }
+{
+    match text {
+        Some(text) => match filler.text(alloc, element, text) {
+            Ok(text) => Ok(Some(text)),
+            Err(fault) => Err(fault),
+        },
+        None => Ok(None),
+    }
+}
+
+/// The same, where no expression may be left.
+pub(crate) fn name_if(
+    alloc: Global,
+    filler: &mut Filler,
+    element: &str,
+    text: &Option<Text>,
+) -> Result<Option<Text>, FillFault>
+    ensures { (known : Items pairs.Pair) → IsTable known [] filler.old → Gives known (if_there (name_of known element.now) text.now) filler.new result }
+{
+    match text {
+        Some(text) => match filler.name(alloc, element, text) {
+            Ok(text) => Ok(Some(text)),
+            Err(fault) => Err(fault),
+        },
+        None => Ok(None),
+    }
+}
+
+impl Fill for Pair {
+    ghost filled = { fill_property };
+
+    fn fill(&self, alloc: Global, filler: &mut Filler) -> Result<Pair, FillFault> {
+        let name = self.name.clone()?;
+        match filler.text(alloc, name.as_str(), &self.value) {
+            Ok(value) => Ok(Pair { name, value }),
+            Err(fault) => Err(fault),
+        }
+    }
+}
+
+impl Fill for Exclusion {
+    ghost filled = { fill_exclusion };
+
+    fn fill(&self, alloc: Global, filler: &mut Filler) -> Result<Exclusion, FillFault> {
+        let group = filler.name(alloc, "groupId", &self.group)?;
+        let artifact = filler.name(alloc, "artifactId", &self.artifact)?;
+        Ok(Exclusion { group, artifact })
+    }
+}
+
+impl Fill for Gav {
+    ghost filled = { fill_extension };
+
+    fn fill(&self, alloc: Global, filler: &mut Filler) -> Result<Gav, FillFault> {
+        let group = filler.name(alloc, "groupId", &self.group)?;
+        let artifact = filler.name(alloc, "artifactId", &self.artifact)?;
+        let version = filler.name(alloc, "version", &self.version)?;
+        Ok(Gav {
+            group,
+            artifact,
+            version,
+        })
+    }
+}
+
+impl Fill for Dependency {
+    ghost filled = { fill_dependency };
+
+    fn fill(&self, alloc: Global, filler: &mut Filler) -> Result<Dependency, FillFault> {
+        let group = filler.name(alloc, "groupId", &self.group)?;
+        let artifact = filler.name(alloc, "artifactId", &self.artifact)?;
+        let version = name_if(alloc, filler, "version", &self.version)?;
+        let kind = filler.name(alloc, "type", &self.kind)?;
+        let classifier = filler.name(alloc, "classifier", &self.classifier)?;
+        let scope = name_if(alloc, filler, "scope", &self.scope)?;
+        let optional = filler.text(alloc, "optional", &self.optional)?;
+        let exclusions = fill_each(alloc, filler, &self.exclusions)?;
+        Ok(Dependency {
+            group,
+            artifact,
+            version,
+            kind,
+            classifier,
+            scope,
+            optional,
+            exclusions,
+        })
+    }
+}
+
+impl Fill for Execution {
+    ghost filled = { fill_execution };
+
+    fn fill(&self, alloc: Global, filler: &mut Filler) -> Result<Execution, FillFault> {
+        let id = filler.text(alloc, "id", &self.id)?;
+        let phase = text_if(alloc, filler, "phase", &self.phase)?;
+        let goals = fill_texts(alloc, filler, "goal", &self.goals)?;
+        let configuration = fill_settings(alloc, filler, &self.configuration)?;
+        Ok(Execution {
+            id,
+            phase,
+            goals,
+            inherited: self.inherited,
+            configuration,
+        })
+    }
+}
+
+impl Fill for Plugin {
+    ghost filled = { fill_plugin };
+
+    fn fill(&self, alloc: Global, filler: &mut Filler) -> Result<Plugin, FillFault> {
+        let group = filler.name(alloc, "groupId", &self.group)?;
+        let artifact = filler.name(alloc, "artifactId", &self.artifact)?;
+        let version = name_if(alloc, filler, "version", &self.version)?;
+        let dependencies = fill_each(alloc, filler, &self.dependencies)?;
+        let executions = fill_each(alloc, filler, &self.executions)?;
+        let configuration = fill_settings(alloc, filler, &self.configuration)?;
+        Ok(Plugin {
+            group,
+            artifact,
+            version,
+            inherited: self.inherited,
+            dependencies,
+            executions,
+            configuration,
+        })
+    }
+}

@@ -1,0 +1,16 @@
+//! Expressions in a model, and what they stand for.
+#![tactic(auto)]
+
+mod fault;
+mod filler;
+mod groups;
+mod items;
+mod model;
+mod named;
+mod settings;
+mod step;
+
+pub use model::fill;
+
+#[cfg(test)]
+mod tests;

@@ -1,0 +1,141 @@
+ghost use Rattle.std.specs.Prelude.{◌≡◌, ◌++◌, OnOk, IfOk};
+ghost use Rattle.std.specs.Option.{option_copied};
+ghost use Rattle.interpolate.specs.Named.{behind, build_fields, coordinate_fields, field, fields, named, own_fields, parent_fields};
+
+use model_types::{Build, Parent, RawModel};
+use mvn_base::{Gav, Machine, Pair};
+use mvn_shared::{List, Mem, Text};
+use std::alloc::Global;
+
+// A name with its text, where there is one, behind a list.
+fn push_field(alloc: Global, list: &mut List<Pair>, name: &str, text: Option<&Text>) -> Mem<()>
+    ensures { OnOk result (list.new ≡ list.old ++ field name.now (option_copied text.entry)) }
+{
+    let Some(text) = text else {
+        return Ok(());
+    };
+    let name = Text::from_str(alloc, name)?;
+    let value = text.clone()?;
+    list.push(Pair { name, value })
+}
+
+// The names that stand alone, behind a list.
+fn push_own(alloc: Global, list: &mut List<Pair>, raw: &RawModel, basedir: Option<&Text>) -> Mem<()>
+    ensures { OnOk result (list.new ≡ list.old ++ own_fields raw.now (option_copied basedir.entry)) }
+{
+    push_field(alloc, list, "basedir", basedir)?;
+    push_field(alloc, list, "groupId", raw.group.as_ref())?;
+    push_field(alloc, list, "artifactId", Some(&raw.artifact))?;
+    push_field(alloc, list, "version", raw.version.as_ref())
+}
+
+// A parent's coordinate, behind a list.
+fn push_coordinate(alloc: Global, list: &mut List<Pair>, gav: &Gav) -> Mem<()>
+    ensures { OnOk result (list.new ≡ list.old ++ coordinate_fields gav.now) }
+{
+    push_field(alloc, list, "parent.groupId", Some(&gav.group))?;
+    push_field(alloc, list, "parent.artifactId", Some(&gav.artifact))?;
+    push_field(alloc, list, "parent.version", Some(&gav.version))
+}
+
+// The parent's coordinate, where there is one.
+fn push_parent(alloc: Global, list: &mut List<Pair>, parent: &Option<Parent>) -> Mem<()>
+    ensures { OnOk result (list.new ≡ list.old ++ parent_fields parent.now) }
+{
+    match parent {
+        Some(parent) => push_coordinate(alloc, list, &parent.gav),
+        None => Ok(()),
+    }
+}
+
+// The folders and the name of a build, behind a list.
+fn push_build(alloc: Global, list: &mut List<Pair>, build: &Build) -> Mem<()>
+    ensures { OnOk result (list.new ≡ list.old ++ build_fields build.now) }
+{
+    push_field(alloc, list, "build.directory", build.directory.as_ref())?;
+    push_field(alloc, list, "build.outputDirectory", build.output.as_ref())?;
+    push_field(
+        alloc,
+        list,
+        "build.testOutputDirectory",
+        build.test_output.as_ref(),
+    )?;
+    push_field(alloc, list, "build.finalName", build.final_name.as_ref())?;
+    push_field(alloc, list, "build.sourceDirectory", build.source.as_ref())?;
+    push_field(
+        alloc,
+        list,
+        "build.testSourceDirectory",
+        build.test_source.as_ref(),
+    )
+}
+
+// The fields of a model.
+fn fields(alloc: Global, raw: &RawModel, basedir: Option<&Text>) -> Mem<List<Pair>>
+    ensures { IfOk result (λ list. list ≡ fields raw.now (option_copied basedir.entry)) }
+{
+    let mut list = List::new(alloc);
+    push_own(alloc, &mut list, raw, basedir)?;
+    push_field(alloc, &mut list, "packaging", Some(&raw.packaging))?;
+    push_parent(alloc, &mut list, &raw.parent)?;
+    push_build(alloc, &mut list, &raw.build)?;
+    Ok(list)
+}
+
+// A name behind a front.
+fn behind(alloc: Global, front: &str, pair: &Pair) -> Mem<Pair>
+    ensures { IfOk result (λ p. p ≡ record { name = front.now ++ pair.now.name; value = pair.now.value }) }
+{
+    let mut name = String::from_str(alloc, front)?;
+    name.push_str(pair.name.as_str())?;
+    let value = pair.value.clone()?;
+    Ok(Pair {
+        name: Text::of(name),
+        value,
+    })
+}
+
+// Names behind a front, behind a list.
+fn push_behind(alloc: Global, list: &mut List<Pair>, front: &str, pairs: &[Pair]) -> Mem<()>
+    ensures { OnOk result (list.new ≡ list.old ++ behind front.now pairs.now) }
+{
+    for pair in pairs {
+        list.push(behind(alloc, front, pair)?)?;
+    }
+    Ok(())
+}
+
+// Names as they are, behind a list.
+fn push_all(list: &mut List<Pair>, pairs: &[Pair]) -> Mem<()>
+    ensures { OnOk result (list.new ≡ list.old ++ pairs.now) }
+{
+    for pair in pairs {
+        let name = pair.name.clone()?;
+        let value = pair.value.clone()?;
+        list.push(Pair { name, value })?;
+    }
+    Ok(())
+}
+
+/// All that can be named in a model, from what counts least on. Costs all of it.
+#[tactic(auto, unfolding(crate::specs::Named::named))]
+pub(crate) fn named(
+    alloc: Global,
+    raw: &RawModel,
+    basedir: Option<&Text>,
+    machine: &Machine,
+    defines: &[Pair],
+) -> Mem<List<Pair>>
+    ensures { IfOk result (λ list. list ≡ named raw.now (option_copied basedir.entry) machine.now defines.now) }
+{
+    let fields = fields(alloc, raw, basedir)?;
+    let mut list = List::new(alloc);
+    push_own(alloc, &mut list, raw, basedir)?;
+    push_all(&mut list, machine.system.as_slice())?;
+    push_behind(alloc, &mut list, "env.", machine.env.as_slice())?;
+    push_all(&mut list, raw.properties.as_slice())?;
+    push_all(&mut list, defines)?;
+    push_behind(alloc, &mut list, "pom.", fields.as_slice())?;
+    push_behind(alloc, &mut list, "project.", fields.as_slice())?;
+    Ok(list)
+}

@@ -1,0 +1,3 @@
+mod Gathering
+mod Prefixes
+mod Joins

@@ -1,0 +1,61 @@
+-- A POM with the contents of its active profiles. POM Reference, "Profiles"; that a later profile counts over an earlier one, and the
+-- order, are own rules.
+use Rattle.std.specs.Prelude.{ℕ, List, ◌++◌, flat_map, filter_map, slice_get}
+use Rattle.mvn_base.specs.declared.key.Key.{Key}
+use Rattle.model_types.specs.declared.build.Build.{Build}
+use Rattle.model_types.specs.declared.model.RawModel.{RawModel}
+use Rattle.model_types.specs.declared.plugin.Plugin.{Plugin}
+use Rattle.model_types.specs.declared.profile.Profile.{Profile}
+use Rattle.model_merge.specs.Keyed.{absorbed, settled}
+use Rattle.model_merge.specs.Merging.{key_of_dependency, key_of_pair, key_of_plugin, merged_plugin}
+
+-- the profiles at some places
+abbrev pub profiles_at : List Profile → List ℕ → List Profile
+profiles_at profiles places = filter_map (slice_get profiles) places
+
+-- the POM's items, and then those of each profile: of equal keys the last one, at the place of the first
+abbrev pub with_items : {T : Type 0} → (T → Key) → List T → (Profile → List T) → List Profile → List T
+with_items key own items profiles = settled key (own ++ flat_map items profiles)
+
+-- a profile's plugins, of equal names the last one
+abbrev pub settled_plugins : (Profile → List Plugin) → Profile → List Plugin
+settled_plugins plugins p = settled key_of_plugin (plugins p)
+
+-- the POM's plugins, and then those of each profile, merged as children with the ones of their names
+abbrev pub with_plugins : List Plugin → (Profile → List Plugin) → List Profile → List Plugin
+with_plugins own plugins profiles = absorbed key_of_plugin merged_plugin own (flat_map (settled_plugins plugins) profiles)
+
+unfoldable pub inject_build : Build → List Profile → Build
+inject_build own profiles = record {
+  directory = own.directory;
+  output = own.output;
+  test_output = own.test_output;
+  final_name = own.final_name;
+  source = own.source;
+  test_source = own.test_source;
+  resources = own.resources;
+  test_resources = own.test_resources;
+  plugins = with_plugins own.plugins (λ p. p.plugins) profiles;
+  managed_plugins = with_plugins own.managed_plugins (λ p. p.managed_plugins) profiles;
+  extensions = own.extensions;
+}
+
+abbrev pub inject_profiles : RawModel → List Profile → RawModel
+inject_profiles raw profiles = record {
+  pom = raw.pom;
+  parent = raw.parent;
+  group = raw.group;
+  artifact = raw.artifact;
+  version = raw.version;
+  packaging = raw.packaging;
+  modules = raw.modules ++ flat_map (λ (p : Profile). p.modules) profiles;
+  properties = with_items key_of_pair raw.properties (λ p. p.properties) profiles;
+  managed = with_items key_of_dependency raw.managed (λ p. p.managed) profiles;
+  dependencies = with_items key_of_dependency raw.dependencies (λ p. p.dependencies) profiles;
+  build = inject_build raw.build profiles;
+  profiles = raw.profiles;
+}
+
+-- a POM with its profiles at some places
+unfoldable pub inject : RawModel → List ℕ → RawModel
+inject raw places = inject_profiles raw (profiles_at raw.profiles places)

@@ -1,13 +1,11 @@
 -- Lists of rows.
-use Rattle.std.proofs.Common.{◌≡◌, ℕ, zero, suc, ◌+◌, ◌<◌, ◌≤◌, Bool, true, false, not, ◌&&◌, nat_eq, All, List, [], ◌∷◌, ◌++◌, length, map, replicate, get_or, set, unwrap_or, slice_get, slice_set, Option, Some, None, refl, arith, sym, ap, subst, ◌∙◌}
-use Rattle.std.specs.Option.{option_and_then}
-use Rattle.std.proofs.lemmas.List.{length-replicate, map-set, append_assoc}
-use Rattle.std.proofs.lemmas.List.Elements.{All-replicate}
-use Rattle.std.proofs.lemmas.Option.{slice_get_within}
+use Rattle.std.proofs.Common.{◌≡◌, ℕ, zero, suc, ◌+◌, ◌<◌, Bool, true, false, ◌-◌, find, List, [], ◌∷◌, length, map, replicate, get_or, unwrap_or, slice_get, slice_set, Option, Some, None, refl, arith, sym, ap, subst, ◌∙◌}
+use Rattle.std.proofs.lemmas.List.{length-replicate, map-set}
+use Rattle.std.proofs.lemmas.List.Folds.{find-append}
 use Rattle.name_locks.specs.declared.mode.Mode.{Mode}
 use Rattle.name_locks.specs.declared.table.Tried.{Tried}
 use Rattle.name_locks.specs.declared.table.Tried.TheVariants.{Taken, Busy}
-use Rattle.name_locks.specs.Locks.{Holds, blocks_in, excludes, hold_in}
+use Rattle.name_locks.specs.Locks.{below}
 
 abbrev pub row_in : List (List (Option Mode)) → ℕ → List (Option Mode)
 row_in rows name = unwrap_or (slice_get rows name) []
@@ -19,16 +17,24 @@ busy_of (Busy h) = h
 pub same_busy : {a b : ℕ} → Busy a ≡ Busy b → a ≡ b
 same_busy e = ap busy_of e
 
-and_false : (b : Bool) → (b && false) ≡ false
-and_false true = refl
-and_false false = refl
+module _ (p : ℕ → Bool) where
+  one_more : (n : ℕ) → find p (below n) ≡ None → p n ≡ false → find p (below (suc n)) ≡ None
+  one_more n none no_more = find-append p (below n) (n ∷ []) ∙ rw none (rw no_more refl)
 
-pub free_all : (row : List (Option Mode)) (workers worker : ℕ) (mode : Mode) → length row ≡ workers → ((k : ℕ) → k < workers → blocks_in row worker mode k ≡ false) → (k : ℕ) → blocks_in row worker mode k ≡ false
-free_all row workers worker mode wide free k = by (slice_get row k) refl
-  where
-    by : (o : Option (Option Mode)) → slice_get row k ≡ o → blocks_in row worker mode k ≡ false
-    by (Some held) e = free k (omega (arith, slice_get_within row k held e, wide))
-    by None e = ap (λ o. not (nat_eq k worker) && excludes (option_and_then (λ m. m) o) mode) e ∙ and_false (not (nat_eq k worker))
+  pub not_yet : (n : ℕ) → find p (below n) ≡ None → p n ≡ false → find p (below (n + 1)) ≡ None
+  not_yet n none no_more = let e : suc n ≡ n + 1 = omega arith in subst (λ k. find p (below k) ≡ None) e (one_more n none no_more)
+
+  here : (n : ℕ) → find p (below n) ≡ None → p n ≡ true → find p (below (suc n)) ≡ Some n
+  here n none met = find-append p (below n) (n ∷ []) ∙ rw none (rw met refl)
+
+  beyond : (n d m : ℕ) → find p (below n) ≡ None → p n ≡ true → m ≡ suc n + d → find p (below m) ≡ Some n
+  beyond n zero m none met e = let same : suc n ≡ m = omega (arith, e) in subst (λ k. find p (below k) ≡ Some n) same (here n none met)
+  beyond n (suc d) m none met e =
+      let same : suc (suc n + d) ≡ m = omega (arith, e) in
+      subst (λ k. find p (below k) ≡ Some n) same (find-append p (below (suc n + d)) ((suc n + d) ∷ []) ∙ rw (beyond n d (suc n + d) none met refl) refl)
+
+  pub found_at : (n m : ℕ) → find p (below n) ≡ None → p n ≡ true → n < m → find p (below m) ≡ Some n
+  found_at n m none met low = beyond n (m - suc n) m none met (omega (arith, low))
 
 module _ {X : Type 0} (f : X → List (Option Mode)) where
   length_map : (held : List X) → length (map f held) ≡ length held
@@ -54,16 +60,6 @@ free_row : (n workers name : ℕ) → name < n → row_in (replicate n (replicat
 free_row zero workers name low = absurd (omega (arith, low))
 free_row (suc n) workers zero low = refl
 free_row (suc n) workers (suc name) low = free_row n workers name (omega (arith, low))
-
-free_hold : (workers worker : ℕ) → hold_in (replicate workers None) worker ≡ None
-free_hold zero worker = refl
-free_hold (suc workers) zero = refl
-free_hold (suc workers) (suc worker) = free_hold workers worker
-
-pub all_free : (n workers name worker : ℕ) → hold_in (row_in (replicate n (replicate workers None)) name) worker ≡ None
-all_free zero workers name worker = refl
-all_free (suc n) workers zero worker = free_hold workers worker
-all_free (suc n) workers (suc name) worker = all_free n workers name worker
 
 pub rows_many : {X : Type 0} (f : X → List (Option Mode)) (held : List X) (n workers : ℕ) → map f held ≡ replicate n (replicate workers None) → length held ≡ n
 rows_many f held n workers are = sym (length_map f held) ∙ ap length are ∙ length-replicate n (replicate workers None)

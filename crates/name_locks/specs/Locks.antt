@@ -1,5 +1,5 @@
 -- Who holds a name, and who may take it. Resolver, "Named Locks": many read, or one writes; which holder is named is an own rule.
-use Rattle.std.specs.Prelude.{ℕ, Bool, true, false, not, ◌&&◌, ◌||◌, ◌<◌, nat_eq, List, [], unwrap_or, slice_get, slice_set, Option, None, Some}
+use Rattle.std.specs.Prelude.{ℕ, zero, suc, Bool, true, false, not, ◌&&◌, ◌||◌, ◌<◌, nat_eq, List, [], ◌∷◌, ◌++◌, find, replicate, unwrap_or, slice_get, slice_set, Option, None, Some}
 use Rattle.std.specs.Option.{option_and_then}
 use Rattle.name_locks.specs.declared.mode.Mode.{Mode}
 use Rattle.name_locks.specs.declared.mode.Mode.TheVariants.{Shared, Exclusive}
@@ -40,6 +40,22 @@ blocks_in row worker wanted other = not (nat_eq other worker) && excludes (hold_
 
 abbrev pub blocks : Holds → ℕ → ℕ → Mode → ℕ → Bool
 blocks table name worker wanted other = blocks_in (row_of table name) worker wanted other
+
+-- the numbers below one, ascending
+abbrev pub below : ℕ → List ℕ
+below zero = []
+below (suc n) = below n ++ n ∷ []
+
+-- the least worker that keeps another from taking a name
+abbrev pub blocker_in : List (Option Mode) → ℕ → ℕ → Mode → Option ℕ
+blocker_in row workers worker wanted = find (blocks_in row worker wanted) (below workers)
+
+abbrev pub blocker : Holds → ℕ → ℕ → Mode → Option ℕ
+blocker table name worker wanted = blocker_in (row_of table name) (workers_of table) worker wanted
+
+-- no name is held
+abbrev pub none_held : ℕ → ℕ → Holds
+none_held names workers = (names, workers, replicate names (replicate workers None))
 
 -- a table with one hold more, or less
 abbrev pub with_hold : Holds → ℕ → ℕ → Option Mode → Holds

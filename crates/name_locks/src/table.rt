@@ -1,5 +1,5 @@
-ghost use Rattle.std.specs.Prelude.{◌≡◌, ℕ, ◌<◌, ◌≤◌, ◌^◌, Bool, length, true, false, Option, Some, None, IfOk, is_some, replicate};
-ghost use Rattle.name_locks.specs.Locks.{IsSeat, blocks, blocks_in, excludes, hold, names_of, with_hold, workers_of};
+ghost use Rattle.std.specs.Prelude.{◌≡◌, ℕ, ◌<◌, length, true, Some, None, IfOk, is_some, replicate};
+ghost use Rattle.name_locks.specs.Locks.{IsSeat, blocker, blocker_in, blocks_in, excludes, hold, names_of, none_held, with_hold, workers_of};
 ghost use Rattle.name_locks.specs.declared.table.Tried.TheVariants.{Taken, Busy};
 
 use crate::Mode;
@@ -54,10 +54,9 @@ fn blocks_at(row: &[Option<Mode>], worker: u32, mode: Mode, other: u32) -> bool
 }
 
 // The least worker of so many that keeps another from a name.
-fn blocker(row: &[Option<Mode>], workers: u32, worker: u32, mode: Mode) -> Option<u32>
+fn least(row: &[Option<Mode>], workers: u32, worker: u32, mode: Mode) -> Option<u32>
     requires { length row.now ≡ workers }
-    ensures some { (h : ℕ) → result ≡ Some h → (blocks_in row.now worker mode h ≡ true) × ((k : ℕ) → k < h → blocks_in row.now worker mode k ≡ false) }
-    ensures none { result ≡ None → (k : ℕ) → k < workers → blocks_in row.now worker mode k ≡ false }
+    ensures { result ≡ blocker_in row.now workers worker mode }
 {
     for other in 0..workers {
         if blocks_at(row, worker, mode, other) {
@@ -78,8 +77,7 @@ fn free_row(alloc: Global, workers: u32) -> Result<Vec<Option<Mode>>, AllocError
 impl LockTable {
     /// No name is held. Costs the number of names times that of workers.
     pub fn new(alloc: Global, names: u32, workers: u32) -> Result<LockTable, AllocError>
-        ensures size { IfOk result (λ table. (names_of table ≡ names) × (workers_of table ≡ workers)) }
-        ensures free { IfOk result (λ table. (name worker : ℕ) → hold table name worker ≡ None) }
+        ensures { IfOk result (λ table. table ≡ none_held names workers) }
     {
         let mut held = Vec::with_capacity(alloc, names as usize)?;
         for _count in 0..names {
@@ -124,20 +122,29 @@ impl LockTable {
         self.held[name as usize][worker as usize] = mode;
     }
 
+    /// The least worker whose hold keeps another from taking a name so. Costs the number of workers; takes no memory. Resolver,
+    /// "Named Locks"; own, which of them is named.
+    pub fn blocker(&self, name: u32, worker: u32, mode: Mode) -> Option<u32>
+        requires { IsSeat self.now name worker }
+        ensures { result ≡ blocker self.now name worker mode }
+    {
+        least(
+            self.held[name as usize].as_slice(),
+            self.workers,
+            worker,
+            mode,
+        )
+    }
+
     /// Takes a name, where no other worker's hold keeps it from this one; else the answer is the least such worker, and the table stays
     /// as it was. Costs the number of workers; takes no memory. Resolver, "Named Locks".
     pub fn take(&mut self, name: u32, worker: u32, mode: Mode) -> Tried
         requires seat { IsSeat self.old name worker }
         requires free { hold self.old name worker ≡ None }
-        ensures taken { result ≡ Taken → (self.new ≡ with_hold self.old name worker (Some mode)) × ((other : ℕ) → blocks self.old name worker mode other ≡ false) }
-        ensures busy { (h : ℕ) → result ≡ Busy h → (self.new ≡ self.old) × (blocks self.old name worker mode h ≡ true) × ((other : ℕ) → other < h → blocks self.old name worker mode other ≡ false) }
+        ensures taken { result ≡ Taken → (blocker self.old name worker mode ≡ None) × (self.new ≡ with_hold self.old name worker (Some mode)) }
+        ensures busy { (h : ℕ) → result ≡ Busy h → (blocker self.old name worker mode ≡ Some h) × (self.new ≡ self.old) }
     {
-        match blocker(
-            self.held[name as usize].as_slice(),
-            self.workers,
-            worker,
-            mode,
-        ) {
+        match self.blocker(name, worker, mode) {
             Some(other) => Tried::Busy(other),
             None => {
                 self.set(name, worker, Some(mode));

@@ -1,0 +1,9 @@
+mod Climbs
+mod Dues
+mod Firsts
+mod Fits
+mod Holding
+mod Law
+mod Places
+mod Readings
+mod Weights

@@ -1,0 +1,21 @@
+use Rattle.std.proofs.Common.{[], length, map, replicate, ap, ◌∙◌}
+use Rattle.name_locks.specs.Locks.{none_held}
+use Rattle.event_core.specs.declared.progress.Progress.TheVariants.{Waiting}
+use Rattle.event_core.specs.declared.way.Way.TheVariants.{Idle}
+use Rattle.event_core.specs.Standing.{idle}
+use Rattle.event_core.specs.Spots.{course_at}
+use Rattle.event_core.proofs.Climbs.{map_replicate}
+use Rattle.event_core.proofs.stand.Stand.new.Goals as goal
+
+pub returns-clause-at : goal.returns-clause-at
+returns-clause-at c =
+    let o = c.args.outline.now in
+    let progress = c.in_ok-progress.ensures.items_if_clones_equal (λ y e. e) ∙ ap (λ n. replicate n Waiting) c.len.ensures in
+    let courses = ap (map (course_at o)) (c.in_ok-ways.ensures.items_if_clones_equal (λ y e. e)) ∙ map_replicate (course_at o) o.workers Idle in
+    let there = c.in_ok-there.ensures.items ∙ c.as_slice.ensures in
+    let held = map (λ names. names.items) c.in_ok-held.held.items in
+    ap (λ p. record { progress = p; courses = map (course_at o) c.in_ok-ways.ways.items; held = held; locks = c.in_ok-locks.locks; there = c.in_ok-there.there.items }) progress
+    ∙ ap (λ p. record { progress = replicate (length o.modules) Waiting; courses = p; held = held; locks = c.in_ok-locks.locks; there = c.in_ok-there.there.items }) courses
+    ∙ ap (λ p. record { progress = replicate (length o.modules) Waiting; courses = replicate o.workers idle; held = p; locks = c.in_ok-locks.locks; there = c.in_ok-there.there.items }) c.in_ok-held.ensures.items
+    ∙ ap (λ p. record { progress = replicate (length o.modules) Waiting; courses = replicate o.workers idle; held = replicate o.workers []; locks = p; there = c.in_ok-there.there.items }) c.in_ok-locks.ensures
+    ∙ ap (λ p. record { progress = replicate (length o.modules) Waiting; courses = replicate o.workers idle; held = replicate o.workers []; locks = none_held o.names o.workers; there = p }) there

@@ -1,0 +1,19 @@
+use Rattle.std.proofs.Common.{None, slice_set, ap, ◌∙◌}
+use Rattle.event_core.specs.declared.progress.Progress.TheVariants.{Running}
+use Rattle.event_core.specs.Scripts.{settled}
+use Rattle.event_core.specs.Standing.{on_course, start_of, turned_to}
+use Rattle.event_core.specs.Spots.{course_at}
+use Rattle.event_core.specs.Stands.{now_in}
+use Rattle.event_core.proofs.stand.Stand.start.Goals as goal
+
+pub returns-clause-at : goal.returns-clause-at
+returns-clause-at c =
+    let o = c.args.outline.now in
+    let now = now_in o c.args.self.now in
+    let begun =
+    c.begun-way.ensures
+    ∙ ap (λ there. on_course c.args.number (settled there c.holds_none-empty.result (start_of o c.args.number)) None) c.as_slice.ensures.value
+    ∙ ap (λ empty. on_course c.args.number (settled now.there empty (start_of o c.args.number)) None) (c.holds_none-empty.ensures o) in
+    c.turn.ensures.at o
+    ∙ ap (λ progress. turned_to (record now { progress = progress }) c.args.worker (course_at o c.begun-way.result)) c.set_progress.ensures
+    ∙ ap (turned_to (record now { progress = slice_set now.progress c.args.number (Running c.args.worker) }) c.args.worker) begun

@@ -1,0 +1,18 @@
+-- What holds of where a build stands, after any events that were allowed.
+use Rattle.std.specs.Prelude.{◌≡◌, ℕ, ◌<◌, true, nat_lt, All, length, is_some}
+use Rattle.std.specs.List.{list_all}
+use Rattle.name_locks.specs.Locks.{hold, names_of, workers_of}
+use Rattle.event_core.specs.declared.outline.Outline.{Outline}
+use Rattle.event_core.specs.Climbing.{Climbs}
+use Rattle.event_core.specs.Outlines.{is_listed}
+use Rattle.event_core.specs.Standing.{Now, held_by}
+
+pub record IsFit (o : Outline) (now : Now) : Type 0 where
+  pub names : names_of now.locks ≡ o.names
+  pub workers : workers_of now.locks ≡ o.workers
+  pub rows : length now.held ≡ o.workers
+  pub ways : length now.courses ≡ o.workers
+  pub modules : length now.progress ≡ length o.modules
+  pub climbing : All (Climbs 0) now.held
+  pub low : All (λ held. list_all (λ h. nat_lt h o.names) held ≡ true) now.held
+  pub listed : (w n : ℕ) → w < o.workers → is_some (hold now.locks n w) ≡ true → is_listed n (held_by now w) ≡ true

@@ -1,0 +1,11 @@
+pub use Rattle.name_locks.specs.Locks
+pub mod Bounds
+pub mod Causes
+pub mod Climbing
+pub mod Enabled
+pub mod Fitting
+pub mod Outlines
+pub mod Scripts
+pub mod Spots
+pub mod Standing
+pub mod Stands

@@ -1,0 +1,315 @@
+// Why an event may not come: the first cause, in its order.
+ghost use Rattle.std.specs.Prelude.{◌≡◌, ◌&&◌, None};
+ghost use Rattle.name_locks.specs.Locks.{names_of, workers_of};
+ghost use Rattle.event_core.specs.declared.outline.Outline.{Outline};
+ghost use Rattle.event_core.specs.declared.refused.NotEnabled.TheVariants.{Unordered, Upstream, Worker};
+ghost use Rattle.event_core.specs.Standing.{Course, course_of, first_not_built, held_by, is_empty, module_of};
+ghost use Rattle.event_core.specs.Enabled.{ending_in_range, is_due, may_end_so};
+ghost use Rattle.event_core.specs.Causes.{answer_cause, begin_cause, by_file, cause_now, end_cause, file_cause, free_cause, free_end, hold_cause, not_below, number_of, skip_cause, stage_at, start_cause, take_cause, unless, where_found, wrong_end};
+ghost use Rattle.event_core.specs.Spots.{course_at};
+ghost use Rattle.event_core.specs.Stands.{now_in};
+
+use crate::deed::Deed;
+use crate::outline::Outline;
+use crate::progress::Progress;
+use crate::refused::NotEnabled;
+use crate::stand::{Stand, first_lost, first_unbuilt, is_waiting, progress_at, state_of};
+use crate::way::Way;
+use build_core::{Ending, Event};
+use name_locks::Mode;
+
+// The greatest name that is held, where it isn't below this one.
+fn not_below(held: &[u32], name: u32) -> Option<u32>
+    ensures { result ≡ not_below name held.now }
+{
+    match held.last() {
+        Some(greatest) if *greatest < name => None,
+        Some(greatest) => Some(*greatest),
+        None => None,
+    }
+}
+
+fn by_file(due: Option<u32>, stage: u32) -> NotEnabled
+    ensures { (course : Course) → stage ≡ stage_at course → result ≡ by_file due course }
+{
+    match due {
+        Some(file) => NotEnabled::File(file),
+        None => NotEnabled::Stage(stage),
+    }
+}
+
+// The number of an ending.
+fn number_of(ending: Ending) -> u32
+    ensures { result ≡ number_of ending }
+{
+    match ending {
+        Ending::Goal(goal) => goal,
+        Ending::OutputTooLarge(goal) => goal,
+        Ending::Missing(file) => file,
+        _ => 0,
+    }
+}
+
+// Why a worker that holds no name may not end so.
+fn free_end(outline: &Outline, way: Way, ending: Ending) -> NotEnabled
+    ensures { result ≡ free_end (course_at outline.now way) ending }
+{
+    match ending {
+        Ending::Missing(_) => by_file(way.missing(outline), way.stage(outline)),
+        _ => NotEnabled::Stage(way.stage(outline)),
+    }
+}
+
+impl Stand {
+    pub(crate) fn start_cause(
+        &self,
+        outline: &Outline,
+        worker: u32,
+        number: u32,
+    ) -> Option<NotEnabled>
+        ensures { result ≡ start_cause outline.now (now_in outline.now self.now) worker number }
+    {
+        if worker >= outline.workers {
+            return Some(NotEnabled::Range(worker));
+        }
+        if number as usize >= outline.modules.len() {
+            return Some(NotEnabled::Range(number));
+        }
+        if !is_waiting(progress_at(self.progress.as_slice(), number)) {
+            return Some(NotEnabled::Module(state_of(outline, self.progress.as_slice(), number)));
+        }
+        self.begin_cause(outline, worker, number)
+    }
+
+    fn begin_cause(&self, outline: &Outline, worker: u32, number: u32) -> Option<NotEnabled>
+        ensures { result ≡ begin_cause outline.now (now_in outline.now self.now) worker number }
+    {
+        match self.upstream_cause(outline, number) {
+            Some(cause) => Some(cause),
+            None => self.busy_cause(worker),
+        }
+    }
+
+    fn upstream_cause(&self, outline: &Outline, number: u32) -> Option<NotEnabled>
+        ensures { result ≡ where_found (first_not_built outline.now (now_in outline.now self.now).progress number) (λ u. Upstream u) None }
+    {
+        match first_unbuilt(outline, self.progress.as_slice(), number) {
+            Some(upstream) => Some(NotEnabled::Upstream(upstream)),
+            None => None,
+        }
+    }
+
+    fn busy_cause(&self, worker: u32) -> Option<NotEnabled>
+        ensures { (outline : Outline) → result ≡ where_found (module_of (course_of (now_in outline self.now) worker)) (λ at. Worker at) None }
+    {
+        match self.way(worker).module() {
+            Some(number) => Some(NotEnabled::Worker(number)),
+            None => None,
+        }
+    }
+
+    pub(crate) fn skip_cause(&self, outline: &Outline, number: u32) -> Option<NotEnabled>
+        ensures { result ≡ skip_cause outline.now (now_in outline.now self.now) number }
+    {
+        if number as usize >= outline.modules.len() {
+            return Some(NotEnabled::Range(number));
+        }
+        let progress = self.progress.as_slice();
+        if is_waiting(progress_at(progress, number))
+            && first_lost(outline, progress, number).is_some()
+        {
+            return None;
+        }
+        Some(NotEnabled::Module(state_of(outline, progress, number)))
+    }
+
+    // Why a deed that no name is taken by may not come: unless it is due, the file that is, or the stage.
+    fn deed_cause(
+        &self,
+        outline: &Outline,
+        worker: u32,
+        deed: Deed,
+        due: Option<u32>,
+    ) -> Option<NotEnabled>
+        ensures { result ≡ unless (is_due (course_of (now_in outline.now self.now) worker) deed) (by_file due (course_of (now_in outline.now self.now) worker)) None }
+    {
+        let way = self.way(worker);
+        if way.is_due(outline, deed) {
+            return None;
+        }
+        Some(by_file(due, way.stage(outline)))
+    }
+
+    fn order_cause(&self, worker: u32, name: u32) -> Option<NotEnabled>
+        ensures { (outline : Outline) → result ≡ where_found (not_below name (held_by (now_in outline self.now) worker)) (λ h. Unordered h) None }
+    {
+        let greatest = match self.held.get(worker as usize) {
+            Some(names) => not_below(names.as_slice(), name),
+            None => None,
+        };
+        match greatest {
+            Some(greatest) => Some(NotEnabled::Unordered(greatest)),
+            None => None,
+        }
+    }
+
+    pub(crate) fn take_cause(
+        &self,
+        outline: &Outline,
+        worker: u32,
+        name: u32,
+        mode: Mode,
+    ) -> Option<NotEnabled>
+        requires seats { (names_of self.now.locks ≡ outline.now.names) × (workers_of self.now.locks ≡ outline.now.workers) }
+        ensures cause { result ≡ take_cause outline.now (now_in outline.now self.now) worker name mode }
+    {
+        if worker >= outline.workers {
+            return Some(NotEnabled::Range(worker));
+        }
+        if name >= outline.names {
+            return Some(NotEnabled::Range(name));
+        }
+        if let Some(holder) = self.locks.blocker(name, worker, mode) {
+            return Some(NotEnabled::Lock(holder));
+        }
+        self.hold_cause(outline, worker, name, mode)
+    }
+
+    fn hold_cause(
+        &self,
+        outline: &Outline,
+        worker: u32,
+        name: u32,
+        mode: Mode,
+    ) -> Option<NotEnabled>
+        ensures { result ≡ hold_cause (now_in outline.now self.now) worker name mode }
+    {
+        match self.order_cause(worker, name) {
+            Some(cause) => Some(cause),
+            None => self.deed_cause(outline, worker, Deed::Take(mode, name), None),
+        }
+    }
+
+    pub(crate) fn free_cause(&self, outline: &Outline, worker: u32, name: u32) -> Option<NotEnabled>
+        ensures { result ≡ free_cause outline.now (now_in outline.now self.now) worker name }
+    {
+        if worker >= outline.workers {
+            return Some(NotEnabled::Range(worker));
+        }
+        if name >= outline.names {
+            return Some(NotEnabled::Range(name));
+        }
+        if self.locks.holds(name, worker).is_some() {
+            return None;
+        }
+        Some(NotEnabled::Stage(self.way(worker).stage(outline)))
+    }
+
+    pub(crate) fn file_cause(
+        &self,
+        outline: &Outline,
+        worker: u32,
+        file: u32,
+        deed: Deed,
+        due: Option<u32>,
+    ) -> Option<NotEnabled>
+        ensures { result ≡ file_cause outline.now (now_in outline.now self.now) worker file deed due }
+    {
+        if worker >= outline.workers {
+            return Some(NotEnabled::Range(worker));
+        }
+        if file as usize >= outline.present.len() {
+            return Some(NotEnabled::Range(file));
+        }
+        self.deed_cause(outline, worker, deed, due)
+    }
+
+    pub(crate) fn answer_cause(
+        &self,
+        outline: &Outline,
+        worker: u32,
+        goal: u32,
+    ) -> Option<NotEnabled>
+        ensures { result ≡ answer_cause outline.now (now_in outline.now self.now) worker goal }
+    {
+        if worker >= outline.workers {
+            return Some(NotEnabled::Range(worker));
+        }
+        if !self.way(worker).has_goal(outline, goal) {
+            return Some(NotEnabled::Range(goal));
+        }
+        self.deed_cause(outline, worker, Deed::Answer(goal), None)
+    }
+
+    fn is_in_range(&self, outline: &Outline, worker: u32, ending: Ending) -> bool
+        ensures { result ≡ ending_in_range outline.now (course_of (now_in outline.now self.now) worker) ending }
+    {
+        match ending {
+            Ending::Goal(goal) => self.way(worker).has_goal(outline, goal),
+            Ending::OutputTooLarge(goal) => self.way(worker).has_goal(outline, goal),
+            Ending::Missing(file) => (file as usize) < outline.present.len(),
+            _ => true,
+        }
+    }
+
+    fn wrong_end(&self, outline: &Outline, worker: u32, ending: Ending) -> NotEnabled
+        ensures { result ≡ wrong_end (course_of (now_in outline.now self.now) worker) (held_by (now_in outline.now self.now) worker) ending }
+    {
+        let way = self.way(worker);
+        if self.holds_none(worker) {
+            free_end(outline, way, ending)
+        } else {
+            NotEnabled::Stage(way.stage(outline))
+        }
+    }
+
+    fn may_end(&self, outline: &Outline, worker: u32, ending: Ending) -> bool
+        ensures { result ≡ (is_empty (held_by (now_in outline.now self.now) worker) && may_end_so outline.now (course_of (now_in outline.now self.now) worker) ending) }
+    {
+        self.holds_none(worker) && self.way(worker).may_end(outline, ending)
+    }
+
+    pub(crate) fn end_cause(
+        &self,
+        outline: &Outline,
+        worker: u32,
+        ending: Ending,
+    ) -> Option<NotEnabled>
+        ensures { result ≡ end_cause outline.now (now_in outline.now self.now) worker ending }
+    {
+        if worker >= outline.workers {
+            return Some(NotEnabled::Range(worker));
+        }
+        if !self.is_in_range(outline, worker, ending) {
+            return Some(NotEnabled::Range(number_of(ending)));
+        }
+        if self.may_end(outline, worker, ending) {
+            return None;
+        }
+        Some(self.wrong_end(outline, worker, ending))
+    }
+
+    /// The first cause for which an event may not come.
+    #[tactic(auto, unfolding(crate::specs::Causes::cause_now))]
+    pub(crate) fn cause(&self, outline: &Outline, event: Event) -> Option<NotEnabled>
+        requires seats { (names_of self.now.locks ≡ outline.now.names) × (workers_of self.now.locks ≡ outline.now.workers) }
+        ensures cause { result ≡ cause_now outline.now (now_in outline.now self.now) event }
+    {
+        match event {
+            Event::Start { worker, module } => self.start_cause(outline, worker, module),
+            Event::Skip { module } => self.skip_cause(outline, module),
+            Event::Take { worker, name, mode } => self.take_cause(outline, worker, name, mode),
+            Event::Free { worker, name } => self.free_cause(outline, worker, name),
+            Event::Read { worker, file } => {
+                let due = self.way(worker).to_read(outline);
+                self.file_cause(outline, worker, file, Deed::Read(file), due)
+            }
+            Event::Publish { worker, file } => {
+                let due = self.way(worker).to_publish(outline);
+                self.file_cause(outline, worker, file, Deed::Publish(file), due)
+            }
+            Event::Answer { worker, goal } => self.answer_cause(outline, worker, goal),
+            Event::End { worker, ending } => self.end_cause(outline, worker, ending),
+        }
+    }
+}

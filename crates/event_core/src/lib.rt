@@ -1,0 +1,21 @@
+//! The event core: which events of a build may come next, why another may not, and where the build stands.
+#![tactic(auto)]
+
+mod causes;
+pub mod deed;
+mod moves;
+pub mod outline;
+pub mod progress;
+pub mod refused;
+mod run;
+pub mod spot;
+mod stand;
+pub mod way;
+
+pub use outline::{ModuleOutline, Outline};
+pub use progress::Progress;
+pub use refused::NotEnabled;
+pub use run::Core;
+
+#[cfg(test)]
+mod tests;

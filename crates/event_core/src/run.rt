@@ -1,0 +1,196 @@
+// A build, event by event.
+ghost use Rattle.std.specs.Prelude.{◌≡◌, ◌<◌, ◌≤◌, vec_capacity, [], ◌∷◌, ◌++◌, Some, find, length, IfErr, IfOk, OnOk};
+ghost use Rattle.std.specs.List.{list_all};
+ghost use Rattle.name_locks.specs.Locks.{below};
+ghost use Rattle.event_core.specs.Bounds.{most_events};
+ghost use Rattle.event_core.specs.Causes.{cause_now};
+ghost use Rattle.event_core.specs.Enabled.{Enabled};
+ghost use Rattle.event_core.specs.Fitting.{IsFit};
+ghost use Rattle.event_core.specs.Outlines.{outline_of};
+ghost use Rattle.event_core.specs.Scripts.{is_there};
+ghost use Rattle.event_core.specs.Standing.{is_complete, is_over, is_ready, is_skippable, now_of, state_of};
+
+use crate::outline::Outline;
+use crate::progress::Progress;
+use crate::refused::NotEnabled;
+use crate::stand::{Stand, first_lost, first_unbuilt, is_over, is_waiting, progress_at, state_of};
+use build_core::{Event, Plan, State};
+use mvn_shared::Mem;
+use std::alloc::Global;
+use std::marker::Model;
+
+/// A build under way: the plan without its bytes, and the events so far. Own.
+#[derive(Drop)]
+pub struct Core {
+    outline: Outline,
+    history: Vec<Event>,
+    stand: Stand,
+}
+
+// Whether each module has ended or was skipped.
+#[tactic(auto, using(crate::proofs::Places::over_more, crate::proofs::Places::over_stop, crate::proofs::Places::over_end))]
+fn all_over(progress: &[Progress]) -> bool
+    ensures { result ≡ list_all is_over progress.now }
+{
+    for at in 0..progress.len() {
+        if !is_over(progress[at]) {
+            return false;
+        }
+    }
+    true
+}
+
+// An event more, where there is room.
+fn note(history: &mut Vec<Event>, event: Event)
+    requires { length history.old.items < vec_capacity history.old }
+    ensures items { history.new.items ≡ history.old.items ++ event ∷ [] }
+    ensures capacity { vec_capacity history.old ≤ vec_capacity history.new }
+{
+    let _pushed = history.push(event);
+}
+
+impl Model for Core {
+    ghost use Rattle.std.specs.Prelude.{List, vec_capacity};
+    ghost use Rattle.build_core.specs.declared.event.Event.{Event};
+    ghost use Rattle.event_core.specs.declared.outline.Outline.{Outline};
+    ghost use Rattle.event_core.specs.Stands.{IsCore};
+
+    ghost Value = { Outline × List Event };
+
+    ghost view = { λ core. (core.outline, core.history.items) };
+
+    ghost invariant = { λ core. IsCore core.outline core.history.items core.stand (vec_capacity core.history) };
+}
+
+impl Core {
+    /// No event has come. Reserves for the plan's greatest number of events; costs the plan's lists, and its names times its workers.
+    pub fn new(alloc: Global, plan: &Plan) -> Mem<Core>
+        requires { most_events (outline_of plan.now) ≤ plan.now.events }
+        ensures { IfOk result (λ core. core ≡ (outline_of plan.now, [])) }
+    {
+        let outline = Outline::of(alloc, plan)?;
+        let history = Vec::with_capacity(alloc, outline.events as usize)?;
+        let stand = Stand::new(alloc, &outline)?;
+        Ok(Core {
+            outline,
+            history,
+            stand,
+        })
+    }
+
+    // Adds an event that may come.
+    fn push(&mut self, event: Event)
+        requires { Enabled self.old.0 self.old.1 event }
+        ensures { self.new ≡ (self.old.0, self.old.1 ++ event ∷ []) }
+    {
+        self.stand.go(&self.outline, event);
+        note(&mut self.history, event);
+    }
+
+    // The first cause for which an event may not come.
+    fn cause(&self, event: Event) -> Option<NotEnabled>
+        ensures first { result ≡ cause_now self.now.0 (now_of self.now.0 self.now.1) event }
+        ensures fit { IsFit self.now.0 (now_of self.now.0 self.now.1) }
+    {
+        self.stand.cause(&self.outline, event)
+    }
+
+    /// An event more, where it may come; else the first cause for which it may not, and nothing is changed. Takes no memory. Own.
+    pub fn step(&mut self, event: Event) -> Result<(), NotEnabled>
+        ensures ok { OnOk result (Enabled self.old.0 self.old.1 event × (self.new ≡ (self.old.0, self.old.1 ++ event ∷ []))) }
+        ensures err { IfErr result (λ why. (cause_now self.old.0 (now_of self.old.0 self.old.1) event ≡ Some why) × (self.new ≡ self.old)) }
+    {
+        match self.cause(event) {
+            Some(cause) => Err(cause),
+            None => {
+                self.push(event);
+                Ok(())
+            }
+        }
+    }
+
+    /// The events so far. Constant time.
+    pub fn events(&self) -> &[Event]
+        ensures { result.now ≡ self.now.1 }
+    {
+        self.history.as_slice()
+    }
+
+    // Whether a module may begin.
+    fn is_ready(&self, number: u32) -> bool
+        ensures { result ≡ is_ready self.now.0 (now_of self.now.0 self.now.1).progress number }
+    {
+        let progress = self.stand.progress.as_slice();
+        is_waiting(progress_at(progress, number))
+            && first_unbuilt(&self.outline, progress, number).is_none()
+    }
+
+    // Whether a module is to be skipped.
+    fn is_skippable(&self, number: u32) -> bool
+        ensures { result ≡ is_skippable self.now.0 (now_of self.now.0 self.now.1).progress number }
+    {
+        let progress = self.stand.progress.as_slice();
+        is_waiting(progress_at(progress, number))
+            && first_lost(&self.outline, progress, number).is_some()
+    }
+
+    // How many modules there are.
+    fn count(&self) -> u32
+        ensures { result ≡ length self.now.0.modules }
+    {
+        self.outline.modules.len() as u32
+    }
+
+    /// The first waiting module whose upstreams are all built. Takes no memory; costs the plan's edges.
+    pub fn ready(&self) -> Option<u32>
+        ensures { result ≡ find (is_ready self.now.0 (now_of self.now.0 self.now.1).progress) (below (length self.now.0.modules)) }
+    {
+        for number in 0..self.count() {
+            if self.is_ready(number) {
+                return Some(number);
+            }
+        }
+        None
+    }
+
+    /// The first waiting module of which an upstream was skipped, or ended otherwise than built. Takes no memory; costs the plan's
+    /// edges.
+    pub fn skippable(&self) -> Option<u32>
+        ensures { result ≡ find (is_skippable self.now.0 (now_of self.now.0 self.now.1).progress) (below (length self.now.0.modules)) }
+    {
+        for number in 0..self.count() {
+            if self.is_skippable(number) {
+                return Some(number);
+            }
+        }
+        None
+    }
+
+    /// How a module stands. Costs its upstreams where it is skipped, and else constant time.
+    pub fn state(&self, number: u32) -> State
+        ensures { result ≡ state_of self.now.0 (now_of self.now.0 self.now.1).progress number }
+    {
+        state_of(&self.outline, self.stand.progress.as_slice(), number)
+    }
+
+    /// Whether a file is there by now. Constant time.
+    pub fn has(&self, file: u32) -> bool
+        ensures { result ≡ is_there (now_of self.now.0 self.now.1).there file }
+    {
+        self.stand
+            .there
+            .get(file as usize)
+            .copied()
+            .unwrap_or(false)
+    }
+
+    /// Whether each module has ended or was skipped.
+    pub fn is_complete(&self) -> bool
+        ensures { result ≡ is_complete (now_of self.now.0 self.now.1) }
+    {
+        self.stand
+            .progress
+            .iter()
+            .all(|progress| is_over(*progress))
+    }
+}

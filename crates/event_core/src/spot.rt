@@ -1,0 +1,575 @@
+// Where a worker is in the script of its module. A script's place has several names where a list ends: the last of one stage is the
+// first of the next.
+ghost use Rattle.std.specs.Prelude.{◌≡◌, ◌<◌, ◌+◌, ℕ, Bool, true, false, List, length, drop, get_or, nat_eq, Option, Some, None, option_map, option_and_then};
+ghost use Rattle.std.specs.List.{list_all};
+ghost use Rattle.std.specs.Option.{option_map_or};
+ghost use Rattle.event_core.specs.declared.deed.Deed.TheVariants.{Take, Free, Read, Publish, Answer};
+ghost use Rattle.event_core.specs.declared.spot.Spot.TheVariants.{Sharing, Unsharing, Locking, Fetching, Reading, Releasing, Answering, Securing, Installing};
+ghost use Rattle.event_core.specs.Scripts.{Script, answers_left, done, fetches, head, is_gathered, is_there, is_to_install, may_end, may_publish, published_by, read_by, settled, stage_of, steps, wanted};
+ghost use Rattle.event_core.specs.Spots.{IsPlaced, is_to_install_at, is_unanswered_at, may_end_at, published_at, read_at, rest_of, stage_at, wanted_at};
+
+use crate::deed::Deed;
+use crate::outline::ModuleOutline;
+use name_locks::Mode;
+
+/// A place in a script. Numbers are places in the module's lists.
+#[derive(Clone, Copy)]
+pub enum Spot {
+    /// The batch is taken shared, from this name on.
+    Sharing(usize),
+    /// A file is absent: the batch is freed.
+    Unsharing,
+    /// The batch is taken exclusively, from this name on.
+    Locking(usize),
+    /// Absent files are fetched, from this one on.
+    Fetching(usize),
+    /// Files are read, from this one on.
+    Reading(usize),
+    /// The batch is freed.
+    Releasing,
+    /// Goals are answered, from this one on.
+    Answering(usize),
+    /// All is done but the installing.
+    Securing,
+    /// It is installed, from this file on.
+    Installing(usize),
+    Whole,
+}
+
+// What is left where all goals are answered.
+#[tactic(auto, unfolding(crate::specs::Spots::rest_of))]
+fn securing(plan: &ModuleOutline) -> Spot
+    ensures here { rest_of plan.now result ≡ rest_of plan.now Securing }
+    ensures placed { IsPlaced plan.now result }
+{
+    if plan.installs {
+        Spot::Securing
+    } else {
+        Spot::Whole
+    }
+}
+
+#[tactic(auto, using(crate::proofs::Places::answering_end), unfolding(crate::specs::Spots::rest_of))]
+fn answering(plan: &ModuleOutline, at: usize) -> Spot
+    ensures here { rest_of plan.now result ≡ rest_of plan.now (Answering at) }
+    ensures placed { IsPlaced plan.now result }
+{
+    if at < plan.goals {
+        Spot::Answering(at)
+    } else {
+        securing(plan)
+    }
+}
+
+#[tactic(auto, using(crate::proofs::Places::reading_end), unfolding(crate::specs::Spots::rest_of))]
+fn reading(plan: &ModuleOutline, at: usize) -> Spot
+    ensures here { rest_of plan.now result ≡ rest_of plan.now (Reading at) }
+    ensures placed { IsPlaced plan.now result }
+{
+    if at < plan.reads.len() {
+        Spot::Reading(at)
+    } else {
+        Spot::Releasing
+    }
+}
+
+#[tactic(auto, using(crate::proofs::Places::fetching_end), unfolding(crate::specs::Spots::rest_of))]
+fn fetching(plan: &ModuleOutline, at: usize) -> Spot
+    ensures here { rest_of plan.now result ≡ rest_of plan.now (Fetching at) }
+    ensures placed { IsPlaced plan.now result }
+{
+    if at < plan.fetch.len() {
+        Spot::Fetching(at)
+    } else {
+        reading(plan, 0)
+    }
+}
+
+#[tactic(auto, using(crate::proofs::Places::locking_end), unfolding(crate::specs::Spots::rest_of))]
+fn locking(plan: &ModuleOutline, at: usize) -> Spot
+    ensures here { rest_of plan.now result ≡ rest_of plan.now (Locking at) }
+    ensures placed { IsPlaced plan.now result }
+{
+    if at < plan.batch.len() {
+        Spot::Locking(at)
+    } else {
+        fetching(plan, 0)
+    }
+}
+
+// Whether the files are all there.
+#[tactic(auto, using(crate::proofs::Places::all_more, crate::proofs::Places::all_stop, crate::proofs::Places::all_end))]
+fn all_there(there: &[bool], files: &[u32]) -> bool
+    ensures { result ≡ list_all (is_there there.now) files.now }
+{
+    for at in 0..files.len() {
+        if !is_there(there, files[at]) {
+            return false;
+        }
+    }
+    true
+}
+
+fn is_there(there: &[bool], file: u32) -> bool
+    ensures { result ≡ is_there there.now file }
+{
+    there.get(file as usize).copied().unwrap_or(false)
+}
+
+// The first place from one on whose file is absent.
+#[tactic(auto, using(crate::proofs::Places::pass_over, crate::proofs::Places::stop_over, crate::proofs::Places::none_over))]
+fn absent_from(there: &[bool], files: &[u32], from: usize) -> Option<usize>
+    ensures { (empty : Bool) (rest : Script) → option_map_or (λ at. steps 3 fetches (drop at files.now) rest) result (settled there.now empty rest) ≡ settled there.now empty (steps 3 fetches (drop from files.now) rest) }
+{
+    for at in from..files.len() {
+        if !is_there(there, files[at]) {
+            return Some(at);
+        }
+    }
+    None
+}
+
+// The place of a file that may be published, from a place on.
+#[tactic(auto, using(crate::proofs::Dues::pass_own, crate::proofs::Dues::stop_own, crate::proofs::Dues::end_own), unfolding(crate::specs::Spots::rest_of))]
+fn place_from(files: &[u32], from: usize, file: u32) -> Option<usize>
+    ensures low { (at : ℕ) → result ≡ Some at → at < length files.now }
+    ensures found { (rest : Script) → option_map_or (λ at. Some (steps 6 may_publish (drop (at + 1) files.now) rest)) result (done rest (Publish file)) ≡ done (steps 6 may_publish (drop from files.now) rest) (Publish file) }
+{
+    for at in from..files.len() {
+        if file == files[at] {
+            return Some(at);
+        }
+    }
+    None
+}
+
+#[tactic(auto, using(crate::proofs::Places::release_empty, crate::proofs::Places::release_held), unfolding(crate::specs::Spots::rest_of))]
+fn settled_release(plan: &ModuleOutline, empty: bool) -> Spot
+    ensures { (there : List Bool) → rest_of plan.now result ≡ settled there empty (rest_of plan.now Releasing) }
+{
+    if empty {
+        answering(plan, 0)
+    } else {
+        Spot::Releasing
+    }
+}
+
+#[tactic(auto, using(crate::proofs::Places::read_more, crate::proofs::Places::read_end), unfolding(crate::specs::Spots::rest_of))]
+fn settled_read(plan: &ModuleOutline, empty: bool, at: usize) -> Spot
+    ensures { (there : List Bool) → rest_of plan.now result ≡ settled there empty (rest_of plan.now (Reading at)) }
+{
+    if at < plan.reads.len() {
+        Spot::Reading(at)
+    } else {
+        settled_release(plan, empty)
+    }
+}
+
+#[tactic(auto, unfolding(crate::specs::Spots::rest_of))]
+fn settled_fetch(plan: &ModuleOutline, there: &[bool], empty: bool, at: usize) -> Spot
+    ensures { rest_of plan.now result ≡ settled there.now empty (rest_of plan.now (Fetching at)) }
+{
+    match absent_from(there, plan.fetch.as_slice(), at) {
+        Some(at) => Spot::Fetching(at),
+        None => settled_read(plan, empty, 0),
+    }
+}
+
+#[tactic(auto, using(crate::proofs::Places::lock_more, crate::proofs::Places::lock_end), unfolding(crate::specs::Spots::rest_of))]
+fn settled_lock(plan: &ModuleOutline, there: &[bool], empty: bool, at: usize) -> Spot
+    ensures { rest_of plan.now result ≡ settled there.now empty (rest_of plan.now (Locking at)) }
+{
+    if at < plan.batch.len() {
+        Spot::Locking(at)
+    } else {
+        settled_fetch(plan, there, empty, 0)
+    }
+}
+
+#[tactic(auto, using(crate::proofs::Places::free_empty, crate::proofs::Places::free_held), unfolding(crate::specs::Spots::rest_of))]
+fn settled_free(plan: &ModuleOutline, there: &[bool], empty: bool) -> Spot
+    ensures { rest_of plan.now result ≡ settled there.now empty (rest_of plan.now (Unsharing)) }
+{
+    if empty {
+        settled_lock(plan, there, empty, 0)
+    } else {
+        Spot::Unsharing
+    }
+}
+
+#[tactic(auto, using(crate::proofs::Places::share_more, crate::proofs::Places::share_there, crate::proofs::Places::share_absent), unfolding(crate::specs::Spots::rest_of))]
+fn settled_share(plan: &ModuleOutline, there: &[bool], empty: bool, at: usize) -> Spot
+    ensures { rest_of plan.now result ≡ settled there.now empty (rest_of plan.now (Sharing at)) }
+{
+    if at < plan.batch.len() {
+        Spot::Sharing(at)
+    } else if all_there(there, plan.fetch.as_slice()) {
+        settled_read(plan, empty, 0)
+    } else {
+        settled_free(plan, there, empty)
+    }
+}
+
+#[tactic(auto, using(crate::proofs::Places::install_more, crate::proofs::Places::install_held, crate::proofs::Places::install_end), unfolding(crate::specs::Spots::rest_of))]
+fn settled_install(plan: &ModuleOutline, empty: bool, at: usize) -> Spot
+    ensures { (there : List Bool) → rest_of plan.now result ≡ settled there empty (rest_of plan.now (Installing at)) }
+{
+    if at < plan.own.len() || !empty {
+        Spot::Installing(at)
+    } else {
+        Spot::Whole
+    }
+}
+
+impl Spot {
+    // The name of the place that says what is next.
+    #[tactic(auto, unfolding(crate::specs::Spots::rest_of))]
+    fn here(self, plan: &ModuleOutline) -> Spot
+        ensures here { rest_of plan.now result ≡ rest_of plan.now (self) }
+        ensures placed { IsPlaced plan.now result }
+    {
+        match self {
+            Spot::Locking(at) => locking(plan, at),
+            Spot::Fetching(at) => fetching(plan, at),
+            Spot::Reading(at) => reading(plan, at),
+            Spot::Answering(at) => answering(plan, at),
+            Spot::Securing => securing(plan),
+            other => other,
+        }
+    }
+
+    // The first place from here on that wants an event.
+    #[tactic(auto, using(crate::proofs::Places::answering_stays, crate::proofs::Places::securing_stays), unfolding(crate::specs::Spots::rest_of))]
+    pub(crate) fn settled(self, plan: &ModuleOutline, there: &[bool], empty: bool) -> Spot
+        ensures { rest_of plan.now result ≡ settled there.now empty (rest_of plan.now (self)) }
+    {
+        match self {
+            Spot::Sharing(at) => settled_share(plan, there, empty, at),
+            Spot::Unsharing => settled_free(plan, there, empty),
+            Spot::Locking(at) => settled_lock(plan, there, empty, at),
+            Spot::Fetching(at) => settled_fetch(plan, there, empty, at),
+            Spot::Reading(at) => settled_read(plan, empty, at),
+            Spot::Releasing => settled_release(plan, empty),
+            Spot::Answering(at) => answering(plan, at),
+            Spot::Securing => securing(plan),
+            Spot::Installing(at) => settled_install(plan, empty, at),
+            Spot::Whole => Spot::Whole,
+        }
+    }
+
+    // The place behind a deed that is due.
+    #[tactic(auto, unfolding(crate::specs::Spots::rest_of))]
+    pub(crate) fn done(self, plan: &ModuleOutline, deed: Deed) -> Option<Spot>
+        ensures { option_map (rest_of plan.now) result ≡ done (rest_of plan.now self) deed }
+    {
+        match deed {
+            Deed::Take(mode, name) => taken(self.here(plan), plan, mode, name),
+            Deed::Free => freed(self.here(plan), plan),
+            Deed::Read(file) => read(self.here(plan), plan, file),
+            Deed::Publish(file) => published(self.here(plan), plan, file),
+            Deed::Answer(goal) => answered(self.here(plan), plan, goal),
+        }
+    }
+
+    // The number of the stage.
+    pub(crate) fn stage(self, plan: &ModuleOutline) -> u32
+        ensures { result ≡ stage_of (rest_of plan.now self) }
+    {
+        stage_at(self.here(plan))
+    }
+
+    // The file that is to be fetched next.
+    pub(crate) fn wanted(self, plan: &ModuleOutline) -> Option<u32>
+        ensures { result ≡ wanted (rest_of plan.now self) }
+    {
+        wanted_at(plan, self.here(plan))
+    }
+
+    // The file that is to be read next.
+    pub(crate) fn to_read(self, plan: &ModuleOutline) -> Option<u32>
+        ensures { result ≡ option_and_then read_by (head (rest_of plan.now self)) }
+    {
+        file_at(plan, self.here(plan))
+    }
+
+    // The file that is to be published next.
+    pub(crate) fn to_publish(self, plan: &ModuleOutline) -> Option<u32>
+        ensures { result ≡ option_and_then published_by (head (rest_of plan.now self)) }
+    {
+        published_at(plan, self.here(plan))
+    }
+
+    // Whether no goal of the module is answered.
+    fn is_unanswered(self, plan: &ModuleOutline) -> bool
+        ensures { result ≡ nat_eq (answers_left (rest_of plan.now self)) plan.now.goals }
+    {
+        is_unanswered_at(plan, self.here(plan))
+    }
+
+    // Whether all files of the fetch list were there, and no goal is answered.
+    pub(crate) fn is_gathered(self, plan: &ModuleOutline) -> bool
+        ensures { result ≡ is_gathered plan.now.goals (rest_of plan.now self) }
+    {
+        3 < self.stage(plan) && self.is_unanswered(plan)
+    }
+
+    // Whether the installing is next.
+    pub(crate) fn is_to_install(self, plan: &ModuleOutline) -> bool
+        ensures { result ≡ is_to_install (rest_of plan.now self) }
+    {
+        is_to_install_at(self.here(plan))
+    }
+
+    pub(crate) fn may_end(self, plan: &ModuleOutline) -> bool
+        ensures { result ≡ may_end (rest_of plan.now self) }
+    {
+        may_end_at(self.here(plan))
+    }
+}
+
+fn stage_at(spot: Spot) -> u32
+    ensures { result ≡ stage_at spot }
+{
+    match spot {
+        Spot::Sharing(_) => 2,
+        Spot::Unsharing => 3,
+        Spot::Locking(_) => 3,
+        Spot::Fetching(_) => 3,
+        Spot::Reading(_) => 4,
+        Spot::Releasing => 4,
+        Spot::Answering(_) => 5,
+        Spot::Securing => 6,
+        Spot::Installing(_) => 6,
+        Spot::Whole => 7,
+    }
+}
+
+fn wanted_at(plan: &ModuleOutline, spot: Spot) -> Option<u32>
+    ensures { result ≡ wanted_at plan.now spot }
+{
+    match spot {
+        Spot::Fetching(at) => plan.fetch.get(at).copied(),
+        _ => None,
+    }
+}
+
+fn file_at(plan: &ModuleOutline, spot: Spot) -> Option<u32>
+    ensures { result ≡ read_at plan.now spot }
+{
+    match spot {
+        Spot::Reading(at) => plan.reads.get(at).copied(),
+        _ => None,
+    }
+}
+
+fn published_at(plan: &ModuleOutline, spot: Spot) -> Option<u32>
+    ensures { result ≡ published_at plan.now spot }
+{
+    match spot {
+        Spot::Fetching(at) => plan.fetch.get(at).copied(),
+        Spot::Installing(at) => plan.own.get(at).copied(),
+        _ => None,
+    }
+}
+
+fn is_unanswered_at(plan: &ModuleOutline, spot: Spot) -> bool
+    ensures { result ≡ is_unanswered_at plan.now spot }
+{
+    match spot {
+        Spot::Answering(at) => at == 0,
+        Spot::Securing => 0 == plan.goals,
+        Spot::Installing(_) => 0 == plan.goals,
+        Spot::Whole => 0 == plan.goals,
+        _ => true,
+    }
+}
+
+fn is_to_install_at(spot: Spot) -> bool
+    ensures { result ≡ is_to_install_at spot }
+{
+    match spot {
+        Spot::Securing => true,
+        _ => false,
+    }
+}
+
+fn may_end_at(spot: Spot) -> bool
+    ensures { result ≡ may_end_at spot }
+{
+    match spot {
+        Spot::Whole => true,
+        _ => false,
+    }
+}
+
+// Whether the item of a list is this one.
+fn is_at(list: &[u32], at: usize, wanted: u32) -> bool
+    ensures there { result ≡ true → (at < length list.now) × (nat_eq wanted (get_or list.now at 0) ≡ true) }
+    ensures other { result ≡ false → at < length list.now → nat_eq wanted (get_or list.now at 0) ≡ false }
+{
+    at < list.len() && wanted == list[at]
+}
+
+#[tactic(auto, using(crate::proofs::Dues::share_yes, crate::proofs::Dues::share_no, crate::proofs::Dues::share_other), unfolding(crate::specs::Spots::rest_of))]
+fn shared(plan: &ModuleOutline, at: usize, mode: Mode, name: u32) -> Option<Spot>
+    ensures { option_map (rest_of plan.now) result ≡ done (rest_of plan.now (Sharing at)) (Take mode name) }
+{
+    match mode {
+        Mode::Shared if is_at(plan.batch.as_slice(), at, name) => Some(Spot::Sharing(at + 1)),
+        _ => None,
+    }
+}
+
+#[tactic(auto, using(crate::proofs::Dues::lock_yes, crate::proofs::Dues::lock_no, crate::proofs::Dues::lock_other), unfolding(crate::specs::Spots::rest_of))]
+fn locked(plan: &ModuleOutline, at: usize, mode: Mode, name: u32) -> Option<Spot>
+    requires { at < length plan.now.batch }
+    ensures { option_map (rest_of plan.now) result ≡ done (rest_of plan.now (Locking at)) (Take mode name) }
+{
+    match mode {
+        Mode::Exclusive if is_at(plan.batch.as_slice(), at, name) => Some(Spot::Locking(at + 1)),
+        _ => None,
+    }
+}
+
+#[tactic(auto, using(crate::proofs::Dues::own_yes, crate::proofs::Dues::own_no, crate::proofs::Dues::own_other), unfolding(crate::specs::Spots::rest_of))]
+fn secured(plan: &ModuleOutline, mode: Mode, name: u32) -> Option<Spot>
+    requires { plan.now.installs ≡ true }
+    ensures { option_map (rest_of plan.now) result ≡ done (rest_of plan.now (Securing)) (Take mode name) }
+{
+    match mode {
+        Mode::Exclusive if name == plan.own_name => Some(Spot::Installing(0)),
+        _ => None,
+    }
+}
+
+#[tactic(auto, unfolding(crate::specs::Spots::rest_of))]
+fn taken(spot: Spot, plan: &ModuleOutline, mode: Mode, name: u32) -> Option<Spot>
+    requires { IsPlaced plan.now spot }
+    ensures { option_map (rest_of plan.now) result ≡ done (rest_of plan.now (spot)) (Take mode name) }
+{
+    match spot {
+        Spot::Sharing(at) => shared(plan, at, mode, name),
+        Spot::Locking(at) => locked(plan, at, mode, name),
+        Spot::Securing => secured(plan, mode, name),
+        _ => None,
+    }
+}
+
+#[tactic(auto, unfolding(crate::specs::Spots::rest_of))]
+fn freed(spot: Spot, plan: &ModuleOutline) -> Option<Spot>
+    requires { IsPlaced plan.now spot }
+    ensures { option_map (rest_of plan.now) result ≡ done (rest_of plan.now (spot)) (Free) }
+{
+    match spot {
+        Spot::Unsharing => Some(Spot::Unsharing),
+        Spot::Releasing => Some(Spot::Releasing),
+        Spot::Installing(at) => own_freed(plan, at),
+        _ => None,
+    }
+}
+
+// Of the own files the first must be published before.
+#[tactic(auto, using(crate::proofs::Dues::own_freed_yes, crate::proofs::Dues::own_freed_none, crate::proofs::Dues::own_freed_no), unfolding(crate::specs::Spots::rest_of))]
+fn own_freed(plan: &ModuleOutline, at: usize) -> Option<Spot>
+    ensures { option_map (rest_of plan.now) result ≡ done (rest_of plan.now (Installing at)) (Free) }
+{
+    if at == 0 && !plan.own.is_empty() {
+        None
+    } else {
+        Some(Spot::Installing(plan.own.len()))
+    }
+}
+
+#[tactic(auto, using(crate::proofs::Dues::read_yes, crate::proofs::Dues::read_no), unfolding(crate::specs::Spots::rest_of))]
+fn read_here(plan: &ModuleOutline, at: usize, file: u32) -> Option<Spot>
+    requires { at < length plan.now.reads }
+    ensures { option_map (rest_of plan.now) result ≡ done (rest_of plan.now (Reading at)) (Read file) }
+{
+    if is_at(plan.reads.as_slice(), at, file) {
+        Some(Spot::Reading(at + 1))
+    } else {
+        None
+    }
+}
+
+#[tactic(auto, unfolding(crate::specs::Spots::rest_of))]
+fn read(spot: Spot, plan: &ModuleOutline, file: u32) -> Option<Spot>
+    requires { IsPlaced plan.now spot }
+    ensures { option_map (rest_of plan.now) result ≡ done (rest_of plan.now (spot)) (Read file) }
+{
+    match spot {
+        Spot::Reading(at) => read_here(plan, at, file),
+        _ => None,
+    }
+}
+
+#[tactic(auto, using(crate::proofs::Dues::fetch_yes, crate::proofs::Dues::fetch_no), unfolding(crate::specs::Spots::rest_of))]
+fn fetched(plan: &ModuleOutline, at: usize, file: u32) -> Option<Spot>
+    requires { at < length plan.now.fetch }
+    ensures { option_map (rest_of plan.now) result ≡ done (rest_of plan.now (Fetching at)) (Publish file) }
+{
+    if is_at(plan.fetch.as_slice(), at, file) {
+        Some(Spot::Fetching(at + 1))
+    } else {
+        None
+    }
+}
+
+#[tactic(auto, using(crate::proofs::Dues::pom_yes, crate::proofs::Dues::pom_no), unfolding(crate::specs::Spots::rest_of))]
+fn pom_published(plan: &ModuleOutline, file: u32) -> Option<Spot>
+    ensures { option_map (rest_of plan.now) result ≡ done (rest_of plan.now (Installing 0)) (Publish file) }
+{
+    if is_at(plan.own.as_slice(), 0, file) {
+        Some(Spot::Installing(1))
+    } else {
+        None
+    }
+}
+
+// Of the own files each behind the first may be published.
+#[tactic(auto, using(crate::proofs::Dues::found_own, crate::proofs::Dues::no_own), unfolding(crate::specs::Spots::rest_of))]
+fn own_published(plan: &ModuleOutline, at: usize, file: u32) -> Option<Spot>
+    requires { 0 < at }
+    ensures { option_map (rest_of plan.now) result ≡ done (rest_of plan.now (Installing at)) (Publish file) }
+{
+    match place_from(plan.own.as_slice(), at, file) {
+        Some(place) => Some(Spot::Installing(place + 1)),
+        None => None,
+    }
+}
+
+#[tactic(auto, unfolding(crate::specs::Spots::rest_of))]
+fn published(spot: Spot, plan: &ModuleOutline, file: u32) -> Option<Spot>
+    requires { IsPlaced plan.now spot }
+    ensures { option_map (rest_of plan.now) result ≡ done (rest_of plan.now (spot)) (Publish file) }
+{
+    match spot {
+        Spot::Fetching(at) => fetched(plan, at, file),
+        Spot::Installing(0) => pom_published(plan, file),
+        Spot::Installing(at) => own_published(plan, at, file),
+        _ => None,
+    }
+}
+
+#[tactic(auto, using(crate::proofs::Dues::answer_yes, crate::proofs::Dues::answer_no), unfolding(crate::specs::Spots::rest_of))]
+fn answer_at(plan: &ModuleOutline, at: usize, goal: u32) -> Option<Spot>
+    requires { at < plan.now.goals }
+    ensures { option_map (rest_of plan.now) result ≡ done (rest_of plan.now (Answering at)) (Answer goal) }
+{
+    if at < plan.goals && goal as usize == at {
+        Some(Spot::Answering(at + 1))
+    } else {
+        None
+    }
+}
+
+#[tactic(auto, unfolding(crate::specs::Spots::rest_of))]
+fn answered(spot: Spot, plan: &ModuleOutline, goal: u32) -> Option<Spot>
+    requires { IsPlaced plan.now spot }
+    ensures { option_map (rest_of plan.now) result ≡ done (rest_of plan.now (spot)) (Answer goal) }
+{
+    match spot {
+        Spot::Answering(at) => answer_at(plan, at, goal),
+        _ => None,
+    }
+}

@@ -11,3 +11,6 @@ mod settings;
 mod step;
 
 pub use model::fill;
+
+#[cfg(test)]
+mod tests;

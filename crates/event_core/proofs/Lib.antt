@@ -4,6 +4,7 @@ mod Firsts
 mod Fits
 mod Holding
 mod Law
+mod Most
 mod Places
 mod Readings
 mod Weights

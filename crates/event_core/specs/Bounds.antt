@@ -44,3 +44,8 @@ events_left o now = waiting_events now.progress o.modules + total course_events 
 -- the most events of a build
 abbrev pub most_events : Outline → ℕ
 most_events o = total module_events o.modules
+
+-- ---- the same as numbers
+
+abbrev pub install_events : ModuleOutline → ℕ
+install_events m = if m.installs then 2 + length m.own else 0

@@ -1,6 +1,7 @@
 //! The event core: which events of a build may come next, why another may not, and where the build stands.
 #![tactic(auto)]
 
+mod bound;
 mod causes;
 pub mod deed;
 mod moves;

@@ -1,5 +1,5 @@
 // A build, event by event.
-ghost use Rattle.std.specs.Prelude.{◌≡◌, ◌<◌, ◌≤◌, vec_capacity, [], ◌∷◌, ◌++◌, Some, find, length, IfErr, IfOk, OnOk};
+ghost use Rattle.std.specs.Prelude.{◌≡◌, ◌<◌, ◌≤◌, ◌^◌, vec_capacity, [], ◌∷◌, ◌++◌, Some, find, length, IfErr, IfOk, OnOk};
 ghost use Rattle.std.specs.List.{list_all};
 ghost use Rattle.name_locks.specs.Locks.{below};
 ghost use Rattle.event_core.specs.Bounds.{most_events};
@@ -63,12 +63,21 @@ impl Model for Core {
 }
 
 impl Core {
-    /// No event has come. Reserves for the plan's greatest number of events; costs the plan's lists, and its names times its workers.
+    /// No event of the plan has come. Reserves for the plan's greatest number of events; costs the plan's lists, and its names times
+    /// its workers.
     pub fn new(alloc: Global, plan: &Plan) -> Mem<Core>
         requires { most_events (outline_of plan.now) ≤ plan.now.events }
         ensures { IfOk result (λ core. core ≡ (outline_of plan.now, [])) }
     {
-        let outline = Outline::of(alloc, plan)?;
+        Core::over(alloc, Outline::of(alloc, plan)?)
+    }
+
+    /// No event of an outline that has room has come. Reserves as `new` does.
+    pub fn over(alloc: Global, outline: Outline) -> Mem<Core>
+        requires room { most_events outline ≤ outline.events }
+        requires few { length outline.modules < 2 ^ 32 }
+        ensures { IfOk result (λ core. core ≡ (outline, [])) }
+    {
         let history = Vec::with_capacity(alloc, outline.events as usize)?;
         let stand = Stand::new(alloc, &outline)?;
         Ok(Core {
@@ -88,11 +97,19 @@ impl Core {
     }
 
     // The first cause for which an event may not come.
-    fn cause(&self, event: Event) -> Option<NotEnabled>
+    fn first_cause(&self, event: Event) -> Option<NotEnabled>
         ensures first { result ≡ cause_now self.now.0 (now_of self.now.0 self.now.1) event }
         ensures fit { IsFit self.now.0 (now_of self.now.0 self.now.1) }
     {
         self.stand.cause(&self.outline, event)
+    }
+
+    /// The first cause for which an event may not come now: none exactly where `step` takes it. Costs what `step` does; takes no
+    /// memory. Own.
+    pub fn cause(&self, event: Event) -> Option<NotEnabled>
+        ensures { result ≡ cause_now self.now.0 (now_of self.now.0 self.now.1) event }
+    {
+        self.first_cause(event)
     }
 
     /// An event more, where it may come; else the first cause for which it may not, and nothing is changed. Takes no memory. Own.
@@ -100,7 +117,7 @@ impl Core {
         ensures ok { OnOk result (Enabled self.old.0 self.old.1 event × (self.new ≡ (self.old.0, self.old.1 ++ event ∷ []))) }
         ensures err { IfErr result (λ why. (cause_now self.old.0 (now_of self.old.0 self.old.1) event ≡ Some why) × (self.new ≡ self.old)) }
     {
-        match self.cause(event) {
+        match self.first_cause(event) {
             Some(cause) => Err(cause),
             None => {
                 self.push(event);

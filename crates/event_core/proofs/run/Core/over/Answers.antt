@@ -1,26 +1,24 @@
 use Rattle.std.proofs.Common.{◌≡◌, ◌≤◌, ◌+◌, [], List, length, arith, sym, ap, subst, ◌∙◌}
 use Rattle.build_core.specs.declared.event.Event.{Event}
-use Rattle.event_core.specs.Bounds.{events_left, most_events}
+use Rattle.event_core.specs.Bounds.{events_left}
 use Rattle.event_core.specs.Fitting.{IsFit}
 use Rattle.event_core.specs.Standing.{now_of}
 use Rattle.event_core.proofs.Fits.{fit_first, most_first}
-use Rattle.event_core.proofs.run.Core.new.Goals as goal
+use Rattle.event_core.proofs.run.Core.over.Goals as goal
 
 pub invariant_of-result : goal.invariant_of-result
 invariant_of-result c =
-    let o = c.in_ok-outline.outline in
-    let is = c.in_ok-outline.ensures.outline in
+    let o = c.args.outline in
     let none : c.in_ok-history.history.items ≡ [] = c.in_ok-history.ensures.items in
-    let most : most_events o ≤ o.events = subst (λ t. most_events t ≤ t.events) (sym is) c.requires in
     let first = most_first o in
     record {
       same = c.in_ok-stand.ensures.at ∙ ap (now_of o) (sym none);
       fit = subst (λ t. IsFit o (now_of o t)) (sym none) (fit_first o);
       room = c.in_ok-stand.ensures.room;
       kept = omega (arith, c.in_ok-history.ensures.exact);
-      few = c.in_ok-outline.ensures.few;
-      left = subst (λ (t : List Event). length t + events_left o (now_of o t) ≤ o.events) (sym none) (omega (arith, most, first));
+      few = c.requires.few;
+      left = subst (λ (t : List Event). length t + events_left o (now_of o t) ≤ o.events) (sym none) (omega (arith, c.requires.room, first));
     }
 
 pub returns : goal.returns
-returns c = λ i. (c.in_ok-outline.ensures.outline i, c.in_ok-history.ensures.items i)
+returns c = λ i. (c.args.outline, c.in_ok-history.ensures.items i)

@@ -1,0 +1,14 @@
+#!/usr/bin/env bash
+# How the time of a build's events grows with their number, as ratios in one run of the built program `event_runs`: modules that have
+# nothing but their POM, one after another, by one worker. A ratio of the numbers is a constant time an event.
+. "$(dirname "$0")/common.sh"
+want crates/event_runs/out/event_runs '(cd crates/event_runs && rt run)'
+once() { "$program" < in > out; }
+
+printf 'long 0\n' > in
+base=$(least 15)
+first=
+for number in 500000 1000000 2000000 4000000; do
+  printf 'long %s\n' "$number" > in
+  row 'events' "$number" $(($(least 5) - base))
+done

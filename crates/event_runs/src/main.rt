@@ -1,0 +1,41 @@
+//! Walks through builds that are made from numbers, and tells of each what the event core answers. Each line of standard input is a
+//! word and a number: `walk`, a build of at most three modules that is made from the number, of which at each moment every event is
+//! asked for and one that may come is taken; prints a sum over all answers, and the number of events. `long`, so many events of
+//! a build of modules that have nothing but their POM; prints how many were taken.
+#![tactic(auto)]
+
+mod answers;
+mod builds;
+mod draws;
+mod walks;
+
+use mvn_shared::Mem;
+use std::alloc::Global;
+use walks::{long, walk};
+
+// What is told of a word and a number.
+fn told(alloc: Global, word: &str, number: u32) -> Mem<(u32, u32)> {
+    match word {
+        "walk" => walk(alloc, number),
+        "long" => Ok((0, long(alloc, number)?)),
+        _ => Ok((0, 0)),
+    }
+}
+
+fn print_told(rt: &HostRuntime, word: &str, number: u32) -> anyhow::Result<()> {
+    match told(rt.alloc(), word, number) {
+        Ok((sum, count)) => println!(rt; "{word} {number}: {sum} {count}")?,
+        Err(_) => println!(rt; "out of memory")?,
+    }
+    Ok(())
+}
+
+fn main(rt: HostRuntime) -> anyhow::Result<()> {
+    for line in rt.lines(rt.alloc()) {
+        let line = line?;
+        if let Some((word, number)) = line.as_str().split_once(' ') {
+            print_told(&rt, word, number.parse::<u32>().unwrap_or(0))?;
+        }
+    }
+    Ok(())
+}

@@ -1,4 +1,6 @@
 // All events that a small build may be asked for, and a number for each answer.
+ghost use Rattle.std.specs.Prelude.{◌<◌};
+
 use build_core::{Device, Ending, Event, State};
 use event_core::{Core, NotEnabled};
 use name_locks::Mode;
@@ -61,7 +63,9 @@ pub(crate) fn event_at(kind: u32, worker: u32, number: u32) -> Event {
     }
 }
 
-fn ending_number(ending: Ending) -> u32 {
+fn ending_number(ending: Ending) -> u32
+    ensures { result < 64 }
+{
     match ending {
         Ending::Built => 1,
         Ending::Goal(goal) => 16 + goal % 16,
@@ -74,7 +78,9 @@ fn ending_number(ending: Ending) -> u32 {
     }
 }
 
-fn state_number(state: State) -> u32 {
+fn state_number(state: State) -> u32
+    ensures { result < 160 }
+{
     match state {
         State::Waiting => 0,
         State::Running(worker) => 64 + worker % 16,

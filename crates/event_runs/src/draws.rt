@@ -1,3 +1,5 @@
+ghost use Rattle.std.specs.Prelude.{◌≤◌};
+
 /// Numbers, each made from the one before it.
 #[derive(Clone, Copy)]
 pub(crate) struct Draws {
@@ -6,7 +8,9 @@ pub(crate) struct Draws {
 
 impl Draws {
     /// A number below this one, or 0.
-    pub(crate) fn below(&mut self, bound: u32) -> u32 {
+    pub(crate) fn below(&mut self, bound: u32) -> u32
+        ensures { result ≤ bound }
+    {
         self.state = self.state.wrapping_mul(1_103_515_245).wrapping_add(12_345);
         if bound == 0 {
             return 0;

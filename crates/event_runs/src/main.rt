@@ -14,10 +14,10 @@ use std::alloc::Global;
 use walks::{long, walk};
 
 // What is told of a word and a number.
-fn told(alloc: Global, word: &str, number: u32) -> Mem<(u32, u32)> {
+fn told(alloc: Global, word: &str, number: u32) -> Mem<(u32, usize)> {
     match word {
         "walk" => walk(alloc, number),
-        "long" => Ok((0, long(alloc, number)?)),
+        "long" => Ok((0, long(alloc, number)? as usize)),
         _ => Ok((0, 0)),
     }
 }

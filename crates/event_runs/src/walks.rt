@@ -76,7 +76,7 @@ fn one_more(core: &mut Core, draws: &mut Draws) -> Option<u32> {
 }
 
 /// A sum over all answers on a walk through a small build, and the number of its events.
-pub(crate) fn walk(alloc: Global, seed: u32) -> Mem<(u32, u32)> {
+pub(crate) fn walk(alloc: Global, seed: u32) -> Mem<(u32, usize)> {
     let mut draws = Draws { state: seed };
     let outline = small(alloc, &mut draws)?;
     let mut core = begun(alloc, outline)?;
@@ -87,7 +87,7 @@ pub(crate) fn walk(alloc: Global, seed: u32) -> Mem<(u32, u32)> {
             None => break,
         }
     }
-    Ok((total, core.events().len() as u32))
+    Ok((total, core.events().len()))
 }
 
 // The events of a module that has nothing but its POM; how many were taken.

@@ -28,7 +28,7 @@ share_beyond : (m : ModuleOutline) (i : ℕ) (mode : Mode) (name : ℕ) → leng
 unfolding rest_of
 share_beyond m i mode name far = ap (λ s. done s (deed.Take mode name)) (steps_end 2 (takes Shared) m.batch i (choice_script m) far)
 
-share_here : (m : ModuleOutline) (i : ℕ) (d : Deed) → i < length m.batch → done (rest_of m (spot.Sharing i)) d ≡ done (step 2 (takes Shared (get_or m.batch i 0)) (rest_of m (spot.Sharing (i + 1)))) d
+pub share_here : (m : ModuleOutline) (i : ℕ) (d : Deed) → i < length m.batch → done (rest_of m (spot.Sharing i)) d ≡ done (step 2 (takes Shared (get_or m.batch i 0)) (rest_of m (spot.Sharing (i + 1)))) d
 unfolding rest_of
 share_here m i d low = ap (λ s. done s d) (steps_at 2 (takes Shared) m.batch i (choice_script m) low)
 
@@ -49,7 +49,7 @@ share_other m i name = by (below_or_not i (length m.batch))
     by (inl low) = sym (share_here m i (deed.Take Exclusive name) low)
     by (inr far) = sym (share_beyond m i Exclusive name far)
 
-lock_here : (m : ModuleOutline) (i : ℕ) (d : Deed) → i < length m.batch → done (rest_of m (spot.Locking i)) d ≡ done (step 3 (takes Exclusive (get_or m.batch i 0)) (rest_of m (spot.Locking (i + 1)))) d
+pub lock_here : (m : ModuleOutline) (i : ℕ) (d : Deed) → i < length m.batch → done (rest_of m (spot.Locking i)) d ≡ done (step 3 (takes Exclusive (get_or m.batch i 0)) (rest_of m (spot.Locking (i + 1)))) d
 unfolding rest_of
 lock_here m i d low = ap (λ s. done s d) (steps_at 3 (takes Exclusive) m.batch i (steps 3 fetches m.fetch (read_script m)) low)
 
@@ -62,7 +62,7 @@ lock_no m i name low isnt = sym (lock_here m i (deed.Take Exclusive name) low �
 pub lock_other : (m : ModuleOutline) (i name : ℕ) → i < length m.batch → None ≡ done (rest_of m (spot.Locking i)) (deed.Take Shared name)
 lock_other m i name low = sym (lock_here m i (deed.Take Shared name) low)
 
-own_here : (m : ModuleOutline) (d : Deed) → m.installs ≡ true → done (rest_of m spot.Securing) d ≡ done (step 6 (takes Exclusive m.own_name) (rest_of m (spot.Installing 0))) d
+pub own_here : (m : ModuleOutline) (d : Deed) → m.installs ≡ true → done (rest_of m spot.Securing) d ≡ done (step 6 (takes Exclusive m.own_name) (rest_of m (spot.Installing 0))) d
 unfolding rest_of
 own_here m d is = ap (λ b. done (if b then step 6 (takes Exclusive m.own_name) (own_script m.own) else whole) d) is
 

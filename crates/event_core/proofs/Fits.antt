@@ -69,7 +69,7 @@ fit_there : (o : Outline) (now : Now) (there : List Bool) → IsFit o now → Is
 fit_there o now there fit = record { names = fit.names; workers = fit.workers; rows = fit.rows; ways = fit.ways; modules = fit.modules; climbing = fit.climbing; low = fit.low; listed = fit.listed }
 
 -- two workers are one, or not
-same_or_not : (v w : ℕ) → (v ≡ w) ⊎ ((v ≡ w) → ⊥)
+pub same_or_not : (v w : ℕ) → (v ≡ w) ⊎ ((v ≡ w) → ⊥)
 same_or_not v w = by (nat_eq v w) refl
   where
     by : (b : Bool) → nat_eq v w ≡ b → (v ≡ w) ⊎ ((v ≡ w) → ⊥)

@@ -2,9 +2,13 @@ mod Climbs
 mod Dues
 mod Firsts
 mod Fits
+mod Goings
 mod Holding
+mod Keeping
 mod Law
 mod Most
 mod Places
 mod Readings
+mod Stuck
+mod Ties
 mod Weights

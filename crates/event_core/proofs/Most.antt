@@ -1,11 +1,11 @@
 -- How many events a module has, by the lengths of its lists.
-use Rattle.std.proofs.Common.{◌≡◌, ℕ, zero, suc, ◌+◌, ◌*◌, ◌<◌, ◌≤◌, max, Bool, true, false, nat_le, List, [], ◌∷◌, length, drop, get_or, refl, arith, sym, ap, ◌∙◌, if◌then◌else◌}
+use Rattle.std.proofs.Common.{◌≡◌, ℕ, ◌+◌, ◌*◌, ◌<◌, ◌≤◌, Bool, true, false, List, [], ◌∷◌, length, drop, get_or, refl, arith, if◌then◌else◌}
 use Rattle.std.proofs.lemmas.List.{at_drop_all, at_drop_more}
 use Rattle.name_locks.specs.Locks.{below}
 use Rattle.name_locks.specs.declared.mode.Mode.TheVariants.{Shared, Exclusive}
 use Rattle.event_core.specs.declared.outline.ModuleOutline.{ModuleOutline}
 use Rattle.event_core.specs.Bounds.{install_events, module_events, script_events, step_events, total}
-use Rattle.event_core.specs.Scripts.{Script, Step, answer_script, answers, choice_script, fetches, frees, install_script, lock_script, may_publish, own_script, publishes, read_script, reads, script_of, step, steps, takes, whole}
+use Rattle.event_core.specs.Scripts.{Script, Step, answer_script, answers, choice_script, fetches, frees, install_script, lock_script, may_publish, own_script, read_script, reads, step, steps, takes, whole}
 use Rattle.event_core.proofs.Places.{length_below}
 
 ones : (stage : ℕ) (f : ℕ → Step) → ((x : ℕ) → step_events (f x) ≡ 1) → (xs : List ℕ) (rest : Script) → script_events (steps stage f xs rest) ≡ length xs + script_events rest

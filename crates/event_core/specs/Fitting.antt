@@ -1,11 +1,12 @@
 -- What holds of where a build stands, after any events that were allowed.
-use Rattle.std.specs.Prelude.{◌≡◌, ℕ, ◌<◌, true, nat_lt, All, length, is_some}
+use Rattle.std.specs.Prelude.{◌≡◌, ℕ, ◌<◌, true, nat_lt, All, length, Some, is_some}
 use Rattle.std.specs.List.{list_all}
 use Rattle.name_locks.specs.Locks.{hold, names_of, workers_of}
 use Rattle.event_core.specs.declared.outline.Outline.{Outline}
 use Rattle.event_core.specs.Climbing.{Climbs}
 use Rattle.event_core.specs.Outlines.{is_listed}
-use Rattle.event_core.specs.Standing.{Now, held_by}
+use Rattle.event_core.specs.declared.progress.Progress.TheVariants.{Running}
+use Rattle.event_core.specs.Standing.{Now, course_of, held_by, module_of, progress_of}
 
 pub record IsFit (o : Outline) (now : Now) : Type 0 where
   pub names : names_of now.locks ≡ o.names
@@ -16,3 +17,11 @@ pub record IsFit (o : Outline) (now : Now) : Type 0 where
   pub climbing : All (Climbs 0) now.held
   pub low : All (λ held. list_all (λ h. nat_lt h o.names) held ≡ true) now.held
   pub listed : (w n : ℕ) → w < o.workers → is_some (hold now.locks n w) ≡ true → is_listed n (held_by now w) ≡ true
+
+-- names that are listed are held, and a module that runs is what its worker is at
+pub record IsTied (o : Outline) (now : Now) : Type 0 where
+  pub depth : length now.locks.2 ≡ o.names
+  pub width : All (λ row. length row ≡ o.workers) now.locks.2
+  pub held : (w n : ℕ) → w < o.workers → is_listed n (held_by now w) ≡ true → is_some (hold now.locks n w) ≡ true
+  pub running : (m w : ℕ) → progress_of now.progress m ≡ Running w → (w < o.workers) × (module_of (course_of now w) ≡ Some m)
+  pub real : (w m : ℕ) → module_of (course_of now w) ≡ Some m → m < length o.modules

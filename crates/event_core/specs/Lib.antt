@@ -4,8 +4,11 @@ pub mod Causes
 pub mod Climbing
 pub mod Enabled
 pub mod Fitting
+pub mod Holding
 pub mod Outlines
+pub mod Going
 pub mod Scripts
+pub mod Sound
 pub mod Spots
 pub mod Standing
 pub mod Stands

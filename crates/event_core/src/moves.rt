@@ -3,11 +3,16 @@ ghost use Rattle.std.specs.Prelude.{◌≡◌, ◌≤◌, ◌<◌, ℕ, nat_lt, 
 ghost use Rattle.name_locks.specs.Locks.{IsSeat, blocker, hold};
 ghost use Rattle.event_core.specs.declared.outline.Outline.{Outline};
 ghost use Rattle.event_core.specs.Climbing.{Climbs, but};
-ghost use Rattle.event_core.specs.Enabled.{IsEnabled};
+ghost use Rattle.event_core.specs.Enabled.{IsEnabled, is_due};
+ghost use Rattle.event_core.specs.declared.deed.Deed.TheVariants.{Publish, Take};
+ghost use Rattle.event_core.specs.declared.way.Way.{Way};
+ghost use Rattle.event_core.specs.declared.way.Way.TheVariants.{Idle};
 ghost use Rattle.event_core.specs.Fitting.{IsFit};
-ghost use Rattle.event_core.specs.Standing.{after, after_end, after_freed, after_publish, after_skip, after_start, after_take, closed, deed_done, turned_to};
+ghost use Rattle.event_core.specs.Holding.{IsHeldThen, WayHolds};
+ghost use Rattle.event_core.specs.Outlines.{is_listed};
+ghost use Rattle.event_core.specs.Standing.{after, after_end, after_freed, after_publish, after_skip, after_start, after_take, closed, course_of, deed_done, held_by, turned_to};
 ghost use Rattle.event_core.specs.Spots.{course_at};
-ghost use Rattle.event_core.specs.Stands.{now_in};
+ghost use Rattle.event_core.specs.Stands.{IsHolding, now_in};
 
 use crate::deed::Deed;
 use crate::outline::Outline;
@@ -98,6 +103,7 @@ impl Stand {
     fn turn(&mut self, worker: u32, way: Way)
         ensures at { (outline : Outline) → now_in outline self.new ≡ turned_to (now_in outline self.old) worker (course_at outline way) }
         ensures held { self.new.held ≡ self.old.held }
+        ensures ways { self.new.ways.items ≡ slice_set self.old.ways.items worker way }
     {
         set_way(&mut self.ways, worker, way);
     }
@@ -105,6 +111,7 @@ impl Stand {
     fn start(&mut self, outline: &Outline, worker: u32, number: u32)
         ensures at { now_in outline.now self.new ≡ after_start outline.now (now_in outline.now self.old) worker number }
         ensures held { self.new.held ≡ self.old.held }
+        ensures holding { IsHolding outline.now self.old → held_by (now_in outline.now self.old) worker ≡ [] → IsHolding outline.now self.new }
     {
         let empty = self.holds_none(worker);
         let way = Way::begun(outline, self.there.as_slice(), empty, number);
@@ -115,6 +122,7 @@ impl Stand {
     fn skip(&mut self, number: u32)
         ensures at { (outline : Outline) → now_in outline self.new ≡ after_skip (now_in outline self.old) number }
         ensures held { self.new.held ≡ self.old.held }
+        ensures holding { (outline : Outline) → IsHolding outline self.old → IsHolding outline self.new }
     {
         set_progress(&mut self.progress, number, Progress::Skipped);
     }
@@ -122,6 +130,7 @@ impl Stand {
     fn deed(&mut self, outline: &Outline, worker: u32, deed: Deed, answer: Option<u32>)
         ensures at { now_in outline.now self.new ≡ deed_done (now_in outline.now self.old) worker deed answer }
         ensures held { self.new.held ≡ self.old.held }
+        ensures holding { (way : Way) × (self.new.ways.items ≡ slice_set self.old.ways.items worker way) × ((before : List ℕ) → WayHolds outline.now (slice_index_or self.old.ways.items worker Idle) before → is_due (course_of (now_in outline.now self.old) worker) deed ≡ true → IsHeldThen deed before (held_by (now_in outline.now self.old) worker) → WayHolds outline.now way (held_by (now_in outline.now self.old) worker)) }
     {
         let empty = self.holds_none(worker);
         let way = self.way(worker);
@@ -137,6 +146,7 @@ impl Stand {
         requires room { All (λ names. length names.items < vec_capacity names) self.old.held.items }
         ensures at { now_in outline.now self.new ≡ after_take (now_in outline.now self.old) worker name mode }
         ensures capacity { (n : ℕ) → All (λ names. n < vec_capacity names) self.old.held.items → All (λ names. n < vec_capacity names) self.new.held.items }
+        ensures holding { IsHolding outline.now self.old → worker < outline.now.workers → is_due (course_of (now_in outline.now self.old) worker) (Take mode name) ≡ true → IsHolding outline.now self.new }
     {
         let _taken = self.locks.take(name, worker, mode);
         push_name(&mut self.held, worker, name);
@@ -150,6 +160,7 @@ impl Stand {
         requires climbs { All (λ names. Climbs 0 names.items) self.old.held.items }
         ensures at { now_in outline.now self.new ≡ after_freed outline.now (now_in outline.now self.old) worker name }
         ensures capacity { (n : ℕ) → All (λ names. n < vec_capacity names) self.old.held.items → All (λ names. n < vec_capacity names) self.new.held.items }
+        ensures holding { IsHolding outline.now self.old → worker < outline.now.workers → is_listed name (held_by (now_in outline.now self.old) worker) ≡ true → IsHolding outline.now self.new }
     {
         self.locks.free(name, worker);
         drop_name(&mut self.held, worker, name);
@@ -162,6 +173,7 @@ impl Stand {
     fn publish(&mut self, outline: &Outline, worker: u32, file: u32)
         ensures at { now_in outline.now self.new ≡ after_publish (now_in outline.now self.old) worker file }
         ensures held { self.new.held ≡ self.old.held }
+        ensures holding { IsHolding outline.now self.old → worker < outline.now.workers → is_due (course_of (now_in outline.now self.old) worker) (Publish file) ≡ true → IsHolding outline.now self.new }
     {
         set_there(&mut self.there, file);
         self.deed(outline, worker, Deed::Publish(file), None);
@@ -170,6 +182,7 @@ impl Stand {
     fn close(&mut self, worker: u32, ending: Ending)
         ensures at { (outline : Outline) → now_in outline self.new ≡ closed (now_in outline self.old) worker ending }
         ensures held { self.new.held ≡ self.old.held }
+        ensures ways { self.new.ways ≡ self.old.ways }
     {
         match self.way(worker).module() {
             Some(number) => set_progress(&mut self.progress, number, Progress::Ended(ending)),
@@ -180,6 +193,7 @@ impl Stand {
     fn end(&mut self, worker: u32, ending: Ending)
         ensures at { (outline : Outline) → now_in outline self.new ≡ after_end (now_in outline self.old) worker ending }
         ensures held { self.new.held ≡ self.old.held }
+        ensures holding { (outline : Outline) → IsHolding outline self.old → held_by (now_in outline self.old) worker ≡ [] → IsHolding outline self.new }
     {
         self.close(worker, ending);
         self.turn(worker, Way::Idle);
@@ -193,6 +207,7 @@ impl Stand {
         requires room { All (λ names. outline.now.names < vec_capacity names) self.old.held.items }
         ensures at { now_in outline.now self.new ≡ after outline.now (now_in outline.now self.old) event }
         ensures room { All (λ names. outline.now.names < vec_capacity names) self.new.held.items }
+        ensures holding { IsHolding outline.now self.old → IsHolding outline.now self.new }
     {
         match event {
             Event::Start { worker, module } => self.start(outline, worker, module),

@@ -6,6 +6,7 @@ ghost use Rattle.event_core.specs.Bounds.{most_events};
 ghost use Rattle.event_core.specs.Causes.{cause_now};
 ghost use Rattle.event_core.specs.Enabled.{Enabled};
 ghost use Rattle.event_core.specs.Fitting.{IsFit};
+ghost use Rattle.event_core.specs.Going.{NeverLocked, NeverWaits};
 ghost use Rattle.event_core.specs.Outlines.{outline_of};
 ghost use Rattle.event_core.specs.Scripts.{is_there};
 ghost use Rattle.event_core.specs.Standing.{is_complete, is_over, is_ready, is_skippable, now_of, state_of};
@@ -124,6 +125,17 @@ impl Core {
                 Ok(())
             }
         }
+    }
+
+    /// A law: where the plan is sound and no worker has left its script, a build never comes to a stand. Behind a worker whose due name
+    /// is excluded by another's hold (`lock`), and where nothing may begin or be skipped and not all is over (`wait`), some other, or
+    /// some, worker has an event that is due and may come. It rests on names being taken in ascending order. Does nothing. Resolver,
+    /// "Named Locks"; own as a law.
+    pub fn never_stuck(&self)
+        ensures lock { NeverLocked self.now.0 (now_of self.now.0 self.now.1) }
+        ensures wait { NeverWaits self.now.0 (now_of self.now.0 self.now.1) }
+    {
+        let _events = self.history.len();
     }
 
     /// The events so far. Constant time.

@@ -1,11 +1,16 @@
 // Where a worker is in the script of its module. A script's place has several names where a list ends: the last of one stage is the
 // first of the next.
-ghost use Rattle.std.specs.Prelude.{◌≡◌, ◌<◌, ◌+◌, ℕ, Bool, true, false, List, length, drop, get_or, nat_eq, Option, Some, None, option_map, option_and_then};
+ghost use Rattle.std.specs.Prelude.{◌≡◌, ◌<◌, ◌+◌, ℕ, Bool, true, false, List, [], ◌∷◌, ◌++◌, length, take, drop, get_or, nat_eq, Option, Some, None, option_map, option_and_then};
 ghost use Rattle.std.specs.List.{list_all};
 ghost use Rattle.std.specs.Option.{option_map_or};
 ghost use Rattle.event_core.specs.declared.deed.Deed.TheVariants.{Take, Free, Read, Publish, Answer};
+ghost use Rattle.event_core.specs.declared.spot.Spot.{Spot};
 ghost use Rattle.event_core.specs.declared.spot.Spot.TheVariants.{Sharing, Unsharing, Locking, Fetching, Reading, Releasing, Answering, Securing, Installing};
 ghost use Rattle.event_core.specs.Scripts.{Script, answers_left, done, fetches, head, is_gathered, is_there, is_to_install, may_end, may_publish, published_by, read_by, settled, stage_of, steps, wanted};
+ghost use Rattle.event_core.specs.Climbing.{but};
+ghost use Rattle.event_core.specs.Outlines.{is_listed};
+ghost use Rattle.event_core.specs.Holding.{HoldsAt, HoldsBehind, HoldsThen};
+ghost use Rattle.event_core.specs.Standing.{is_empty};
 ghost use Rattle.event_core.specs.Spots.{IsPlaced, is_to_install_at, is_unanswered_at, may_end_at, published_at, read_at, rest_of, stage_at, wanted_at};
 
 use crate::deed::Deed;
@@ -41,6 +46,8 @@ pub enum Spot {
 fn securing(plan: &ModuleOutline) -> Spot
     ensures here { rest_of plan.now result ≡ rest_of plan.now Securing }
     ensures placed { IsPlaced plan.now result }
+    ensures held { HoldsAt plan.now result [] }
+    ensures at { plan.now.installs ≡ true → result ≡ Securing }
 {
     if plan.installs {
         Spot::Securing
@@ -53,6 +60,8 @@ fn securing(plan: &ModuleOutline) -> Spot
 fn answering(plan: &ModuleOutline, at: usize) -> Spot
     ensures here { rest_of plan.now result ≡ rest_of plan.now (Answering at) }
     ensures placed { IsPlaced plan.now result }
+    ensures held { HoldsAt plan.now result [] }
+    ensures at { at < plan.now.goals → result ≡ Answering at }
 {
     if at < plan.goals {
         Spot::Answering(at)
@@ -65,6 +74,7 @@ fn answering(plan: &ModuleOutline, at: usize) -> Spot
 fn reading(plan: &ModuleOutline, at: usize) -> Spot
     ensures here { rest_of plan.now result ≡ rest_of plan.now (Reading at) }
     ensures placed { IsPlaced plan.now result }
+    ensures at { at < length plan.now.reads → result ≡ Reading at }
 {
     if at < plan.reads.len() {
         Spot::Reading(at)
@@ -77,6 +87,7 @@ fn reading(plan: &ModuleOutline, at: usize) -> Spot
 fn fetching(plan: &ModuleOutline, at: usize) -> Spot
     ensures here { rest_of plan.now result ≡ rest_of plan.now (Fetching at) }
     ensures placed { IsPlaced plan.now result }
+    ensures at { at < length plan.now.fetch → result ≡ Fetching at }
 {
     if at < plan.fetch.len() {
         Spot::Fetching(at)
@@ -89,6 +100,7 @@ fn fetching(plan: &ModuleOutline, at: usize) -> Spot
 fn locking(plan: &ModuleOutline, at: usize) -> Spot
     ensures here { rest_of plan.now result ≡ rest_of plan.now (Locking at) }
     ensures placed { IsPlaced plan.now result }
+    ensures at { at < length plan.now.batch → result ≡ Locking at }
 {
     if at < plan.batch.len() {
         Spot::Locking(at)
@@ -119,7 +131,8 @@ fn is_there(there: &[bool], file: u32) -> bool
 // The first place from one on whose file is absent.
 #[tactic(auto, using(crate::proofs::Places::pass_over, crate::proofs::Places::stop_over, crate::proofs::Places::none_over))]
 fn absent_from(there: &[bool], files: &[u32], from: usize) -> Option<usize>
-    ensures { (empty : Bool) (rest : Script) → option_map_or (λ at. steps 3 fetches (drop at files.now) rest) result (settled there.now empty rest) ≡ settled there.now empty (steps 3 fetches (drop from files.now) rest) }
+    ensures low { (at : ℕ) → result ≡ Some at → at < length files.now }
+    ensures rest { (empty : Bool) (rest : Script) → option_map_or (λ at. steps 3 fetches (drop at files.now) rest) result (settled there.now empty rest) ≡ settled there.now empty (steps 3 fetches (drop from files.now) rest) }
 {
     for at in from..files.len() {
         if !is_there(there, files[at]) {
@@ -145,7 +158,8 @@ fn place_from(files: &[u32], from: usize, file: u32) -> Option<usize>
 
 #[tactic(auto, using(crate::proofs::Places::release_empty, crate::proofs::Places::release_held), unfolding(crate::specs::Spots::rest_of))]
 fn settled_release(plan: &ModuleOutline, empty: bool) -> Spot
-    ensures { (there : List Bool) → rest_of plan.now result ≡ settled there empty (rest_of plan.now Releasing) }
+    ensures rest { (there : List Bool) → rest_of plan.now result ≡ settled there empty (rest_of plan.now Releasing) }
+    ensures held { (held : List ℕ) → empty ≡ is_empty held → HoldsAt plan.now result held }
 {
     if empty {
         answering(plan, 0)
@@ -156,7 +170,8 @@ fn settled_release(plan: &ModuleOutline, empty: bool) -> Spot
 
 #[tactic(auto, using(crate::proofs::Places::read_more, crate::proofs::Places::read_end), unfolding(crate::specs::Spots::rest_of))]
 fn settled_read(plan: &ModuleOutline, empty: bool, at: usize) -> Spot
-    ensures { (there : List Bool) → rest_of plan.now result ≡ settled there empty (rest_of plan.now (Reading at)) }
+    ensures rest { (there : List Bool) → rest_of plan.now result ≡ settled there empty (rest_of plan.now (Reading at)) }
+    ensures held { (held : List ℕ) → empty ≡ is_empty held → held ≡ plan.now.batch → HoldsAt plan.now result held }
 {
     if at < plan.reads.len() {
         Spot::Reading(at)
@@ -167,7 +182,8 @@ fn settled_read(plan: &ModuleOutline, empty: bool, at: usize) -> Spot
 
 #[tactic(auto, unfolding(crate::specs::Spots::rest_of))]
 fn settled_fetch(plan: &ModuleOutline, there: &[bool], empty: bool, at: usize) -> Spot
-    ensures { rest_of plan.now result ≡ settled there.now empty (rest_of plan.now (Fetching at)) }
+    ensures rest { rest_of plan.now result ≡ settled there.now empty (rest_of plan.now (Fetching at)) }
+    ensures held { (held : List ℕ) → empty ≡ is_empty held → held ≡ plan.now.batch → HoldsAt plan.now result held }
 {
     match absent_from(there, plan.fetch.as_slice(), at) {
         Some(at) => Spot::Fetching(at),
@@ -177,7 +193,8 @@ fn settled_fetch(plan: &ModuleOutline, there: &[bool], empty: bool, at: usize) -
 
 #[tactic(auto, using(crate::proofs::Places::lock_more, crate::proofs::Places::lock_end), unfolding(crate::specs::Spots::rest_of))]
 fn settled_lock(plan: &ModuleOutline, there: &[bool], empty: bool, at: usize) -> Spot
-    ensures { rest_of plan.now result ≡ settled there.now empty (rest_of plan.now (Locking at)) }
+    ensures rest { rest_of plan.now result ≡ settled there.now empty (rest_of plan.now (Locking at)) }
+    ensures held { (held : List ℕ) → empty ≡ is_empty held → held ≡ take at plan.now.batch → HoldsAt plan.now result held }
 {
     if at < plan.batch.len() {
         Spot::Locking(at)
@@ -188,7 +205,8 @@ fn settled_lock(plan: &ModuleOutline, there: &[bool], empty: bool, at: usize) ->
 
 #[tactic(auto, using(crate::proofs::Places::free_empty, crate::proofs::Places::free_held), unfolding(crate::specs::Spots::rest_of))]
 fn settled_free(plan: &ModuleOutline, there: &[bool], empty: bool) -> Spot
-    ensures { rest_of plan.now result ≡ settled there.now empty (rest_of plan.now (Unsharing)) }
+    ensures rest { rest_of plan.now result ≡ settled there.now empty (rest_of plan.now (Unsharing)) }
+    ensures held { (held : List ℕ) → empty ≡ is_empty held → HoldsAt plan.now result held }
 {
     if empty {
         settled_lock(plan, there, empty, 0)
@@ -199,7 +217,8 @@ fn settled_free(plan: &ModuleOutline, there: &[bool], empty: bool) -> Spot
 
 #[tactic(auto, using(crate::proofs::Places::share_more, crate::proofs::Places::share_there, crate::proofs::Places::share_absent), unfolding(crate::specs::Spots::rest_of))]
 fn settled_share(plan: &ModuleOutline, there: &[bool], empty: bool, at: usize) -> Spot
-    ensures { rest_of plan.now result ≡ settled there.now empty (rest_of plan.now (Sharing at)) }
+    ensures rest { rest_of plan.now result ≡ settled there.now empty (rest_of plan.now (Sharing at)) }
+    ensures held { (held : List ℕ) → empty ≡ is_empty held → held ≡ take at plan.now.batch → HoldsAt plan.now result held }
 {
     if at < plan.batch.len() {
         Spot::Sharing(at)
@@ -212,7 +231,8 @@ fn settled_share(plan: &ModuleOutline, there: &[bool], empty: bool, at: usize) -
 
 #[tactic(auto, using(crate::proofs::Places::install_more, crate::proofs::Places::install_held, crate::proofs::Places::install_end), unfolding(crate::specs::Spots::rest_of))]
 fn settled_install(plan: &ModuleOutline, empty: bool, at: usize) -> Spot
-    ensures { (there : List Bool) → rest_of plan.now result ≡ settled there empty (rest_of plan.now (Installing at)) }
+    ensures rest { (there : List Bool) → rest_of plan.now result ≡ settled there empty (rest_of plan.now (Installing at)) }
+    ensures held { (held : List ℕ) → empty ≡ is_empty held → HoldsBehind plan.now (Installing at) held → HoldsAt plan.now result held }
 {
     if at < plan.own.len() || !empty {
         Spot::Installing(at)
@@ -227,6 +247,7 @@ impl Spot {
     fn here(self, plan: &ModuleOutline) -> Spot
         ensures here { rest_of plan.now result ≡ rest_of plan.now (self) }
         ensures placed { IsPlaced plan.now result }
+        ensures same { (held : List ℕ) → HoldsAt plan.now self held → result ≡ self }
     {
         match self {
             Spot::Locking(at) => locking(plan, at),
@@ -241,7 +262,8 @@ impl Spot {
     // The first place from here on that wants an event.
     #[tactic(auto, using(crate::proofs::Places::answering_stays, crate::proofs::Places::securing_stays), unfolding(crate::specs::Spots::rest_of))]
     pub(crate) fn settled(self, plan: &ModuleOutline, there: &[bool], empty: bool) -> Spot
-        ensures { rest_of plan.now result ≡ settled there.now empty (rest_of plan.now (self)) }
+        ensures rest { rest_of plan.now result ≡ settled there.now empty (rest_of plan.now (self)) }
+        ensures held { (held : List ℕ) → empty ≡ is_empty held → HoldsBehind plan.now self held → HoldsAt plan.now result held }
     {
         match self {
             Spot::Sharing(at) => settled_share(plan, there, empty, at),
@@ -260,7 +282,8 @@ impl Spot {
     // The place behind a deed that is due.
     #[tactic(auto, unfolding(crate::specs::Spots::rest_of))]
     pub(crate) fn done(self, plan: &ModuleOutline, deed: Deed) -> Option<Spot>
-        ensures { option_map (rest_of plan.now) result ≡ done (rest_of plan.now self) deed }
+        ensures rest { option_map (rest_of plan.now) result ≡ done (rest_of plan.now self) deed }
+        ensures held { (held : List ℕ) → HoldsAt plan.now self held → (next : Spot) → result ≡ Some next → HoldsThen deed held (HoldsBehind plan.now next) }
     {
         match deed {
             Deed::Take(mode, name) => taken(self.here(plan), plan, mode, name),
@@ -412,7 +435,8 @@ fn is_at(list: &[u32], at: usize, wanted: u32) -> bool
 
 #[tactic(auto, using(crate::proofs::Dues::share_yes, crate::proofs::Dues::share_no, crate::proofs::Dues::share_other), unfolding(crate::specs::Spots::rest_of))]
 fn shared(plan: &ModuleOutline, at: usize, mode: Mode, name: u32) -> Option<Spot>
-    ensures { option_map (rest_of plan.now) result ≡ done (rest_of plan.now (Sharing at)) (Take mode name) }
+    ensures rest { option_map (rest_of plan.now) result ≡ done (rest_of plan.now (Sharing at)) (Take mode name) }
+    ensures held { (held : List ℕ) → HoldsAt plan.now (Sharing at) held → (next : Spot) → result ≡ Some next → HoldsBehind plan.now next (held ++ name ∷ []) }
 {
     match mode {
         Mode::Shared if is_at(plan.batch.as_slice(), at, name) => Some(Spot::Sharing(at + 1)),
@@ -423,7 +447,8 @@ fn shared(plan: &ModuleOutline, at: usize, mode: Mode, name: u32) -> Option<Spot
 #[tactic(auto, using(crate::proofs::Dues::lock_yes, crate::proofs::Dues::lock_no, crate::proofs::Dues::lock_other), unfolding(crate::specs::Spots::rest_of))]
 fn locked(plan: &ModuleOutline, at: usize, mode: Mode, name: u32) -> Option<Spot>
     requires { at < length plan.now.batch }
-    ensures { option_map (rest_of plan.now) result ≡ done (rest_of plan.now (Locking at)) (Take mode name) }
+    ensures rest { option_map (rest_of plan.now) result ≡ done (rest_of plan.now (Locking at)) (Take mode name) }
+    ensures held { (held : List ℕ) → HoldsAt plan.now (Locking at) held → (next : Spot) → result ≡ Some next → HoldsBehind plan.now next (held ++ name ∷ []) }
 {
     match mode {
         Mode::Exclusive if is_at(plan.batch.as_slice(), at, name) => Some(Spot::Locking(at + 1)),
@@ -434,7 +459,8 @@ fn locked(plan: &ModuleOutline, at: usize, mode: Mode, name: u32) -> Option<Spot
 #[tactic(auto, using(crate::proofs::Dues::own_yes, crate::proofs::Dues::own_no, crate::proofs::Dues::own_other), unfolding(crate::specs::Spots::rest_of))]
 fn secured(plan: &ModuleOutline, mode: Mode, name: u32) -> Option<Spot>
     requires { plan.now.installs ≡ true }
-    ensures { option_map (rest_of plan.now) result ≡ done (rest_of plan.now (Securing)) (Take mode name) }
+    ensures rest { option_map (rest_of plan.now) result ≡ done (rest_of plan.now (Securing)) (Take mode name) }
+    ensures held { (held : List ℕ) → HoldsAt plan.now (Securing) held → (next : Spot) → result ≡ Some next → HoldsBehind plan.now next (held ++ name ∷ []) }
 {
     match mode {
         Mode::Exclusive if name == plan.own_name => Some(Spot::Installing(0)),
@@ -445,7 +471,8 @@ fn secured(plan: &ModuleOutline, mode: Mode, name: u32) -> Option<Spot>
 #[tactic(auto, unfolding(crate::specs::Spots::rest_of))]
 fn taken(spot: Spot, plan: &ModuleOutline, mode: Mode, name: u32) -> Option<Spot>
     requires { IsPlaced plan.now spot }
-    ensures { option_map (rest_of plan.now) result ≡ done (rest_of plan.now (spot)) (Take mode name) }
+    ensures rest { option_map (rest_of plan.now) result ≡ done (rest_of plan.now (spot)) (Take mode name) }
+    ensures held { (held : List ℕ) → HoldsAt plan.now (spot) held → (next : Spot) → result ≡ Some next → HoldsBehind plan.now next (held ++ name ∷ []) }
 {
     match spot {
         Spot::Sharing(at) => shared(plan, at, mode, name),
@@ -458,7 +485,8 @@ fn taken(spot: Spot, plan: &ModuleOutline, mode: Mode, name: u32) -> Option<Spot
 #[tactic(auto, unfolding(crate::specs::Spots::rest_of))]
 fn freed(spot: Spot, plan: &ModuleOutline) -> Option<Spot>
     requires { IsPlaced plan.now spot }
-    ensures { option_map (rest_of plan.now) result ≡ done (rest_of plan.now (spot)) (Free) }
+    ensures rest { option_map (rest_of plan.now) result ≡ done (rest_of plan.now (spot)) (Free) }
+    ensures held { (held : List ℕ) → HoldsAt plan.now (spot) held → (n : ℕ) → is_listed n held ≡ true → (next : Spot) → result ≡ Some next → HoldsBehind plan.now next (but n held) }
 {
     match spot {
         Spot::Unsharing => Some(Spot::Unsharing),
@@ -471,7 +499,8 @@ fn freed(spot: Spot, plan: &ModuleOutline) -> Option<Spot>
 // Of the own files the first must be published before.
 #[tactic(auto, using(crate::proofs::Dues::own_freed_yes, crate::proofs::Dues::own_freed_none, crate::proofs::Dues::own_freed_no), unfolding(crate::specs::Spots::rest_of))]
 fn own_freed(plan: &ModuleOutline, at: usize) -> Option<Spot>
-    ensures { option_map (rest_of plan.now) result ≡ done (rest_of plan.now (Installing at)) (Free) }
+    ensures rest { option_map (rest_of plan.now) result ≡ done (rest_of plan.now (Installing at)) (Free) }
+    ensures held { (held : List ℕ) → HoldsAt plan.now (Installing at) held → (n : ℕ) → is_listed n held ≡ true → (next : Spot) → result ≡ Some next → HoldsBehind plan.now next (but n held) }
 {
     if at == 0 && !plan.own.is_empty() {
         None
@@ -483,7 +512,8 @@ fn own_freed(plan: &ModuleOutline, at: usize) -> Option<Spot>
 #[tactic(auto, using(crate::proofs::Dues::read_yes, crate::proofs::Dues::read_no), unfolding(crate::specs::Spots::rest_of))]
 fn read_here(plan: &ModuleOutline, at: usize, file: u32) -> Option<Spot>
     requires { at < length plan.now.reads }
-    ensures { option_map (rest_of plan.now) result ≡ done (rest_of plan.now (Reading at)) (Read file) }
+    ensures rest { option_map (rest_of plan.now) result ≡ done (rest_of plan.now (Reading at)) (Read file) }
+    ensures held { (held : List ℕ) → HoldsAt plan.now (Reading at) held → (next : Spot) → result ≡ Some next → HoldsBehind plan.now next held }
 {
     if is_at(plan.reads.as_slice(), at, file) {
         Some(Spot::Reading(at + 1))
@@ -495,7 +525,8 @@ fn read_here(plan: &ModuleOutline, at: usize, file: u32) -> Option<Spot>
 #[tactic(auto, unfolding(crate::specs::Spots::rest_of))]
 fn read(spot: Spot, plan: &ModuleOutline, file: u32) -> Option<Spot>
     requires { IsPlaced plan.now spot }
-    ensures { option_map (rest_of plan.now) result ≡ done (rest_of plan.now (spot)) (Read file) }
+    ensures rest { option_map (rest_of plan.now) result ≡ done (rest_of plan.now (spot)) (Read file) }
+    ensures held { (held : List ℕ) → HoldsAt plan.now (spot) held → (next : Spot) → result ≡ Some next → HoldsBehind plan.now next held }
 {
     match spot {
         Spot::Reading(at) => read_here(plan, at, file),
@@ -506,7 +537,8 @@ fn read(spot: Spot, plan: &ModuleOutline, file: u32) -> Option<Spot>
 #[tactic(auto, using(crate::proofs::Dues::fetch_yes, crate::proofs::Dues::fetch_no), unfolding(crate::specs::Spots::rest_of))]
 fn fetched(plan: &ModuleOutline, at: usize, file: u32) -> Option<Spot>
     requires { at < length plan.now.fetch }
-    ensures { option_map (rest_of plan.now) result ≡ done (rest_of plan.now (Fetching at)) (Publish file) }
+    ensures rest { option_map (rest_of plan.now) result ≡ done (rest_of plan.now (Fetching at)) (Publish file) }
+    ensures held { (held : List ℕ) → HoldsAt plan.now (Fetching at) held → (next : Spot) → result ≡ Some next → HoldsBehind plan.now next held }
 {
     if is_at(plan.fetch.as_slice(), at, file) {
         Some(Spot::Fetching(at + 1))
@@ -517,7 +549,8 @@ fn fetched(plan: &ModuleOutline, at: usize, file: u32) -> Option<Spot>
 
 #[tactic(auto, using(crate::proofs::Dues::pom_yes, crate::proofs::Dues::pom_no), unfolding(crate::specs::Spots::rest_of))]
 fn pom_published(plan: &ModuleOutline, file: u32) -> Option<Spot>
-    ensures { option_map (rest_of plan.now) result ≡ done (rest_of plan.now (Installing 0)) (Publish file) }
+    ensures rest { option_map (rest_of plan.now) result ≡ done (rest_of plan.now (Installing 0)) (Publish file) }
+    ensures held { (held : List ℕ) → HoldsAt plan.now (Installing 0) held → (next : Spot) → result ≡ Some next → HoldsBehind plan.now next held }
 {
     if is_at(plan.own.as_slice(), 0, file) {
         Some(Spot::Installing(1))
@@ -530,7 +563,8 @@ fn pom_published(plan: &ModuleOutline, file: u32) -> Option<Spot>
 #[tactic(auto, using(crate::proofs::Dues::found_own, crate::proofs::Dues::no_own), unfolding(crate::specs::Spots::rest_of))]
 fn own_published(plan: &ModuleOutline, at: usize, file: u32) -> Option<Spot>
     requires { 0 < at }
-    ensures { option_map (rest_of plan.now) result ≡ done (rest_of plan.now (Installing at)) (Publish file) }
+    ensures rest { option_map (rest_of plan.now) result ≡ done (rest_of plan.now (Installing at)) (Publish file) }
+    ensures held { (held : List ℕ) → HoldsAt plan.now (Installing at) held → (next : Spot) → result ≡ Some next → HoldsBehind plan.now next held }
 {
     match place_from(plan.own.as_slice(), at, file) {
         Some(place) => Some(Spot::Installing(place + 1)),
@@ -541,7 +575,8 @@ fn own_published(plan: &ModuleOutline, at: usize, file: u32) -> Option<Spot>
 #[tactic(auto, unfolding(crate::specs::Spots::rest_of))]
 fn published(spot: Spot, plan: &ModuleOutline, file: u32) -> Option<Spot>
     requires { IsPlaced plan.now spot }
-    ensures { option_map (rest_of plan.now) result ≡ done (rest_of plan.now (spot)) (Publish file) }
+    ensures rest { option_map (rest_of plan.now) result ≡ done (rest_of plan.now (spot)) (Publish file) }
+    ensures held { (held : List ℕ) → HoldsAt plan.now (spot) held → (next : Spot) → result ≡ Some next → HoldsBehind plan.now next held }
 {
     match spot {
         Spot::Fetching(at) => fetched(plan, at, file),
@@ -554,7 +589,8 @@ fn published(spot: Spot, plan: &ModuleOutline, file: u32) -> Option<Spot>
 #[tactic(auto, using(crate::proofs::Dues::answer_yes, crate::proofs::Dues::answer_no), unfolding(crate::specs::Spots::rest_of))]
 fn answer_at(plan: &ModuleOutline, at: usize, goal: u32) -> Option<Spot>
     requires { at < plan.now.goals }
-    ensures { option_map (rest_of plan.now) result ≡ done (rest_of plan.now (Answering at)) (Answer goal) }
+    ensures rest { option_map (rest_of plan.now) result ≡ done (rest_of plan.now (Answering at)) (Answer goal) }
+    ensures held { (held : List ℕ) → HoldsAt plan.now (Answering at) held → (next : Spot) → result ≡ Some next → HoldsBehind plan.now next held }
 {
     if at < plan.goals && goal as usize == at {
         Some(Spot::Answering(at + 1))
@@ -566,7 +602,8 @@ fn answer_at(plan: &ModuleOutline, at: usize, goal: u32) -> Option<Spot>
 #[tactic(auto, unfolding(crate::specs::Spots::rest_of))]
 fn answered(spot: Spot, plan: &ModuleOutline, goal: u32) -> Option<Spot>
     requires { IsPlaced plan.now spot }
-    ensures { option_map (rest_of plan.now) result ≡ done (rest_of plan.now (spot)) (Answer goal) }
+    ensures rest { option_map (rest_of plan.now) result ≡ done (rest_of plan.now (spot)) (Answer goal) }
+    ensures held { (held : List ℕ) → HoldsAt plan.now (spot) held → (next : Spot) → result ≡ Some next → HoldsBehind plan.now next held }
 {
     match spot {
         Spot::Answering(at) => answer_at(plan, at, goal),

@@ -1,9 +1,10 @@
 // Where a build stands, and each step of it.
-ghost use Rattle.std.specs.Prelude.{◌≡◌, ◌<◌, not, All, [], find, map, replicate, vec_capacity, IfOk};
+ghost use Rattle.std.specs.Prelude.{◌≡◌, ◌<◌, slice_index_or, not, All, [], find, map, replicate, vec_capacity, IfOk};
 ghost use Rattle.event_core.specs.declared.outline.Outline.{Outline};
 ghost use Rattle.event_core.specs.Standing.{at_first, course_of, first_lost, first_not_built, held_by, is_done, is_empty, is_lost, is_over, is_waiting, progress_of, state_of};
+ghost use Rattle.event_core.specs.declared.way.Way.TheVariants.{Idle};
 ghost use Rattle.event_core.specs.Spots.{course_at};
-ghost use Rattle.event_core.specs.Stands.{now_in};
+ghost use Rattle.event_core.specs.Stands.{IsHolding, now_in};
 
 use crate::outline::Outline;
 use crate::progress::Progress;
@@ -133,6 +134,7 @@ impl Stand {
     pub(crate) fn new(alloc: Global, outline: &Outline) -> Mem<Stand>
         ensures at { IfOk result (λ stand. now_in outline.now stand ≡ at_first outline.now) }
         ensures room { IfOk result (λ stand. All (λ names. outline.now.names < vec_capacity names) stand.held.items) }
+        ensures holding { IfOk result (IsHolding outline.now) }
     {
         let progress = vec![in alloc; Progress::Waiting; outline.modules.len()]?;
         let ways = vec![in alloc; Way::Idle; outline.workers as usize]?;
@@ -149,7 +151,8 @@ impl Stand {
     }
 
     pub(crate) fn way(&self, worker: u32) -> Way
-        ensures { (outline : Outline) → course_at outline result ≡ course_of (now_in outline self.now) worker }
+        ensures at { (outline : Outline) → course_at outline result ≡ course_of (now_in outline self.now) worker }
+        ensures item { result ≡ slice_index_or self.now.ways.items worker Idle }
     {
         self.ways.get(worker as usize).copied().unwrap_or(Way::Idle)
     }

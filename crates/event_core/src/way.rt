@@ -1,10 +1,15 @@
 // What a worker is at, and what may come next there.
-ghost use Rattle.std.specs.Prelude.{◌≡◌, ◌&&◌, ℕ, List, None, option_map, option_and_then};
+ghost use Rattle.std.specs.Prelude.{◌≡◌, ◌&&◌, ℕ, List, [], true, slice_get, Some, None, option_map, option_and_then};
 ghost use Rattle.event_core.specs.declared.outline.Outline.{Outline};
 ghost use Rattle.event_core.specs.Scripts.{done, head, is_gathered, is_to_install, may_end, published_by, read_by, settled, stage_of, wanted};
 ghost use Rattle.event_core.specs.Standing.{after_deed, after_free, goals_of, is_empty, module_of, on_course, start_of};
 ghost use Rattle.event_core.specs.Enabled.{goal_in_range, is_due, is_this, may_end_so, needs_artifact, off_ends, on_ends};
 ghost use Rattle.event_core.specs.Causes.{missing_due, publish_due, read_due, stage_at};
+ghost use Rattle.event_core.specs.declared.outline.ModuleOutline.{ModuleOutline};
+ghost use Rattle.event_core.specs.declared.spot.Spot.{Spot};
+ghost use Rattle.event_core.specs.Climbing.{but};
+ghost use Rattle.event_core.specs.Holding.{HoldsAt, HoldsBehind, HoldsThen, IsHeldThen, WayHolds};
+ghost use Rattle.event_core.specs.Outlines.{is_listed};
 ghost use Rattle.event_core.specs.Spots.{course_at, script_at};
 
 use crate::deed::Deed;
@@ -31,7 +36,8 @@ pub enum Way {
 }
 
 fn done_at(outline: &Outline, number: u32, spot: Spot, deed: Deed) -> Option<Spot>
-    ensures { option_map (script_at outline.now number) result ≡ done (script_at outline.now number spot) deed }
+    ensures rest { option_map (script_at outline.now number) result ≡ done (script_at outline.now number spot) deed }
+    ensures held { (held : List ℕ) (m : ModuleOutline) → slice_get outline.now.modules number ≡ Some m → HoldsAt m spot held → (next : Spot) → result ≡ Some next → HoldsThen deed held (HoldsBehind m next) }
 {
     match outline.modules.get(number as usize) {
         Some(plan) => spot.done(plan, deed),
@@ -40,7 +46,8 @@ fn done_at(outline: &Outline, number: u32, spot: Spot, deed: Deed) -> Option<Spo
 }
 
 fn settled_at(outline: &Outline, there: &[bool], empty: bool, number: u32, spot: Spot) -> Spot
-    ensures { script_at outline.now number result ≡ settled there.now empty (script_at outline.now number spot) }
+    ensures rest { script_at outline.now number result ≡ settled there.now empty (script_at outline.now number spot) }
+    ensures held { (held : List ℕ) (m : ModuleOutline) → slice_get outline.now.modules number ≡ Some m → empty ≡ is_empty held → HoldsBehind m spot held → HoldsAt m result held }
 {
     match outline.modules.get(number as usize) {
         Some(plan) => spot.settled(plan, there, empty),
@@ -167,7 +174,8 @@ fn off_ends(missing: Option<u32>, gathered: bool, ending: Ending) -> bool
 impl Way {
     // A module from its first place on that wants an event.
     pub(crate) fn begun(outline: &Outline, there: &[bool], empty: bool, number: u32) -> Way
-        ensures { course_at outline.now result ≡ on_course number (settled there.now empty (start_of outline.now number)) None }
+        ensures at { course_at outline.now result ≡ on_course number (settled there.now empty (start_of outline.now number)) None }
+        ensures held { empty ≡ true → WayHolds outline.now result [] }
     {
         let spot = settled_at(outline, there, empty, number, Spot::Sharing(0));
         Way::On {
@@ -274,7 +282,8 @@ impl Way {
         deed: Deed,
         answer: Option<u32>,
     ) -> Way
-        ensures { (held : List ℕ) → empty ≡ is_empty held → course_at outline.now result ≡ after_deed there.now held deed answer (course_at outline.now self) }
+        ensures at { (held : List ℕ) → empty ≡ is_empty held → course_at outline.now result ≡ after_deed there.now held deed answer (course_at outline.now self) }
+        ensures held { (before held : List ℕ) → WayHolds outline.now self before → is_due (course_at outline.now self) deed ≡ true → IsHeldThen deed before held → empty ≡ is_empty held → WayHolds outline.now result held }
     {
         match self {
             Way::On { module, spot, .. } => match done_at(outline, module, spot, deed) {
@@ -291,7 +300,8 @@ impl Way {
 
     // And behind a free: one that isn't due leaves the script.
     pub(crate) fn after_free(self, outline: &Outline, there: &[bool], empty: bool) -> Way
-        ensures { (held : List ℕ) → empty ≡ is_empty held → course_at outline.now result ≡ after_free outline.now there.now held (course_at outline.now self) }
+        ensures at { (held : List ℕ) → empty ≡ is_empty held → course_at outline.now result ≡ after_free outline.now there.now held (course_at outline.now self) }
+        ensures held { (before : List ℕ) (n : ℕ) → WayHolds outline.now self before → is_listed n before ≡ true → empty ≡ is_empty (but n before) → WayHolds outline.now result (but n before) }
     {
         match self {
             Way::On { module, spot, .. } => match done_at(outline, module, spot, Deed::Free) {

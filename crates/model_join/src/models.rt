@@ -55,18 +55,39 @@ fn build(alloc: Global) -> Build {
     }
 }
 
+// The texts of a model.
+#[derive(Drop)]
+struct Texts {
+    path: Text,
+    artifact: Text,
+    packaging: Text,
+}
+
+fn made_texts(alloc: Global) -> Mem<Texts> {
+    let path = text(alloc, "pom.xml")?;
+    let artifact = text(alloc, "app")?;
+    let packaging = text(alloc, "jar")?;
+    Ok(Texts {
+        path,
+        artifact,
+        packaging,
+    })
+}
+
 fn model(
     alloc: Global,
+    texts: Texts,
     properties: List<Pair>,
     dependencies: List<Dependency>,
     profiles: List<Profile>,
-    packaging: &str,
-) -> Mem<RawModel> {
-    let pom = PomId::Path(text(alloc, "pom.xml")?);
-    let artifact = text(alloc, "app")?;
-    let packaging = text(alloc, packaging)?;
-    Ok(RawModel {
-        pom,
+) -> RawModel {
+    let Texts {
+        path,
+        artifact,
+        packaging,
+    } = texts;
+    RawModel {
+        pom: PomId::Path(path),
         parent: None,
         group: None,
         artifact,
@@ -78,24 +99,26 @@ fn model(
         dependencies,
         build: build(alloc),
         profiles,
-    })
+    }
 }
 
-// A model that has dependencies alone.
-fn with_dependencies(
-    alloc: Global,
-    list: List<Dependency>,
-    profiles: List<Profile>,
-) -> Mem<RawModel> {
-    model(alloc, List::new(alloc), list, profiles, "jar")
+// A model that has some dependencies alone.
+fn with_dependencies(alloc: Global, from: u32, to: u32) -> Mem<RawModel> {
+    let texts = made_texts(alloc)?;
+    let list = dependencies(alloc, from, to)?;
+    Ok(model(alloc, texts, List::new(alloc), list, List::new(alloc)))
+}
+
+fn count_inherited(alloc: Global, child: &RawModel, parent: &RawModel) -> Mem<usize> {
+    let whole = inherit(alloc, child, parent)?;
+    Ok(whole.dependencies.len())
 }
 
 /// How many dependencies a model of a number has over one of as many, half of them shared.
 pub(crate) fn inherited(alloc: Global, number: u32) -> Mem<usize> {
-    let half = number / 2;
-    let child = with_dependencies(alloc, dependencies(alloc, half, number)?, List::new(alloc))?;
-    let parent = with_dependencies(alloc, dependencies(alloc, 0, number)?, List::new(alloc))?;
-    Ok(inherit(alloc, &child, &parent)?.dependencies.len())
+    let child = with_dependencies(alloc, number / 2, number)?;
+    let parent = with_dependencies(alloc, 0, number)?;
+    count_inherited(alloc, &child, &parent)
 }
 
 fn profile(alloc: Global, dependencies: List<Dependency>) -> Mem<Profile> {
@@ -112,13 +135,29 @@ fn profile(alloc: Global, dependencies: List<Dependency>) -> Mem<Profile> {
     })
 }
 
+// A profile that has some dependencies.
+fn profiles(alloc: Global, from: u32, to: u32) -> Mem<List<Profile>> {
+    let mut list = List::new(alloc);
+    list.push(profile(alloc, dependencies(alloc, from, to)?)?)?;
+    Ok(list)
+}
+
+fn with_profile(alloc: Global, number: u32) -> Mem<RawModel> {
+    let texts = made_texts(alloc)?;
+    let profiles = profiles(alloc, number / 2, number)?;
+    let list = dependencies(alloc, 0, number)?;
+    Ok(model(alloc, texts, List::new(alloc), list, profiles))
+}
+
+fn count_injected(alloc: Global, raw: &RawModel) -> Mem<usize> {
+    let whole = inject(alloc, raw, &[0])?;
+    Ok(whole.dependencies.len())
+}
+
 /// How many a model of a number has with a profile of half as many, which it shares.
 pub(crate) fn injected(alloc: Global, number: u32) -> Mem<usize> {
-    let half = number / 2;
-    let mut profiles = List::new(alloc);
-    profiles.push(profile(alloc, dependencies(alloc, half, number)?)?)?;
-    let raw = with_dependencies(alloc, dependencies(alloc, 0, number)?, profiles)?;
-    Ok(inject(alloc, &raw, &[0])?.dependencies.len())
+    let raw = with_profile(alloc, number)?;
+    count_injected(alloc, &raw)
 }
 
 fn machine(alloc: Global) -> Mem<Machine> {
@@ -145,14 +184,23 @@ fn push(alloc: Global, list: &mut List<Pair>, number: u32, value: Text) -> Mem<(
     list.push(Pair { name, value })
 }
 
+fn with_properties(alloc: Global, properties: List<Pair>) -> Mem<RawModel> {
+    let texts = made_texts(alloc)?;
+    Ok(model(alloc, texts, properties, List::new(alloc), List::new(alloc)))
+}
+
+fn bytes_filled(alloc: Global, raw: &RawModel, machine: &Machine) -> usize {
+    match fill(alloc, raw, None, machine, &[]) {
+        Ok(model) => bytes_of(&model.properties),
+        Err(_) => 0,
+    }
+}
+
 // How many bytes the properties of a model have when they are filled.
 fn filled(alloc: Global, properties: List<Pair>) -> Mem<usize> {
+    let raw = with_properties(alloc, properties)?;
     let machine = machine(alloc)?;
-    let raw = model(alloc, properties, List::new(alloc), List::new(alloc), "jar")?;
-    match fill(alloc, &raw, None, &machine, &[]) {
-        Ok(model) => Ok(bytes_of(&model.properties)),
-        Err(_) => Ok(0),
-    }
+    Ok(bytes_filled(alloc, &raw, &machine))
 }
 
 fn bytes_of(properties: &List<Pair>) -> usize {
@@ -163,29 +211,36 @@ fn bytes_of(properties: &List<Pair>) -> usize {
     bytes
 }
 
+// What names the next of so many properties; the last is one byte.
+fn naming(alloc: Global, at: u32, number: u32) -> Mem<Text> {
+    if at < number.saturating_sub(1) {
+        let next = at + 1;
+        return Ok(Text::of(format!(in alloc; "${{p{next}}}")?));
+    }
+    text(alloc, "x")
+}
+
 /// How many bytes so many properties come to, each of which names the next one; the last is one byte.
 pub(crate) fn chained(alloc: Global, number: u32) -> Mem<usize> {
     let mut list = List::new(alloc);
     for at in 0..number {
-        let value = if at + 1 < number {
-            let next = at + 1;
-            Text::of(format!(in alloc; "${{p{next}}}")?)
-        } else {
-            text(alloc, "x")?
-        };
-        push(alloc, &mut list, at, value)?;
+        push(alloc, &mut list, at, naming(alloc, at, number)?)?;
     }
     filled(alloc, list)
 }
 
-/// How many bytes so many properties come to, each of which names one of 65,536 bytes.
-pub(crate) fn long(alloc: Global, number: u32) -> Mem<usize> {
+fn of_65536_bytes(alloc: Global) -> Mem<Text> {
     let mut whole = String::new(alloc);
     for _ in 0..65536u32 {
         whole.push('x')?;
     }
+    Ok(Text::of(whole))
+}
+
+/// How many bytes so many properties come to, each of which names one of 65,536 bytes.
+pub(crate) fn long(alloc: Global, number: u32) -> Mem<usize> {
     let mut list = List::new(alloc);
-    push(alloc, &mut list, 0, Text::of(whole))?;
+    push(alloc, &mut list, 0, of_65536_bytes(alloc)?)?;
     for at in 1..number {
         push(alloc, &mut list, at, text(alloc, "${p0}")?)?;
     }

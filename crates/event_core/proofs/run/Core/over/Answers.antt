@@ -1,9 +1,10 @@
 use Rattle.std.proofs.Common.{◌≡◌, ◌≤◌, ◌+◌, [], List, length, arith, sym, ap, subst, ◌∙◌}
 use Rattle.build_core.specs.declared.event.Event.{Event}
 use Rattle.event_core.specs.Bounds.{events_left}
-use Rattle.event_core.specs.Fitting.{IsFit}
+use Rattle.event_core.specs.Fitting.{IsFit, IsTied}
 use Rattle.event_core.specs.Standing.{now_of}
 use Rattle.event_core.proofs.Fits.{fit_first, most_first}
+use Rattle.event_core.proofs.Ties.{tied_first}
 use Rattle.event_core.proofs.run.Core.over.Goals as goal
 
 pub invariant_of-result : goal.invariant_of-result
@@ -14,6 +15,8 @@ invariant_of-result c =
     record {
       same = c.in_ok-stand.ensures.at ∙ ap (now_of o) (sym none);
       fit = subst (λ t. IsFit o (now_of o t)) (sym none) (fit_first o);
+      tied = subst (λ t. IsTied o (now_of o t)) (sym none) (tied_first o);
+      holding = c.in_ok-stand.ensures.holding;
       room = c.in_ok-stand.ensures.room;
       kept = omega (arith, c.in_ok-history.ensures.exact);
       few = c.requires.few;

@@ -7,11 +7,11 @@ use Rattle.event_core.proofs.stand.Stand.close.Goals as goal
 pub returns-in-Some-clause-at : goal.returns-in-Some-clause-at
 returns-in-Some-clause-at c = λ outline.
     let now = now_in outline c.args.self.now in
-    let is = sym (sym c.in-Some.is ∙ c.module.ensures outline ∙ ap module_of (c.way.ensures outline)) in
+    let is = sym (sym c.in-Some.is ∙ c.module.ensures outline ∙ ap module_of (c.way.ensures.at outline)) in
     ap (λ progress. record now { progress = progress }) (c.set_progress.ensures ∙ ap (λ m. ended m c.args.ending now.progress) (sym is))
 
 pub returns-in-None-clause-at : goal.returns-in-None-clause-at
 returns-in-None-clause-at c = λ outline.
     let now = now_in outline c.args.self.now in
-    let is = sym (sym c.in-None.is ∙ c.module.ensures outline ∙ ap module_of (c.way.ensures outline)) in
+    let is = sym (sym c.in-None.is ∙ c.module.ensures outline ∙ ap module_of (c.way.ensures.at outline)) in
     ap (λ progress. record now { progress = progress }) (ap (λ m. ended m c.args.ending now.progress) (sym is))

@@ -36,3 +36,12 @@ returns-in-Free-clause-room c = c.free.ensures.capacity c.args.outline.now.names
 pub returns-in-End-clause-at : goal.returns-in-End-clause-at
 unfolding after
 returns-in-End-clause-at c = c.end.ensures.at c.args.outline.now ∙ ap (after c.args.outline.now (now_in c.args.outline.now c.args.self.now)) (sym c.in-End.is)
+
+pub returns-in-Skip-clause-holding : goal.returns-in-Skip-clause-holding
+returns-in-Skip-clause-holding c = c.skip.ensures.holding c.args.outline.now
+
+pub returns-in-End-clause-holding : goal.returns-in-End-clause-holding
+returns-in-End-clause-holding c = λ holding.
+    let o = c.args.outline.now in
+    let is = subst (IsEnabled o (now_in o c.args.self.now)) c.in-End.is c.requires.enabled in
+    c.end.ensures.holding o holding is.2

@@ -8,7 +8,7 @@ pub returns-then-holds_none : goal.returns-then-holds_none
 returns-then-holds_none c =
     let o = c.args.outline.now in
     c.may_end.ensures
-    ∙ ap (λ course. may_end_so o course c.args.ending) (c.way.ensures o)
+    ∙ ap (λ course. may_end_so o course c.args.ending) (c.way.ensures.at o)
     ∙ ap (λ b. b && may_end_so o (course_of (now_in o c.args.self.now) c.args.worker) c.args.ending) (sym (sym (c.holds_none.ensures o) ∙ c.if-holds_none.true))
 
 pub returns-else-holds_none : goal.returns-else-holds_none

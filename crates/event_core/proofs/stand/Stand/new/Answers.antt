@@ -5,6 +5,7 @@ use Rattle.event_core.specs.declared.way.Way.TheVariants.{Idle}
 use Rattle.event_core.specs.Standing.{idle}
 use Rattle.event_core.specs.Spots.{course_at}
 use Rattle.event_core.proofs.Climbs.{map_replicate}
+use Rattle.event_core.proofs.Keeping.{first_holding}
 use Rattle.event_core.proofs.stand.Stand.new.Goals as goal
 
 pub returns-clause-at : goal.returns-clause-at
@@ -19,3 +20,8 @@ returns-clause-at c =
     ∙ ap (λ p. record { progress = replicate (length o.modules) Waiting; courses = replicate o.workers idle; held = p; locks = c.in_ok-locks.locks; there = c.in_ok-there.there.items }) c.in_ok-held.ensures.items
     ∙ ap (λ p. record { progress = replicate (length o.modules) Waiting; courses = replicate o.workers idle; held = replicate o.workers []; locks = p; there = c.in_ok-there.there.items }) c.in_ok-locks.ensures
     ∙ ap (λ p. record { progress = replicate (length o.modules) Waiting; courses = replicate o.workers idle; held = replicate o.workers []; locks = none_held o.names o.workers; there = p }) there
+
+pub returns-clause-holding : goal.returns-clause-holding
+returns-clause-holding c =
+    let parts = first_holding c.args.outline.now c.in_ok-ways.ways.items (map (λ names. names.items) c.in_ok-held.held.items) (c.in_ok-ways.ensures.items_if_clones_equal (λ y e. e)) c.in_ok-held.ensures.items in
+    record { all = parts.0; ways = parts.1; rows = parts.2 }

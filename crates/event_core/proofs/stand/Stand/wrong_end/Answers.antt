@@ -10,12 +10,12 @@ returns-then-holds_none c =
     let o = c.args.outline.now in
     let course = course_of (now_in o c.args.self.now) c.args.worker in
     c.free_end.ensures
-    ∙ ap (λ at. free_end at c.args.ending) (c.way-way.ensures o)
+    ∙ ap (λ at. free_end at c.args.ending) (c.way-way.ensures.at o)
     ∙ ap (λ b. if b then free_end course c.args.ending else Stage (stage_at course)) (sym (sym (c.holds_none.ensures o) ∙ c.if-holds_none.true))
 
 pub returns-else-holds_none : goal.returns-else-holds_none
 returns-else-holds_none c =
     let o = c.args.outline.now in
     let course = course_of (now_in o c.args.self.now) c.args.worker in
-    ap (λ n. Stage n) (c.stage.ensures ∙ ap stage_at (c.way-way.ensures o))
+    ap (λ n. Stage n) (c.stage.ensures ∙ ap stage_at (c.way-way.ensures.at o))
     ∙ ap (λ b. if b then free_end course c.args.ending else Stage (stage_at course)) (sym (sym (c.holds_none.ensures o) ∙ c.if-holds_none.false))

@@ -8,11 +8,9 @@ use Rattle.name_locks.specs.Locks.{below}
 use Rattle.name_locks.specs.declared.mode.Mode.TheVariants.{Shared, Exclusive}
 use Rattle.event_core.specs.declared.outline.Outline.{Outline}
 use Rattle.event_core.specs.declared.outline.ModuleOutline.{ModuleOutline}
-use Rattle.event_core.specs.declared.progress.Progress.{Progress}
-use Rattle.event_core.specs.declared.progress.Progress.TheVariants.{Waiting}
 use Rattle.event_core.specs.declared.spot.Spot.TheVariants as spot
 use Rattle.event_core.specs.Scripts.{Script, Step, answers, choice_script, fetches, frees, install_script, is_there, lock_script, may_publish, own_script, read_script, reads, release_script, script_of, settled, step, steps, takes, whole}
-use Rattle.event_core.specs.Standing.{is_over, start_of}
+use Rattle.event_core.specs.Standing.{start_of}
 use Rattle.event_core.specs.Spots.{own_from, rest_of, script_at}
 
 pub steps_end : (stage : ℕ) (f : ℕ → Step) (xs : List ℕ) (i : ℕ) (rest : Script) → length xs ≤ i → steps stage f (drop i xs) rest ≡ rest
@@ -206,14 +204,3 @@ module _ (p : ℕ → Bool) where
 
   pub found_at : (n m : ℕ) → find p (below n) ≡ None → p n ≡ true → n < m → find p (below m) ≡ Some n
   found_at n m none is low = beyond n (m - suc n) m none is (omega (arith, low))
-
--- ---- modules that are over
-
-pub over_more : (xs : List Progress) (i : ℕ) → i < length xs → is_over (get_or xs i Waiting) ≡ true → list_all is_over (drop (i + 1) xs) ≡ list_all is_over (drop i xs)
-over_more xs i low is = sym (at_drop_more (list_all is_over) xs i Waiting low ∙ rw is refl)
-
-pub over_stop : (xs : List Progress) (i : ℕ) → i < length xs → is_over (get_or xs i Waiting) ≡ false → list_all is_over (drop i xs) ≡ false
-over_stop xs i low isnt = at_drop_more (list_all is_over) xs i Waiting low ∙ rw isnt refl
-
-pub over_end : (xs : List Progress) (i : ℕ) → length xs ≤ i → list_all is_over (drop i xs) ≡ true
-over_end xs i far = at_drop_all (list_all is_over) xs i far

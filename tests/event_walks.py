@@ -358,6 +358,18 @@ def number(c):
     return 2000 + state_number(c[1]) if c[0] == 'module' else KIND[c[0]] + c[1] % 100
 
 
+def is_built(p):
+    return p == ('ended', BUILT)
+
+
+def readings(plan, now):
+    waiting = [m for m in range(len(plan['modules'])) if progress(now, m) == 'waiting']
+    ready = [m for m in waiting if all(is_built(progress(now, u)) for u in upstream(plan, m))]
+    lost = [m for m in waiting if any(is_lost(progress(now, u)) for u in upstream(plan, m))]
+    over = all(p == 'skipped' or p[0] == 'ended' for p in now.progress)
+    return [1 + ready[0] if ready else 0, 1 + lost[0] if lost else 0, int(over)] + [state_number(state(plan, now, m)) for m in range(3)]
+
+
 PLACES = [(p % 17, p // 17 % 4, p // 17 // 4) for p in range(17 * 4 * 10)]
 
 
@@ -373,7 +385,7 @@ def walk(seed):
             break
         calm = [p for p in enabled if p[0] < 9]
         part = 0
-        for a in answers:
+        for a in answers + readings(plan, now):
             part = (part * 31 + a) & MASK
         bold = draws.below(8) == 0 or not calm
         chosen = enabled if bold else calm

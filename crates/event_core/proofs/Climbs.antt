@@ -1,5 +1,5 @@
 -- Lists that ascend.
-use Rattle.std.proofs.Common.{◌≡◌, ◌≢◌, ℕ, zero, suc, ◌+◌, ◌<◌, ◌≤◌, Bool, true, false, not, ◌&&◌, ◌||◌, nat_eq, nat_lt, slice_get, None, is_some, List, [], ◌∷◌, ◌++◌, All, length, take, drop, get_or, map, replicate, set, subst, refl, arith, sym, ap, ◌∙◌, if◌then◌else◌}
+use Rattle.std.proofs.Common.{◌≡◌, ℕ, zero, suc, ◌+◌, ◌<◌, ◌≤◌, Bool, true, false, not, ◌&&◌, ◌||◌, nat_eq, nat_lt, slice_get, None, is_some, List, [], ◌∷◌, ◌++◌, All, length, get_or, map, replicate, set, subst, refl, arith, sym, ap, ◌∙◌, if◌then◌else◌}
 use Rattle.std.specs.List.{list_all}
 use Rattle.std.proofs.lemmas.Bool.{eqb-true, false≢true, ltb-true}
 use Rattle.std.proofs.lemmas.Cmp.{nat_eq_equiv}
@@ -7,43 +7,6 @@ use Rattle.std.proofs.lemmas.List.{map-set}
 use Rattle.std.proofs.lemmas.List.Elements.{All-get_or}
 use Rattle.event_core.specs.Climbing.{Climbs, but}
 use Rattle.event_core.specs.Outlines.{is_listed}
-
-pub differs : (a b : ℕ) → a ≢ b → nat_eq a b ≡ false
-differs a b h = by (nat_eq a b) refl
-  where
-    by : (c : Bool) → nat_eq a b ≡ c → nat_eq a b ≡ false
-    by true e = absurd (h (eqb-true a b e))
-    by false e = e
-
--- a name below all of them isn't there
-but_below : (xs : List ℕ) (low name : ℕ) → Climbs low xs → name < low → but name xs ≡ xs
-but_below [] low name climbs below = refl
-but_below (x ∷ xs) low name climbs below =
-    let other : nat_eq x name ≡ false = differs x name (omega (arith, climbs.0, below)) in
-    let again : but name xs ≡ xs = but_below xs (suc x) name climbs.1 (omega (arith, climbs.0, below)) in
-    rw other (ap (λ t. x ∷ t) again)
-
-item_above : (xs : List ℕ) (low i : ℕ) → Climbs low xs → i < length xs → low ≤ get_or xs i 0
-item_above [] low i climbs inside = absurd (omega (arith, inside))
-item_above (x ∷ xs) low zero climbs inside = climbs.0
-item_above (x ∷ xs) low (suc i) climbs inside = let above = item_above xs (suc x) i climbs.1 (omega (arith, inside)) in omega (arith, above, climbs.0)
-
-kept_first : (x name : ℕ) (xs : List ℕ) → nat_eq x name ≡ false → but name (x ∷ xs) ≡ x ∷ but name xs
-kept_first x name xs other = rw other refl
-
-pub but_removed : (xs : List ℕ) (low i : ℕ) → Climbs low xs → i < length xs → but (get_or xs i 0) xs ≡ take i xs ++ drop (i + 1) xs
-but_removed [] low i climbs inside = absurd (omega (arith, inside))
-but_removed (x ∷ xs) low zero climbs inside = rw (nat_eq_equiv.refl x) (but_below xs (suc x) x climbs.1 (omega arith))
-but_removed (x ∷ xs) low (suc i) climbs inside =
-    let above = item_above xs (suc x) i climbs.1 (omega (arith, inside)) in
-    let other : nat_eq x (get_or xs i 0) ≡ false = differs x (get_or xs i 0) (omega (arith, above)) in
-    let next : suc (i + 1) ≡ suc i + 1 = omega arith in
-    kept_first x (get_or xs i 0) xs other ∙ ap (λ t. x ∷ t) (but_removed xs (suc x) i climbs.1 (omega (arith, inside))) ∙ ap (λ k. x ∷ (take i xs ++ drop k (x ∷ xs))) next
-
--- where no item before a place is it
-pub but_none : (xs : List ℕ) (name : ℕ) → ((i : ℕ) → i < length xs → nat_eq (get_or xs i 0) name ≡ false) → but name xs ≡ xs
-but_none [] name none = refl
-but_none (x ∷ xs) name none = rw (none 0 (omega arith)) (ap (λ t. x ∷ t) (but_none xs name (λ i inside. none (suc i) (omega (arith, inside)))))
 
 -- ---- rows
 

@@ -24,7 +24,7 @@ use Rattle.event_core.specs.Fitting.{IsFit}
 use Rattle.event_core.specs.Outlines.{is_listed}
 use Rattle.event_core.specs.Scripts.{settled, script_of, whole}
 use Rattle.event_core.specs.Standing.{Course, Now, after, after_deed, after_free, at_first, course_of, ended, held_by, idle, is_empty, is_waiting, module_of, now_of, off_course, on_course, progress_of, start_of, turned_to}
-use Rattle.event_core.proofs.Climbs.{all_but, all_more, any_default, but_shorter, both, climbs_but, climbs_length, climbs_more, get_map, listed_but, listed_last, listed_more, none_beyond}
+use Rattle.event_core.proofs.Climbs.{all_but, all_more, any_default, but_shorter, both, climbs_but, climbs_more, get_map, listed_but, listed_last, listed_more, none_beyond}
 use Rattle.event_core.proofs.Holding.{free_holds, row_in, take_holds}
 use Rattle.event_core.proofs.Weights.{cost, due_lighter, free_lighter, nothing_is, set_total, settled_lighter, waiting_gone, waiting_set}
 
@@ -278,9 +278,6 @@ long_map f (x ∷ rows) = ap suc (long_map f rows)
 
 pub all_back : {X : Type 0} (f : X → List ℕ) (P : List ℕ → Type 0) (rows : List X) → All P (map f rows) → All (λ x. P (f x)) rows
 all_back f P rows all = λ k d low. subst P (get_map f rows k d) (All-get_or P (map f rows) k (f d) (omega (arith, low, long_map f rows)) all)
-
-pub rows_short : (o : Outline) (now : Now) → IsFit o now → All (λ held. length held ≤ o.names) now.held
-rows_short o now fit = λ k d low. let short = climbs_length (get_or now.held k d) 0 o.names (All-get_or (Climbs 0) now.held k d low fit.climbing) (All-get_or (λ held. list_all (λ h. nat_lt h o.names) held ≡ true) now.held k d low fit.low) (omega arith) in omega (arith, short)
 
 fold_more : {A B : Type 0} (f : B → A → B) (xs : List A) (s : B) (x : A) → fold f s (xs ++ x ∷ []) ≡ f (fold f s xs) x
 fold_more f [] s x = refl

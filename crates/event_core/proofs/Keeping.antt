@@ -1,5 +1,5 @@
 -- What is held at a place, settled and behind a deed.
-use Rattle.std.proofs.Common.{◌≡◌, ℕ, zero, suc, ◌<◌, ◌⊎◌, inl, inr, Bool, true, false, List, [], ◌∷◌, length, get_or, replicate, set, refl, arith, sym, ap, subst, ◌∙◌}
+use Rattle.std.proofs.Common.{◌≡◌, ℕ, zero, suc, ◌<◌, ◌⊎◌, inl, inr, Bool, true, List, [], ◌∷◌, length, get_or, replicate, set, refl, arith, sym, ap, subst, ◌∙◌}
 use Rattle.std.proofs.lemmas.Bool.{false≢true}
 use Rattle.std.proofs.lemmas.List.{get_or-set_other, get_or-set_same, length-replicate, length-set, set-get_or}
 use Rattle.event_core.specs.Holding.{AllHold, HoldsThen, IsHeldThen, WayHolds}
@@ -14,9 +14,6 @@ use Rattle.event_core.specs.Standing.{is_empty}
 pub empty_is : (held : List ℕ) (b : Bool) → b ≡ is_empty held → b ≡ true → held ≡ []
 empty_is [] b e is = refl
 empty_is (x ∷ held) b e is = absurd (false≢true (sym e ∙ is))
-
-pub not_empty : (held : List ℕ) (b : Bool) → b ≡ is_empty held → b ≡ false → is_empty held ≡ false
-not_empty held b e isnt = sym e ∙ isnt
 
 pub then_held : (d : Deed) (before held : List ℕ) (P : List ℕ → Type 0) → IsHeldThen d before held → HoldsThen d before P → P held
 then_held (deed.Take mode name) before held P changed holds = subst P (sym changed) holds

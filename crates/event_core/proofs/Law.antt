@@ -40,7 +40,7 @@ is_below a b low = lt-ltb a b low
 
 -- ---- the last of names that ascend is the greatest
 
-last_more : (x y : ℕ) (ys : List ℕ) → last_of (x ∷ y ∷ ys) ≡ last_of (y ∷ ys)
+pub last_more : (x y : ℕ) (ys : List ℕ) → last_of (x ∷ y ∷ ys) ≡ last_of (y ∷ ys)
 last_more x y ys = let e : length (x ∷ y ∷ ys) - 1 ≡ suc (length (y ∷ ys) - 1) = omega arith in ap (slice_get (x ∷ y ∷ ys)) e
 
 one_below : (x n : ℕ) → (if nat_lt x n then None else Some x) ≡ None → nat_lt x n ≡ true
@@ -50,7 +50,7 @@ one_below x n = by (nat_lt x n)
     by true e = refl
     by false e = absurd (nothing_is x (sym e))
 
-all_below : (xs : List ℕ) (low n : ℕ) → Climbs low xs → not_below n xs ≡ None → list_all (λ h. nat_lt h n) xs ≡ true
+pub all_below : (xs : List ℕ) (low n : ℕ) → Climbs low xs → not_below n xs ≡ None → list_all (λ h. nat_lt h n) xs ≡ true
 all_below [] low n climbs e = refl
 all_below (x ∷ []) low n climbs e = rw (one_below x n e) refl
 all_below (x ∷ y ∷ ys) low n climbs e =
@@ -60,7 +60,7 @@ all_below (x ∷ y ∷ ys) low n climbs e =
     let is : nat_lt x n ≡ true = is_below x n (omega (arith, under, climbs.1.0)) in
     subst (λ b. (b && list_all (λ h. nat_lt h n) (y ∷ ys)) ≡ true) (sym is) again
 
-none_above : (xs : List ℕ) (n : ℕ) → list_all (λ h. nat_lt h n) xs ≡ true → not_below n xs ≡ None
+pub none_above : (xs : List ℕ) (n : ℕ) → list_all (λ h. nat_lt h n) xs ≡ true → not_below n xs ≡ None
 none_above [] n all = refl
 none_above (x ∷ []) n all = let first = both (nat_lt x n) true all in rw first.0 refl
 none_above (x ∷ y ∷ ys) n all =

@@ -1,7 +1,10 @@
+mod Changes
 mod Climbs
 mod Dues
 mod Firsts
 mod Fits
+mod Follows
+mod Fronts
 mod Goings
 mod Holding
 mod Keeping
@@ -10,5 +13,6 @@ mod Most
 mod Places
 mod Readings
 mod Stuck
+mod Taken
 mod Ties
 mod Weights

@@ -172,18 +172,6 @@ start_is o number = by (slice_get o.modules number)
     by None = refl
     by (Some m) = refl
 
--- ---- what a list is searched for
-
-module _ (p : ℕ → Bool) where
-  pub find_more : (xs : List ℕ) (i : ℕ) → i < length xs → p (get_or xs i 0) ≡ false → find p (drop (i + 1) xs) ≡ find p (drop i xs)
-  find_more xs i low isnt = sym (at_drop_more (find p) xs i 0 low ∙ rw isnt refl)
-
-  pub find_stop : (xs : List ℕ) (i : ℕ) → i < length xs → p (get_or xs i 0) ≡ true → find p (drop i xs) ≡ Some (get_or xs i 0)
-  find_stop xs i low is = at_drop_more (find p) xs i 0 low ∙ rw is refl
-
-  pub find_end : (xs : List ℕ) (i : ℕ) → length xs ≤ i → find p (drop i xs) ≡ None
-  find_end xs i far = at_drop_all (find p) xs i far
-
 -- ---- numbers below one
 
 module _ (p : ℕ → Bool) where

@@ -19,7 +19,7 @@ use Rattle.event_core.specs.Enabled.{IsEnabled}
 use Rattle.event_core.specs.Fitting.{IsFit, IsTied}
 use Rattle.event_core.specs.Outlines.{is_listed}
 use Rattle.event_core.specs.Scripts.{Script, done, is_gathered, settled, wanted}
-use Rattle.event_core.specs.Standing.{Course, Now, after, after_deed, after_free, at_first, course_of, ended, goals_of, held_by, idle, is_empty, module_of, off_course, on_course, progress_of, start_of}
+use Rattle.event_core.specs.Standing.{Course, Now, after, after_deed, after_free, at_first, course_of, ended, goals_of, held_by, idle, is_empty, is_over, is_waiting, module_of, off_course, on_course, progress_of, start_of}
 use Rattle.event_core.proofs.Dues.{below_or_not}
 use Rattle.event_core.proofs.Fits.{same_or_not}
 use Rattle.event_core.proofs.Holding.{row_in}
@@ -55,7 +55,7 @@ rows_other (r ∷ rows) zero w (suc k) v x other = refl
 rows_other (r ∷ rows) (suc n) w zero v x other = refl
 rows_other (r ∷ rows) (suc n) w (suc k) v x other = rows_other rows n w k v x (λ e f. other (ap suc e) f)
 
-row_length : (rows : List (List (Option Mode))) (n w : ℕ) (x : Option Mode) (width : ℕ) → n < length rows → All (λ row. length row ≡ width) rows → length (set (row_in rows n) w x) ≡ width
+pub row_length : (rows : List (List (Option Mode))) (n w : ℕ) (x : Option Mode) (width : ℕ) → n < length rows → All (λ row. length row ≡ width) rows → length (set (row_in rows n) w x) ≡ width
 row_length [] n w x width low all = absurd (omega (arith, low))
 row_length (r ∷ rows) zero w x width low all = length-set r w x ∙ all 0 [] (omega arith)
 row_length (r ∷ rows) (suc n) w x width low all = row_length rows n w x width (omega (arith, low)) (λ k d less. all (suc k) d (omega (arith, less)))
@@ -131,6 +131,31 @@ turned_runs o now w course fit tied same m v is = by (same_or_not v w) (tied.run
         (run.0, subst (λ u. module_of (get_or (set now.courses w course) u idle) ≡ Some m) (sym e) (ap module_of (get_or-set_same now.courses w course idle low) ∙ same ∙ subst (λ u. module_of (course_of now u) ≡ Some m) e run.1))
     by (inr other) run = (run.0, ap module_of (get_or-set_other now.courses w v course idle other) ∙ run.1)
 
+-- a course that is put at a worker's place with the module that its own has
+turned_module : (now : Now) (w v : ℕ) (course : Course) → module_of course ≡ module_of (course_of now w) → module_of (get_or (set now.courses w course) v idle) ≡ module_of (course_of now v)
+turned_module now w v course same = by (below_or_not w (length now.courses)) (same_or_not v w)
+  where
+    by : (w < length now.courses) ⊎ (length now.courses ≤ w) → (v ≡ w) ⊎ ((v ≡ w) → ⊥) → module_of (get_or (set now.courses w course) v idle) ≡ module_of (course_of now v)
+    by (inl low) (inl e) = ap (λ u. module_of (get_or (set now.courses w course) u idle)) e ∙ ap module_of (get_or-set_same now.courses w course idle low) ∙ same ∙ ap (λ u. module_of (course_of now u)) (sym e)
+    by (inr far) (inl e) = ap (λ t. module_of (get_or t v idle)) (set_far now.courses w course far)
+    by any (inr other) = ap module_of (get_or-set_other now.courses w v course idle other)
+
+turned_busy : (o : Outline) (now : Now) (w : ℕ) (course : Course) → IsTied o now → module_of course ≡ module_of (course_of now w) → (v m : ℕ) → module_of (get_or (set now.courses w course) v idle) ≡ Some m → progress_of now.progress m ≡ Running v
+turned_busy o now w course tied same v m is = tied.busy v m (sym (turned_module now w v course same) ∙ is)
+
+pub waits_still : (p : Progress) → is_waiting p ≡ true → is_over p ≡ false
+waits_still Waiting e = refl
+waits_still (Running w) e = absurd (false≢true e)
+waits_still Skipped e = absurd (false≢true e)
+waits_still (Ended x) e = absurd (false≢true e)
+
+runs_not : (p : Progress) (w : ℕ) → is_waiting p ≡ true → p ≡ Running w → ⊥
+runs_not p w waits runs = false≢true (sym (ap is_waiting runs) ∙ waits)
+
+-- a module that waits is no worker's
+waits_alone : (o : Outline) (now : Now) (m v k : ℕ) → IsTied o now → is_waiting (progress_of now.progress m) ≡ true → module_of (course_of now v) ≡ Some k → k ≡ m → ⊥
+waits_alone o now m v k tied waits at same = runs_not (progress_of now.progress m) v waits (ap (progress_of now.progress) (sym same) ∙ tied.busy v k at)
+
 abbrev runs_of : Progress → Bool
 runs_of (Running v) = true
 runs_of other = false
@@ -185,6 +210,7 @@ tied_first o = record {
   held = λ w n low is. absurd (none_listed o.workers w n is);
   running = λ m w is. absurd (no_progress (length o.modules) m w is);
   real = λ w m is. absurd (nothing_is m (sym (ap module_of (any_idle o.workers w)) ∙ is));
+  busy = λ w m is. absurd (nothing_is m (sym (ap module_of (any_idle o.workers w)) ∙ is));
 }
 
 -- ---- a name more and a name less
@@ -244,6 +270,7 @@ tied_after o now (event.Start w m) fit tied is = record {
   held = tied.held;
   running = λ k v run. by k v run (same_or_not k m);
   real = turned_real o now w course fit (λ k e. subst (λ j. j < length o.modules) (some_same m k e) is.1) tied.real;
+  busy = λ v k at. begun v k at (same_or_not v w);
 }
   where
     course : Course
@@ -251,6 +278,14 @@ tied_after o now (event.Start w m) fit tied is = record {
 
     at_w : get_or (set now.courses w course) w idle ≡ course
     at_w = get_or-set_same now.courses w course idle (omega (arith, is.0, fit.ways))
+
+    begun : (v k : ℕ) → module_of (get_or (set now.courses w course) v idle) ≡ Some k → (v ≡ w) ⊎ ((v ≡ w) → ⊥) → progress_of (set now.progress m (Running w)) k ≡ Running v
+    begun v k at (inl e) =
+        let whose : m ≡ k = some_same m k (sym (ap module_of at_w) ∙ subst (λ u. module_of (get_or (set now.courses w course) u idle) ≡ Some k) e at) in
+        ap (progress_of (set now.progress m (Running w))) (sym whose) ∙ get_or-set_same now.progress m (Running w) Waiting (omega (arith, is.1, fit.modules)) ∙ ap (λ u. Running u) (sym e)
+    begun v k at (inr other) =
+        let before = sym (ap module_of (get_or-set_other now.courses w v course idle other)) ∙ at in
+        get_or-set_other now.progress m k (Running w) Waiting (waits_alone o now m v k tied is.2 before) ∙ tied.busy v k before
 
     old : (k v : ℕ) → (v < o.workers) × (module_of (course_of now v) ≡ Some k) → (v ≡ w) ⊎ ((v ≡ w) → ⊥) → (v < o.workers) × (module_of (get_or (set now.courses w course) v idle) ≡ Some k)
     old k v run (inl e) = absurd (nothing_is k (sym is.4 ∙ subst (λ u. module_of (course_of now u) ≡ Some k) e run.1))
@@ -262,7 +297,7 @@ tied_after o now (event.Start w m) fit tied is = record {
         let who : w ≡ v = ap worker_of (sym placed ∙ subst (λ j. progress_of (set now.progress m (Running w)) j ≡ Running v) e run) in
         (omega (arith, is.0, who), subst (λ u. module_of (get_or (set now.courses w course) u idle) ≡ Some k) who (ap module_of at_w ∙ ap (λ j. Some j) (sym e)))
     by k v run (inr other) = old k v (tied.running k v (sym (get_or-set_other now.progress m k (Running w) Waiting other) ∙ run)) (same_or_not v w)
-tied_after o now (event.Skip m) fit tied is = record { depth = tied.depth; width = tied.width; held = tied.held; running = λ k v run. tied.running k v (still_runs now m Skipped (λ w e. skipped_rests w e) k v run).1; real = tied.real }
+tied_after o now (event.Skip m) fit tied is = record { depth = tied.depth; width = tied.width; held = tied.held; running = λ k v run. tied.running k v (still_runs now m Skipped (λ w e. skipped_rests w e) k v run).1; real = tied.real; busy = λ v k at. get_or-set_other now.progress m k Skipped Waiting (waits_alone o now m v k tied is.1 at) ∙ tied.busy v k at }
 tied_after o now (event.Take w n mode) fit tied is =
     let mid = record now { held = set now.held w (held_by now w ++ n ∷ []); locks = with_hold now.locks n w (Some mode) } in
     record {
@@ -271,6 +306,7 @@ tied_after o now (event.Take w n mode) fit tied is =
       held = λ v k inside listed. tied_taken o now w n mode fit tied is.0 is.1 v k inside listed;
       running = turned_runs o now w (after_deed now.there (held_by mid w) (deed.Take mode n) None (course_of now w)) fit tied (deed_module now.there (held_by mid w) (deed.Take mode n) None (course_of now w));
       real = turned_real o now w (after_deed now.there (held_by mid w) (deed.Take mode n) None (course_of now w)) fit (λ k e. tied.real w k (sym (deed_module now.there (held_by mid w) (deed.Take mode n) None (course_of now w)) ∙ e)) tied.real;
+      busy = turned_busy o now w (after_deed now.there (held_by mid w) (deed.Take mode n) None (course_of now w)) tied (deed_module now.there (held_by mid w) (deed.Take mode n) None (course_of now w));
     }
 tied_after o now (event.Free w n) fit tied is =
     let mid = record now { held = set now.held w (but n (held_by now w)); locks = with_hold now.locks n w None } in
@@ -280,12 +316,23 @@ tied_after o now (event.Free w n) fit tied is =
       held = λ v k inside listed. tied_freed o now w n fit tied is.0 v k inside listed;
       running = turned_runs o now w (after_free o now.there (held_by mid w) (course_of now w)) fit tied (free_module o now.there (held_by mid w) (course_of now w));
       real = turned_real o now w (after_free o now.there (held_by mid w) (course_of now w)) fit (λ k e. tied.real w k (sym (free_module o now.there (held_by mid w) (course_of now w)) ∙ e)) tied.real;
+      busy = turned_busy o now w (after_free o now.there (held_by mid w) (course_of now w)) tied (free_module o now.there (held_by mid w) (course_of now w));
     }
-tied_after o now (event.Read w f) fit tied is = record { depth = tied.depth; width = tied.width; held = tied.held; running = turned_runs o now w (after_deed now.there (held_by now w) (deed.Read f) None (course_of now w)) fit tied (deed_module now.there (held_by now w) (deed.Read f) None (course_of now w)); real = turned_real o now w (after_deed now.there (held_by now w) (deed.Read f) None (course_of now w)) fit (λ k e. tied.real w k (sym (deed_module now.there (held_by now w) (deed.Read f) None (course_of now w)) ∙ e)) tied.real }
-tied_after o now (event.Publish w f) fit tied is = record { depth = tied.depth; width = tied.width; held = tied.held; running = turned_runs o now w (after_deed (set now.there f true) (held_by now w) (deed.Publish f) None (course_of now w)) fit tied (deed_module (set now.there f true) (held_by now w) (deed.Publish f) None (course_of now w)); real = turned_real o now w (after_deed (set now.there f true) (held_by now w) (deed.Publish f) None (course_of now w)) fit (λ k e. tied.real w k (sym (deed_module (set now.there f true) (held_by now w) (deed.Publish f) None (course_of now w)) ∙ e)) tied.real }
-tied_after o now (event.Answer w g) fit tied is = record { depth = tied.depth; width = tied.width; held = tied.held; running = turned_runs o now w (after_deed now.there (held_by now w) (deed.Answer g) (Some g) (course_of now w)) fit tied (deed_module now.there (held_by now w) (deed.Answer g) (Some g) (course_of now w)); real = turned_real o now w (after_deed now.there (held_by now w) (deed.Answer g) (Some g) (course_of now w)) fit (λ k e. tied.real w k (sym (deed_module now.there (held_by now w) (deed.Answer g) (Some g) (course_of now w)) ∙ e)) tied.real }
-tied_after o now (event.End w e) fit tied is = record { depth = tied.depth; width = tied.width; held = tied.held; running = λ k v run. by (module_of (course_of now w)) refl k v run; real = turned_real o now w idle fit (λ k x. absurd (nothing_is k x)) tied.real }
+tied_after o now (event.Read w f) fit tied is = record { depth = tied.depth; width = tied.width; held = tied.held; running = turned_runs o now w (after_deed now.there (held_by now w) (deed.Read f) None (course_of now w)) fit tied (deed_module now.there (held_by now w) (deed.Read f) None (course_of now w)); real = turned_real o now w (after_deed now.there (held_by now w) (deed.Read f) None (course_of now w)) fit (λ k e. tied.real w k (sym (deed_module now.there (held_by now w) (deed.Read f) None (course_of now w)) ∙ e)) tied.real; busy = turned_busy o now w (after_deed now.there (held_by now w) (deed.Read f) None (course_of now w)) tied (deed_module now.there (held_by now w) (deed.Read f) None (course_of now w)) }
+tied_after o now (event.Publish w f) fit tied is = record { depth = tied.depth; width = tied.width; held = tied.held; running = turned_runs o now w (after_deed (set now.there f true) (held_by now w) (deed.Publish f) None (course_of now w)) fit tied (deed_module (set now.there f true) (held_by now w) (deed.Publish f) None (course_of now w)); real = turned_real o now w (after_deed (set now.there f true) (held_by now w) (deed.Publish f) None (course_of now w)) fit (λ k e. tied.real w k (sym (deed_module (set now.there f true) (held_by now w) (deed.Publish f) None (course_of now w)) ∙ e)) tied.real; busy = turned_busy o now w (after_deed (set now.there f true) (held_by now w) (deed.Publish f) None (course_of now w)) tied (deed_module (set now.there f true) (held_by now w) (deed.Publish f) None (course_of now w)) }
+tied_after o now (event.Answer w g) fit tied is = record { depth = tied.depth; width = tied.width; held = tied.held; running = turned_runs o now w (after_deed now.there (held_by now w) (deed.Answer g) (Some g) (course_of now w)) fit tied (deed_module now.there (held_by now w) (deed.Answer g) (Some g) (course_of now w)); real = turned_real o now w (after_deed now.there (held_by now w) (deed.Answer g) (Some g) (course_of now w)) fit (λ k e. tied.real w k (sym (deed_module now.there (held_by now w) (deed.Answer g) (Some g) (course_of now w)) ∙ e)) tied.real; busy = turned_busy o now w (after_deed now.there (held_by now w) (deed.Answer g) (Some g) (course_of now w)) tied (deed_module now.there (held_by now w) (deed.Answer g) (Some g) (course_of now w)) }
+tied_after o now (event.End w e) fit tied is = record { depth = tied.depth; width = tied.width; held = tied.held; running = λ k v run. by (module_of (course_of now w)) refl k v run; real = turned_real o now w idle fit (λ k x. absurd (nothing_is k x)) tied.real; busy = λ v k at. rests v k at (same_or_not v w) }
   where
+    kept : (m : Option ℕ) → module_of (course_of now w) ≡ m → (v k : ℕ) → (v ≡ w → ⊥) → module_of (course_of now v) ≡ Some k → progress_of (ended m e now.progress) k ≡ progress_of now.progress k
+    kept None at v k other before = refl
+    kept (Some m) at v k other before = get_or-set_other now.progress m k (Ended e) Waiting (λ same. other (ap worker_of (sym (tied.busy v k before) ∙ ap (progress_of now.progress) same ∙ tied.busy w m at)))
+
+    rests : (v k : ℕ) → module_of (get_or (set now.courses w idle) v idle) ≡ Some k → (v ≡ w) ⊎ ((v ≡ w) → ⊥) → progress_of (ended (module_of (course_of now w)) e now.progress) k ≡ Running v
+    rests v k at (inl same) = absurd (nothing_is k (sym (ap module_of (get_or-set_same now.courses w idle idle (omega (arith, is.0, fit.ways)))) ∙ subst (λ u. module_of (get_or (set now.courses w idle) u idle) ≡ Some k) same at))
+    rests v k at (inr other) =
+        let before = sym (ap module_of (get_or-set_other now.courses w v idle idle other)) ∙ at in
+        kept (module_of (course_of now w)) refl v k other before ∙ tied.busy v k before
+
     past : (k v : ℕ) → (v < o.workers) × (module_of (course_of now v) ≡ Some k) → ((v ≡ w) → ⊥) → (v < o.workers) × (module_of (get_or (set now.courses w idle) v idle) ≡ Some k)
     past k v run other = (run.0, ap module_of (get_or-set_other now.courses w v idle idle other) ∙ run.1)
 

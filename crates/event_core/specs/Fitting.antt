@@ -25,3 +25,4 @@ pub record IsTied (o : Outline) (now : Now) : Type 0 where
   pub held : (w n : ℕ) → w < o.workers → is_listed n (held_by now w) ≡ true → is_some (hold now.locks n w) ≡ true
   pub running : (m w : ℕ) → progress_of now.progress m ≡ Running w → (w < o.workers) × (module_of (course_of now w) ≡ Some m)
   pub real : (w m : ℕ) → module_of (course_of now w) ≡ Some m → m < length o.modules
+  pub busy : (w m : ℕ) → module_of (course_of now w) ≡ Some m → progress_of now.progress m ≡ Running w

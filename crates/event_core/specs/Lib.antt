@@ -4,11 +4,17 @@ pub mod Causes
 pub mod Climbing
 pub mod Enabled
 pub mod Fitting
+pub mod Fronts
 pub mod Holding
 pub mod Outlines
 pub mod Going
+pub mod RunExamples
+pub mod Runs
 pub mod Scripts
 pub mod Sound
+pub mod SoundPlans
 pub mod Spots
 pub mod Standing
 pub mod Stands
+pub mod Taken
+pub mod Worlds

@@ -1,31 +1,41 @@
 // Why an event may not come: the first cause, in its order.
-ghost use Rattle.std.specs.Prelude.{◌≡◌, ◌&&◌, None};
+ghost use Rattle.std.specs.Prelude.{◌≡◌, ◌&&◌, ℕ, List, nat_lt, None, Some, if◌then◌else◌};
 ghost use Rattle.name_locks.specs.Locks.{names_of, workers_of};
 ghost use Rattle.event_core.specs.declared.outline.Outline.{Outline};
 ghost use Rattle.event_core.specs.declared.refused.NotEnabled.TheVariants.{Unordered, Upstream, Worker};
+ghost use Rattle.event_core.specs.Fronts.{upstreams};
 ghost use Rattle.event_core.specs.Standing.{Course, course_of, first_not_built, held_by, is_empty, module_of};
 ghost use Rattle.event_core.specs.Enabled.{ending_in_range, is_due, may_end_so};
-ghost use Rattle.event_core.specs.Causes.{answer_cause, begin_cause, by_file, cause_now, end_cause, file_cause, free_cause, free_end, hold_cause, not_below, number_of, skip_cause, stage_at, start_cause, take_cause, unless, where_found, wrong_end};
+ghost use Rattle.event_core.specs.Causes.{answer_cause, begin_cause, by_file, cause_now, end_cause, file_cause, free_cause, free_end, hold_cause, last_of, not_below, number_of, skip_cause, stage_at, start_cause, take_cause, unless, where_found, wrong_end};
 ghost use Rattle.event_core.specs.Spots.{course_at};
 ghost use Rattle.event_core.specs.Stands.{now_in};
 
 use crate::deed::Deed;
 use crate::outline::Outline;
-use crate::progress::Progress;
+use crate::progress::is_waiting;
 use crate::refused::NotEnabled;
-use crate::stand::{Stand, first_lost, first_unbuilt, is_waiting, progress_at, state_of};
+use crate::stand::Stand;
 use crate::way::Way;
 use build_core::{Ending, Event};
 use name_locks::Mode;
 
 // The greatest name that is held, where it isn't below this one.
-fn not_below(held: &[u32], name: u32) -> Option<u32>
-    ensures { result ≡ not_below name held.now }
+fn not_below(greatest: Option<u32>, name: u32) -> Option<u32>
+    ensures { (held : List ℕ) → greatest ≡ last_of held → result ≡ not_below name held }
 {
-    match held.last() {
-        Some(greatest) if *greatest < name => None,
-        Some(greatest) => Some(*greatest),
+    match greatest {
+        Some(greatest) => above(greatest, name),
         None => None,
+    }
+}
+
+fn above(greatest: u32, name: u32) -> Option<u32>
+    ensures { result ≡ (if nat_lt greatest name then None else Some greatest) }
+{
+    if greatest < name {
+        None
+    } else {
+        Some(greatest)
     }
 }
 
@@ -67,6 +77,7 @@ impl Stand {
         worker: u32,
         number: u32,
     ) -> Option<NotEnabled>
+        requires upstreams { self.now.modules.0 ≡ upstreams outline.now }
         ensures { result ≡ start_cause outline.now (now_in outline.now self.now) worker number }
     {
         if worker >= outline.workers {
@@ -75,13 +86,14 @@ impl Stand {
         if number as usize >= outline.modules.len() {
             return Some(NotEnabled::Range(number));
         }
-        if !is_waiting(progress_at(self.progress.as_slice(), number)) {
-            return Some(NotEnabled::Module(state_of(outline, self.progress.as_slice(), number)));
+        if !is_waiting(self.modules.progress(number)) {
+            return Some(NotEnabled::Module(self.modules.state(number)));
         }
         self.begin_cause(outline, worker, number)
     }
 
     fn begin_cause(&self, outline: &Outline, worker: u32, number: u32) -> Option<NotEnabled>
+        requires upstreams { self.now.modules.0 ≡ upstreams outline.now }
         ensures { result ≡ begin_cause outline.now (now_in outline.now self.now) worker number }
     {
         match self.upstream_cause(outline, number) {
@@ -91,9 +103,10 @@ impl Stand {
     }
 
     fn upstream_cause(&self, outline: &Outline, number: u32) -> Option<NotEnabled>
+        requires upstreams { self.now.modules.0 ≡ upstreams outline.now }
         ensures { result ≡ where_found (first_not_built outline.now (now_in outline.now self.now).progress number) (λ u. Upstream u) None }
     {
-        match first_unbuilt(outline, self.progress.as_slice(), number) {
+        match self.modules.first_unbuilt(number) {
             Some(upstream) => Some(NotEnabled::Upstream(upstream)),
             None => None,
         }
@@ -109,18 +122,16 @@ impl Stand {
     }
 
     pub(crate) fn skip_cause(&self, outline: &Outline, number: u32) -> Option<NotEnabled>
+        requires upstreams { self.now.modules.0 ≡ upstreams outline.now }
         ensures { result ≡ skip_cause outline.now (now_in outline.now self.now) number }
     {
         if number as usize >= outline.modules.len() {
             return Some(NotEnabled::Range(number));
         }
-        let progress = self.progress.as_slice();
-        if is_waiting(progress_at(progress, number))
-            && first_lost(outline, progress, number).is_some()
-        {
+        if is_waiting(self.modules.progress(number)) && self.modules.first_lost(number).is_some() {
             return None;
         }
-        Some(NotEnabled::Module(state_of(outline, progress, number)))
+        Some(NotEnabled::Module(self.modules.state(number)))
     }
 
     // Why a deed that no name is taken by may not come: unless it is due, the file that is, or the stage.
@@ -143,11 +154,7 @@ impl Stand {
     fn order_cause(&self, worker: u32, name: u32) -> Option<NotEnabled>
         ensures { (outline : Outline) → result ≡ where_found (not_below name (held_by (now_in outline self.now) worker)) (λ h. Unordered h) None }
     {
-        let greatest = match self.held.get(worker as usize) {
-            Some(names) => not_below(names.as_slice(), name),
-            None => None,
-        };
-        match greatest {
+        match not_below(self.holdings.greatest(worker), name) {
             Some(greatest) => Some(NotEnabled::Unordered(greatest)),
             None => None,
         }
@@ -160,7 +167,7 @@ impl Stand {
         name: u32,
         mode: Mode,
     ) -> Option<NotEnabled>
-        requires seats { (names_of self.now.locks ≡ outline.now.names) × (workers_of self.now.locks ≡ outline.now.workers) }
+        requires seats { (names_of self.now.holdings.0 ≡ outline.now.names) × (workers_of self.now.holdings.0 ≡ outline.now.workers) }
         ensures cause { result ≡ take_cause outline.now (now_in outline.now self.now) worker name mode }
     {
         if worker >= outline.workers {
@@ -169,7 +176,7 @@ impl Stand {
         if name >= outline.names {
             return Some(NotEnabled::Range(name));
         }
-        if let Some(holder) = self.locks.blocker(name, worker, mode) {
+        if let Some(holder) = self.holdings.blocker(name, worker, mode) {
             return Some(NotEnabled::Lock(holder));
         }
         self.hold_cause(outline, worker, name, mode)
@@ -199,7 +206,7 @@ impl Stand {
         if name >= outline.names {
             return Some(NotEnabled::Range(name));
         }
-        if self.locks.holds(name, worker).is_some() {
+        if self.holdings.holds(name, worker).is_some() {
             return None;
         }
         Some(NotEnabled::Stage(self.way(worker).stage(outline)))
@@ -292,7 +299,8 @@ impl Stand {
     /// The first cause for which an event may not come.
     #[tactic(auto, unfolding(crate::specs::Causes::cause_now))]
     pub(crate) fn cause(&self, outline: &Outline, event: Event) -> Option<NotEnabled>
-        requires seats { (names_of self.now.locks ≡ outline.now.names) × (workers_of self.now.locks ≡ outline.now.workers) }
+        requires seats { (names_of self.now.holdings.0 ≡ outline.now.names) × (workers_of self.now.holdings.0 ≡ outline.now.workers) }
+        requires upstreams { self.now.modules.0 ≡ upstreams outline.now }
         ensures cause { result ≡ cause_now outline.now (now_in outline.now self.now) event }
     {
         match event {

@@ -4,6 +4,12 @@
 mod bound;
 mod causes;
 pub mod deed;
+pub mod edges;
+pub mod entry;
+mod follow;
+mod holdings;
+mod marks;
+mod modules;
 mod moves;
 pub mod outline;
 pub mod progress;
@@ -13,6 +19,7 @@ pub mod spot;
 mod stand;
 pub mod way;
 
+pub use entry::{Carried, RunEntry};
 pub use outline::{ModuleOutline, Outline};
 pub use progress::Progress;
 pub use refused::NotEnabled;

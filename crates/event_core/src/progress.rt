@@ -1,3 +1,7 @@
+// How far a module is.
+ghost use Rattle.std.specs.Prelude.{◌≡◌};
+ghost use Rattle.event_core.specs.Standing.{is_done, is_lost, is_over, is_waiting, progress_of};
+
 use build_core::Ending;
 
 /// How far a module is, as a core keeps it. Which upstream a skipped one is skipped for is told when that is asked.
@@ -8,4 +12,48 @@ pub enum Progress {
     Running(u32),
     Skipped,
     Ended(Ending),
+}
+
+pub(crate) fn is_waiting(progress: Progress) -> bool
+    ensures { result ≡ is_waiting progress }
+{
+    match progress {
+        Progress::Waiting => true,
+        _ => false,
+    }
+}
+
+pub(crate) fn is_lost(progress: Progress) -> bool
+    ensures { result ≡ is_lost progress }
+{
+    match progress {
+        Progress::Skipped => true,
+        Progress::Ended(Ending::Built) => false,
+        Progress::Ended(_) => true,
+        _ => false,
+    }
+}
+
+pub(crate) fn is_built(progress: Progress) -> bool
+    ensures { result ≡ is_done progress }
+{
+    match progress {
+        Progress::Ended(Ending::Built) => true,
+        _ => false,
+    }
+}
+
+pub(crate) fn is_over(progress: Progress) -> bool
+    ensures { result ≡ is_over progress }
+{
+    match progress {
+        Progress::Skipped | Progress::Ended(_) => true,
+        _ => false,
+    }
+}
+
+pub(crate) fn progress_at(progress: &[Progress], number: usize) -> Progress
+    ensures { result ≡ progress_of progress.now number }
+{
+    progress.get(number).copied().unwrap_or(Progress::Waiting)
 }

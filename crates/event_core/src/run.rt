@@ -1,5 +1,5 @@
 // A build, event by event.
-ghost use Rattle.std.specs.Prelude.{◌≡◌, ◌<◌, ◌≤◌, ◌^◌, vec_capacity, [], ◌∷◌, ◌++◌, Some, find, length, IfErr, IfOk, OnOk};
+ghost use Rattle.std.specs.Prelude.{◌≡◌, ◌<◌, ◌≤◌, ◌^◌, vec_capacity, [], ◌∷◌, ◌++◌, ◌↔◌, None, Some, find, length, IfErr, IfOk, OnOk};
 ghost use Rattle.name_locks.specs.Locks.{below};
 ghost use Rattle.event_core.specs.Bounds.{most_events};
 ghost use Rattle.event_core.specs.Causes.{cause_now};
@@ -12,7 +12,7 @@ ghost use Rattle.event_core.specs.Standing.{is_complete, is_ready, is_skippable,
 
 use crate::outline::Outline;
 use crate::refused::NotEnabled;
-use crate::stand::{Stand, first_lost, first_unbuilt, is_over, is_waiting, progress_at, state_of};
+use crate::stand::Stand;
 use build_core::{Event, Plan, State};
 use mvn_shared::Mem;
 use std::alloc::Global;
@@ -93,15 +93,16 @@ impl Core {
     /// The first cause for which an event may not come now: none exactly where `step` takes it. Costs what `step` does; takes no
     /// memory. Own.
     pub fn cause(&self, event: Event) -> Option<NotEnabled>
-        ensures { result ≡ cause_now self.now.0 (now_of self.now.0 self.now.1) event }
+        ensures first { result ≡ cause_now self.now.0 (now_of self.now.0 self.now.1) event }
+        ensures none { (result ≡ None) ↔ Enabled self.now.0 self.now.1 event }
     {
         self.first_cause(event)
     }
 
-    /// An event more, where it may come; else the first cause for which it may not, and nothing is changed. Takes no memory. A start and
-    /// a skip cost the module's upstreams, a take the number of workers, a free the names that its worker holds, a publish of an own
-    /// file the own files; the last name of a batch, a fetched file and a start look at files of the fetch list that are there; all else
-    /// is constant, and nothing grows with the events so far. Own.
+    /// An event more, where it may come; else the first cause for which it may not, and nothing is changed. Takes no memory. Constant
+    /// time on the average over a build, but for a take, which costs the number of workers: with each module that ends or is skipped,
+    /// those that it is an upstream of are looked at, each once, and with the last name of a batch, a fetched file and a start the files
+    /// of the fetch list that are there are passed over, each once or twice. Nothing grows with the events so far. Own.
     pub fn step(&mut self, event: Event) -> Result<(), NotEnabled>
         ensures ok { OnOk result (Enabled self.old.0 self.old.1 event × (self.new ≡ (self.old.0, self.old.1 ++ event ∷ []))) }
         ensures err { IfErr result (λ why. (cause_now self.old.0 (now_of self.old.0 self.old.1) event ≡ Some why) × (self.new ≡ self.old)) }
@@ -133,61 +134,26 @@ impl Core {
         self.history.as_slice()
     }
 
-    // Whether a module may begin.
-    fn is_ready(&self, number: u32) -> bool
-        ensures { result ≡ is_ready self.now.0 (now_of self.now.0 self.now.1).progress number }
-    {
-        let progress = self.stand.progress.as_slice();
-        is_waiting(progress_at(progress, number))
-            && first_unbuilt(&self.outline, progress, number).is_none()
-    }
-
-    // Whether a module is to be skipped.
-    fn is_skippable(&self, number: u32) -> bool
-        ensures { result ≡ is_skippable self.now.0 (now_of self.now.0 self.now.1).progress number }
-    {
-        let progress = self.stand.progress.as_slice();
-        is_waiting(progress_at(progress, number))
-            && first_lost(&self.outline, progress, number).is_some()
-    }
-
-    // How many modules there are.
-    fn count(&self) -> u32
-        ensures { result ≡ length self.now.0.modules }
-    {
-        self.outline.modules.len() as u32
-    }
-
-    /// The first waiting module whose upstreams are all built. Takes no memory; costs the plan's edges.
+    /// The first waiting module whose upstreams are all built. Takes no memory; costs a look at words of bits, one for 64 modules.
     pub fn ready(&self) -> Option<u32>
         ensures { result ≡ find (is_ready self.now.0 (now_of self.now.0 self.now.1).progress) (below (length self.now.0.modules)) }
     {
-        for number in 0..self.count() {
-            if self.is_ready(number) {
-                return Some(number);
-            }
-        }
-        None
+        self.stand.modules.ready()
     }
 
-    /// The first waiting module of which an upstream was skipped, or ended otherwise than built. Takes no memory; costs the plan's
-    /// edges.
+    /// The first waiting module of which an upstream was skipped, or ended otherwise than built. Takes no memory; costs a look at words
+    /// of bits, one for 64 modules.
     pub fn skippable(&self) -> Option<u32>
         ensures { result ≡ find (is_skippable self.now.0 (now_of self.now.0 self.now.1).progress) (below (length self.now.0.modules)) }
     {
-        for number in 0..self.count() {
-            if self.is_skippable(number) {
-                return Some(number);
-            }
-        }
-        None
+        self.stand.modules.skippable()
     }
 
-    /// How a module stands. Costs its upstreams where it is skipped, and else constant time.
+    /// How a module stands. Constant time.
     pub fn state(&self, number: u32) -> State
         ensures { result ≡ state_of self.now.0 (now_of self.now.0 self.now.1).progress number }
     {
-        state_of(&self.outline, self.stand.progress.as_slice(), number)
+        self.stand.modules.state(number)
     }
 
     /// Whether a file is there by now. Constant time.
@@ -201,13 +167,10 @@ impl Core {
             .unwrap_or(false)
     }
 
-    /// Whether each module has ended or was skipped. Costs the number of modules.
+    /// Whether each module has ended or was skipped. Constant time.
     pub fn is_complete(&self) -> bool
         ensures { result ≡ is_complete (now_of self.now.0 self.now.1) }
     {
-        self.stand
-            .progress
-            .iter()
-            .all(|progress| is_over(*progress))
+        self.stand.modules.is_complete()
     }
 }

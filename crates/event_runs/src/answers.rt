@@ -110,3 +110,24 @@ pub(crate) fn answer_at(core: &Core, kind: u32, worker: u32, number: u32) -> u32
         None => 0,
     }
 }
+
+// A module's number, or nothing.
+fn module_number(module: Option<u32>) -> u32 {
+    match module {
+        Some(number) => 1 + number % 100,
+        None => 0,
+    }
+}
+
+/// What is told of where a build stands: which module may begin, which is to be skipped, whether all are over, and how the first
+/// modules stand.
+pub(crate) fn told_of(core: &Core) -> [u32; 6] {
+    [
+        module_number(core.ready()),
+        module_number(core.skippable()),
+        core.is_complete() as u32,
+        state_number(core.state(0)),
+        state_number(core.state(1)),
+        state_number(core.state(2)),
+    ]
+}

@@ -110,3 +110,37 @@ pub(crate) fn wide(alloc: Global, count: u32) -> Mem<Outline> {
         events: 8 * count as u64,
     })
 }
+
+// A module that needs nothing but the four before it.
+fn link(alloc: Global, number: u32) -> Mem<ModuleOutline> {
+    let mut upstream = List::new(alloc);
+    for before in number.saturating_sub(4)..number {
+        upstream.push(before)?;
+    }
+    Ok(ModuleOutline {
+        upstream,
+        batch: List::new(alloc),
+        fetch: List::new(alloc),
+        reads: List::new(alloc),
+        goals: 0,
+        own_name: 0,
+        own: List::new(alloc),
+        installs: false,
+        needs_artifact: false,
+    })
+}
+
+/// A build of so many modules, each with the four before it as upstreams, by one worker.
+pub(crate) fn linked(alloc: Global, count: u32) -> Mem<Outline> {
+    let mut modules = List::new(alloc);
+    for number in 0..count {
+        modules.push(link(alloc, number)?)?;
+    }
+    Ok(Outline {
+        modules,
+        names: 1,
+        present: List::new(alloc),
+        workers: 1,
+        events: 2 * count as u64,
+    })
+}

@@ -1,7 +1,8 @@
 //! Walks through builds that are made from numbers, and tells of each what the event core answers. Each line of standard input is a
 //! word and a number: `walk`, a build of at most three modules that is made from the number, of which at each moment every event is
 //! asked for and one that may come is taken; prints a sum over all answers, and the number of events. `long`, so many events of
-//! a build of modules that have nothing but their POM; prints how many were taken.
+//! a build of modules that have nothing but their POM; prints how many were taken. `front`, a build of so many modules, each with the four
+//! before it as upstreams, of which the first that may begin is built, again and again; prints how many were built.
 #![tactic(auto)]
 
 mod answers;
@@ -11,13 +12,14 @@ mod walks;
 
 use mvn_shared::Mem;
 use std::alloc::Global;
-use walks::{long, walk};
+use walks::{front, long, walk};
 
 // What is told of a word and a number.
 fn told(alloc: Global, word: &str, number: u32) -> Mem<(u32, usize)> {
     match word {
         "walk" => walk(alloc, number),
         "long" => Ok((0, long(alloc, number)? as usize)),
+        "front" => Ok((0, front(alloc, number)? as usize)),
         _ => Ok((0, 0)),
     }
 }

@@ -1,6 +1,6 @@
 // Walks through builds.
-use crate::answers::{KINDS, answer_at, event_at};
-use crate::builds::{small, wide};
+use crate::answers::{KINDS, answer_at, event_at, told_of};
+use crate::builds::{linked, small, wide};
 use crate::draws::Draws;
 use build_core::{Ending, Event};
 use event_core::{Core, Outline};
@@ -24,6 +24,15 @@ fn begun(alloc: Global, outline: Outline) -> Mem<Core> {
     Err(OutOfMemory)
 }
 
+// A sum with what is told of where the build stands.
+fn readings(core: &Core, answers: u32) -> u32 {
+    let mut sum = answers;
+    for value in told_of(core) {
+        sum = sum.wrapping_mul(31).wrapping_add(value);
+    }
+    sum
+}
+
 // The sum of all answers, how many events may come, and how many of them are no ends but the good one.
 fn asked(core: &Core) -> (u32, u32, u32) {
     let mut sum = 0u32;
@@ -40,7 +49,7 @@ fn asked(core: &Core) -> (u32, u32, u32) {
             }
         }
     }
-    (sum, enabled, calm)
+    (readings(core, sum), enabled, calm)
 }
 
 // Takes the event, of the first so many kinds, that comes behind so many others that may come.
@@ -130,4 +139,31 @@ pub(crate) fn long(alloc: Global, count: u32) -> Mem<u32> {
         taken = taken.wrapping_add(one_module(&mut core, number));
     }
     Ok(taken)
+}
+
+// A module that needs nothing but its upstreams begins and ends.
+fn through(core: &mut Core, module: u32) -> bool {
+    let begun = core.step(Event::Start { worker: 0, module });
+    let ended = core.step(Event::End {
+        worker: 0,
+        ending: Ending::Built,
+    });
+    begun.is_ok() && ended.is_ok() && core.skippable().is_none()
+}
+
+/// How many of so many modules, each with the four before it as upstreams, were built, each as the first that may begin.
+pub(crate) fn front(alloc: Global, count: u32) -> Mem<u32> {
+    let mut core = begun(alloc, linked(alloc, count)?)?;
+    let mut built = 0u32;
+    for _module in 0..count {
+        match core.ready() {
+            Some(number) => {
+                if through(&mut core, number) {
+                    built = built.wrapping_add(1);
+                }
+            }
+            None => return Ok(built),
+        }
+    }
+    Ok(built)
 }

@@ -17,9 +17,9 @@ invariant_of-result c =
       fit = subst (λ t. IsFit o (now_of o t)) (sym none) (fit_first o);
       tied = subst (λ t. IsTied o (now_of o t)) (sym none) (tied_first o);
       holding = c.in_ok-stand.ensures.holding;
-      room = c.in_ok-stand.ensures.room;
       kept = omega (arith, c.in_ok-history.ensures.exact);
       few = c.requires.few;
+      ups = c.in_ok-stand.ensures.upstreams;
       left = subst (λ (t : List Event). length t + events_left o (now_of o t) ≤ o.events) (sym none) (omega (arith, c.requires.room, first));
     }
 

@@ -10,6 +10,9 @@ use Rattle.event_core.proofs.run.Core.push.Goals as goal
 pub go-requires-clause-fit : goal.go-requires-clause-fit
 go-requires-clause-fit c = let o = c.self.inside.outline in subst (IsFit o) (sym c.self.invariant.same) c.self.invariant.fit
 
+pub go-requires-clause-tied : goal.go-requires-clause-tied
+go-requires-clause-tied c = let o = c.self.inside.outline in subst (IsTied o) (sym c.self.invariant.same) c.self.invariant.tied
+
 pub go-requires-clause-enabled : goal.go-requires-clause-enabled
 unfolding Enabled
 go-requires-clause-enabled c =
@@ -43,9 +46,9 @@ invariant_of-self c =
       fit = subst (λ t. IsFit o (now_of o t)) (sym grown) (subst (IsFit o) (sym next) (fit_after o (now_of o events) e c.self.invariant.fit is));
       tied = subst (λ t. IsTied o (now_of o t)) (sym grown) (subst (IsTied o) (sym next) (tied_after o (now_of o events) e c.self.invariant.fit c.self.invariant.tied is));
       holding = c.go.ensures.holding c.self.invariant.holding;
-      room = c.go.ensures.room;
       kept = omega (arith, c.self.invariant.kept, c.note.ensures.capacity);
       few = c.self.invariant.few;
+      ups = c.go.ensures.upstreams ∙ c.self.invariant.ups;
       left = subst (λ t. length t + events_left o (now_of o t) ≤ o.events) (sym grown) (subst (λ now. length (events ++ e ∷ []) + events_left o now ≤ o.events) (sym next) left);
     }
 

@@ -1,4 +1,4 @@
-use Rattle.std.proofs.Common.{map, slice_set, ap, ◌∙◌}
+use Rattle.std.proofs.Common.{slice_set, ap, ◌∙◌}
 use Rattle.event_core.specs.Standing.{idle, turned_to}
 use Rattle.event_core.proofs.Keeping.{turned_holding}
 use Rattle.event_core.specs.declared.way.Way.TheVariants.{Idle}
@@ -11,6 +11,6 @@ pub returns-clause-holding : goal.returns-clause-holding
 returns-clause-holding c = λ o holding none.
     let old = c.args.self.now in
     let ways = c.turn.ensures.ways ∙ ap (λ ways. slice_set ways.items c.args.worker Idle) c.close.ensures.ways in
-    let held = ap (λ held. map (λ names. names.items) held.items) (c.turn.ensures.held ∙ c.close.ensures.held) in
-    let parts = turned_holding o old.ways.items c.turn.new.self.ways.items (map (λ names. names.items) old.held.items) (map (λ names. names.items) c.turn.new.self.held.items) c.args.worker Idle ways held holding.all holding.ways holding.rows none in
+    let held = ap (λ h. h.1) (c.turn.ensures.holdings ∙ c.close.ensures.holdings) in
+    let parts = turned_holding o old.ways.items c.turn.new.self.ways.items old.holdings.1 c.turn.new.self.holdings.1 c.args.worker Idle ways held holding.all holding.ways holding.rows none in
     record { all = parts.0; ways = parts.1; rows = parts.2 }

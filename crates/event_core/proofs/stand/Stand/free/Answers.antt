@@ -1,4 +1,4 @@
-use Rattle.std.proofs.Common.{◌≡◌, ◌<◌, All, [], get_or, map, slice_set, arith, ap, sym, subst, vec_capacity, ◌∙◌}
+use Rattle.std.proofs.Common.{◌≡◌, [], get_or, arith, ap, sym, subst, ◌∙◌}
 use Rattle.event_core.specs.Climbing.{but}
 use Rattle.event_core.specs.Standing.{after_free, free_done, held_by, is_empty, turned_to}
 use Rattle.event_core.specs.Spots.{course_at}
@@ -12,18 +12,14 @@ pub returns-clause-at : goal.returns-clause-at
 returns-clause-at c =
     let o = c.args.outline.now in
     let now = now_in o c.args.self.now in
-    let mid = record now { held = map (λ names. names.items) c.drop_name.new.held.items; locks = c.free.new.self } in
+    let mid = record now { held = c.free.new.self.1; locks = c.free.new.self.0 } in
     let held = held_by mid c.args.worker in
     c.turn.ensures.at o
     ∙ ap (turned_to mid c.args.worker) (
     c.after_free-way.ensures.at held (c.holds_none-empty.ensures o)
     ∙ ap (λ there. after_free o there held (course_at o c.way-way.result)) c.as_slice.ensures.value
     ∙ ap (after_free o now.there held) (c.way-way.ensures.at o))
-    ∙ ap (λ held. free_done o (record now { held = held; locks = c.free.new.self }) c.args.worker) c.drop_name.ensures.items
-    ∙ ap (λ locks. free_done o (record now { held = slice_set now.held c.args.worker (but c.args.name (held_by now c.args.worker)); locks = locks }) c.args.worker) c.free.ensures
-
-pub returns-clause-capacity : goal.returns-clause-capacity
-returns-clause-capacity c = λ n all. subst (λ held. All (λ names. n < vec_capacity names) held.items) (sym c.turn.ensures.held) (c.drop_name.ensures.capacity n all)
+    ∙ ap (λ h. free_done o (record now { held = h.1; locks = h.0 }) c.args.worker) c.free.ensures
 
 pub returns-clause-holding : goal.returns-clause-holding
 returns-clause-holding c = λ holding low listed.
@@ -31,12 +27,12 @@ returns-clause-holding c = λ holding low listed.
     let old = c.args.self.now in
     let w = c.args.worker in
     let n = c.args.name in
-    let before = map (λ names. names.items) old.held.items in
-    let now = record (now_in o old) { held = map (λ names. names.items) c.drop_name.new.held.items; locks = c.free.new.self } in
+    let before = old.holdings.1 in
+    let now = record (now_in o old) { held = c.free.new.self.1; locks = c.free.new.self.0 } in
     let names = but n (get_or before w []) in
-    let row : held_by now w ≡ names = ap (λ held. get_or held w []) c.drop_name.ensures.items ∙ get_or-set_same before w names [] (omega (arith, low, holding.rows)) in
+    let row : held_by now w ≡ names = ap (λ h. get_or h.1 w []) c.free.ensures ∙ get_or-set_same before w names [] (omega (arith, low, holding.rows)) in
     let empty = c.holds_none-empty.ensures o ∙ ap is_empty row in
     let here = c.after_free-way.ensures.held (get_or before w []) n (subst (λ x. WayHolds o x (get_or before w [])) (sym c.way-way.ensures.item) (holding.all w low)) listed empty in
-    let held = ap (λ held. map (λ names. names.items) held.items) c.turn.ensures.held ∙ c.drop_name.ensures.items in
-    let parts = changed_holding o old.ways.items c.turn.new.self.ways.items before (map (λ names. names.items) c.turn.new.self.held.items) w c.after_free-way.result names c.turn.ensures.ways held holding.all holding.ways holding.rows here in
+    let held = ap (λ h. h.1) c.turn.ensures.holdings ∙ ap (λ h. h.1) c.free.ensures in
+    let parts = changed_holding o old.ways.items c.turn.new.self.ways.items before c.turn.new.self.holdings.1 w c.after_free-way.result names c.turn.ensures.ways held holding.all holding.ways holding.rows here in
     record { all = parts.0; ways = parts.1; rows = parts.2 }

@@ -1,9 +1,9 @@
-use Rattle.std.proofs.Common.{◌≤◌, length, arith, sym, ap, subst, ◌∙◌}
-use Rattle.event_core.specs.Climbing.{Climbs}
+use Rattle.std.proofs.Common.{arith, sym, ap, subst, ◌∙◌}
 use Rattle.event_core.specs.Enabled.{IsEnabled}
-use Rattle.event_core.specs.Standing.{after}
+use Rattle.event_core.specs.Standing.{after, is_over, progress_of}
 use Rattle.event_core.specs.Stands.{now_in}
-use Rattle.event_core.proofs.Fits.{all_back, hold_none, rows_short}
+use Rattle.event_core.proofs.Fits.{hold_none}
+use Rattle.event_core.proofs.Ties.{waits_still}
 use Rattle.event_core.proofs.stand.Stand.go.Goals as goal
 
 pub take-requires-clause-free : goal.take-requires-clause-free
@@ -13,25 +13,34 @@ take-requires-clause-free c =
     let is = subst (IsEnabled o now) c.in-Take.is c.requires.enabled in
     hold_none o now c.in-Take.worker c.in-Take.name c.requires.fit is.0 is.3
 
-pub take-requires-clause-room : goal.take-requires-clause-room
-take-requires-clause-room c = λ k d low.
-    let o = c.args.outline.now in
-    let short = all_back (λ names. names.items) (λ held. length held ≤ o.names) c.args.self.now.held.items (rows_short o (now_in o c.args.self.now) c.requires.fit) k d low in
-    let room = c.requires.room k d low in
-    omega (arith, short, room)
+pub start-requires-clause-low : goal.start-requires-clause-low
+start-requires-clause-low c =
+    let is = subst (IsEnabled c.args.outline.now (now_in c.args.outline.now c.args.self.now)) c.in-Start.is c.requires.enabled in
+    omega (arith, is.1, c.requires.fit.modules)
 
-pub free-requires-clause-climbs : goal.free-requires-clause-climbs
-free-requires-clause-climbs c = all_back (λ names. names.items) (Climbs 0) c.args.self.now.held.items c.requires.fit.climbing
+pub start-requires-clause-open : goal.start-requires-clause-open
+start-requires-clause-open c =
+    let now = now_in c.args.outline.now c.args.self.now in
+    let is = subst (IsEnabled c.args.outline.now now) c.in-Start.is c.requires.enabled in
+    waits_still (progress_of now.progress c.in-Start.«module») is.2
+
+pub skip-requires-clause-low : goal.skip-requires-clause-low
+skip-requires-clause-low c =
+    let is = subst (IsEnabled c.args.outline.now (now_in c.args.outline.now c.args.self.now)) c.in-Skip.is c.requires.enabled in
+    omega (arith, is.0, c.requires.fit.modules)
+
+pub skip-requires-clause-open : goal.skip-requires-clause-open
+skip-requires-clause-open c =
+    let now = now_in c.args.outline.now c.args.self.now in
+    let is = subst (IsEnabled c.args.outline.now now) c.in-Skip.is c.requires.enabled in
+    waits_still (progress_of now.progress c.in-Skip.«module») is.1
+
+pub end-requires : goal.end-requires
+end-requires c = record { running = (c.args.outline.now, λ m at. let low = c.requires.tied.real c.in-End.worker m at in (omega (arith, low, c.requires.fit.modules), ap is_over (c.requires.tied.busy c.in-End.worker m at))) }
 
 pub returns-in-Skip-clause-at : goal.returns-in-Skip-clause-at
 unfolding after
 returns-in-Skip-clause-at c = c.skip.ensures.at c.args.outline.now ∙ ap (after c.args.outline.now (now_in c.args.outline.now c.args.self.now)) (sym c.in-Skip.is)
-
-pub returns-in-Take-clause-room : goal.returns-in-Take-clause-room
-returns-in-Take-clause-room c = c.take.ensures.capacity c.args.outline.now.names c.requires.room
-
-pub returns-in-Free-clause-room : goal.returns-in-Free-clause-room
-returns-in-Free-clause-room c = c.free.ensures.capacity c.args.outline.now.names c.requires.room
 
 pub returns-in-End-clause-at : goal.returns-in-End-clause-at
 unfolding after

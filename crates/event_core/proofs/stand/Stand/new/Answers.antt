@@ -11,17 +11,15 @@ use Rattle.event_core.proofs.stand.Stand.new.Goals as goal
 pub returns-clause-at : goal.returns-clause-at
 returns-clause-at c =
     let o = c.args.outline.now in
-    let progress = c.in_ok-progress.ensures.items_if_clones_equal (λ y e. e) ∙ ap (λ n. replicate n Waiting) c.len.ensures in
+    let ways = map (course_at o) c.in_ok-ways.ways.items in
     let courses = ap (map (course_at o)) (c.in_ok-ways.ensures.items_if_clones_equal (λ y e. e)) ∙ map_replicate (course_at o) o.workers Idle in
     let there = c.in_ok-there.ensures.items ∙ c.as_slice.ensures in
-    let held = map (λ names. names.items) c.in_ok-held.held.items in
-    ap (λ p. record { progress = p; courses = map (course_at o) c.in_ok-ways.ways.items; held = held; locks = c.in_ok-locks.locks; there = c.in_ok-there.there.items }) progress
-    ∙ ap (λ p. record { progress = replicate (length o.modules) Waiting; courses = p; held = held; locks = c.in_ok-locks.locks; there = c.in_ok-there.there.items }) courses
-    ∙ ap (λ p. record { progress = replicate (length o.modules) Waiting; courses = replicate o.workers idle; held = p; locks = c.in_ok-locks.locks; there = c.in_ok-there.there.items }) c.in_ok-held.ensures.items
-    ∙ ap (λ p. record { progress = replicate (length o.modules) Waiting; courses = replicate o.workers idle; held = replicate o.workers []; locks = p; there = c.in_ok-there.there.items }) c.in_ok-locks.ensures
+    ap (λ ms. record { progress = ms.1; courses = ways; held = c.in_ok-holdings.holdings.1; locks = c.in_ok-holdings.holdings.0; there = c.in_ok-there.there.items }) c.in_ok-modules.ensures
+    ∙ ap (λ p. record { progress = replicate (length o.modules) Waiting; courses = p; held = c.in_ok-holdings.holdings.1; locks = c.in_ok-holdings.holdings.0; there = c.in_ok-there.there.items }) courses
+    ∙ ap (λ h. record { progress = replicate (length o.modules) Waiting; courses = replicate o.workers idle; held = h.1; locks = h.0; there = c.in_ok-there.there.items }) c.in_ok-holdings.ensures
     ∙ ap (λ p. record { progress = replicate (length o.modules) Waiting; courses = replicate o.workers idle; held = replicate o.workers []; locks = none_held o.names o.workers; there = p }) there
 
 pub returns-clause-holding : goal.returns-clause-holding
 returns-clause-holding c =
-    let parts = first_holding c.args.outline.now c.in_ok-ways.ways.items (map (λ names. names.items) c.in_ok-held.held.items) (c.in_ok-ways.ensures.items_if_clones_equal (λ y e. e)) c.in_ok-held.ensures.items in
+    let parts = first_holding c.args.outline.now c.in_ok-ways.ways.items c.in_ok-holdings.holdings.1 (c.in_ok-ways.ensures.items_if_clones_equal (λ y e. e)) (ap (λ h. h.1) c.in_ok-holdings.ensures) in
     record { all = parts.0; ways = parts.1; rows = parts.2 }

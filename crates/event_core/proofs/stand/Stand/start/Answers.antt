@@ -1,4 +1,4 @@
-use Rattle.std.proofs.Common.{None, map, slice_set, sym, subst, ap, ◌∙◌}
+use Rattle.std.proofs.Common.{None, slice_set, sym, subst, ap, ◌∙◌}
 use Rattle.event_core.specs.declared.progress.Progress.TheVariants.{Running}
 use Rattle.event_core.specs.Scripts.{settled}
 use Rattle.event_core.specs.Standing.{is_empty, on_course, start_of, turned_to}
@@ -17,7 +17,7 @@ returns-clause-at c =
     ∙ ap (λ there. on_course c.args.number (settled there c.holds_none-empty.result (start_of o c.args.number)) None) c.as_slice.ensures.value
     ∙ ap (λ empty. on_course c.args.number (settled now.there empty (start_of o c.args.number)) None) (c.holds_none-empty.ensures o) in
     c.turn.ensures.at o
-    ∙ ap (λ progress. turned_to (record now { progress = progress }) c.args.worker (course_at o c.begun-way.result)) c.set_progress.ensures
+    ∙ ap (λ progress. turned_to (record now { progress = progress }) c.args.worker (course_at o c.begun-way.result)) (ap (λ ms. ms.1) c.set.ensures)
     ∙ ap (turned_to (record now { progress = slice_set now.progress c.args.number (Running c.args.worker) }) c.args.worker) begun
 
 pub returns-clause-holding : goal.returns-clause-holding
@@ -25,5 +25,5 @@ returns-clause-holding c = λ holding none.
     let o = c.args.outline.now in
     let old = c.args.self.now in
     let begun = subst (WayHolds o c.begun-way.result) (sym none) (c.begun-way.ensures.held (c.holds_none-empty.ensures o ∙ ap is_empty none)) in
-    let parts = turned_holding o old.ways.items c.turn.new.self.ways.items (map (λ names. names.items) old.held.items) (map (λ names. names.items) c.turn.new.self.held.items) c.args.worker c.begun-way.result c.turn.ensures.ways (ap (λ held. map (λ names. names.items) held.items) c.turn.ensures.held) holding.all holding.ways holding.rows begun in
+    let parts = turned_holding o old.ways.items c.turn.new.self.ways.items old.holdings.1 c.turn.new.self.holdings.1 c.args.worker c.begun-way.result c.turn.ensures.ways (ap (λ h. h.1) c.turn.ensures.holdings) holding.all holding.ways holding.rows begun in
     record { all = parts.0; ways = parts.1; rows = parts.2 }

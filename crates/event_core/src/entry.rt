@@ -1,0 +1,21 @@
+use build_core::Event;
+use mvn_outside::GoalAnswer;
+use mvn_shared::Bytes;
+
+/// What an event of a run carries.
+#[derive(Clone, Debug, Drop)]
+pub enum Carried {
+    /// Nothing, or what isn't told.
+    Nothing,
+    /// The bytes that were published.
+    Published(Bytes),
+    /// The answer that was kept.
+    Answered(GoalAnswer),
+}
+
+/// An event of a run, with what it carries. Own.
+#[derive(Clone, Debug, Drop)]
+pub struct RunEntry {
+    pub event: Event,
+    pub carried: Carried,
+}

@@ -1,0 +1,6 @@
+pub use Rattle.atomic_table.specs.Seated
+pub mod Turns
+pub mod Rule
+pub mod Resting
+pub mod Passes
+pub mod TurnExamples

@@ -1,5 +1,5 @@
 -- Marks, places and edges, as lists.
-use Rattle.std.proofs.Common.{◌≡◌, ℕ, zero, suc, ◌+◌, ◌*◌, ◌/◌, ◌%◌, ◌<◌, ◌≤◌, ◌⊎◌, inl, inr, Bool, true, false, ◌&&◌, ◌||◌, not, nat_eq, nat_lt, nat_le, List, [], ◌∷◌, ◌++◌, length, find, get_or, set, slice_get, Some, None, is_none, is_some, if◌then◌else◌, refl, arith, sym, ap, subst, ◌∙◌}
+use Rattle.std.proofs.Common.{◌≡◌, ◌≢◌, ℕ, zero, suc, ◌+◌, ◌*◌, ◌/◌, ◌%◌, ◌<◌, ◌≤◌, ◌⊎◌, inl, inr, Bool, true, false, ◌&&◌, ◌||◌, not, nat_eq, nat_lt, nat_le, List, [], ◌∷◌, ◌++◌, length, find, get_or, set, slice_get, Some, None, is_none, is_some, if◌then◌else◌, refl, arith, sym, ap, subst, ◌∙◌}
 use Rattle.std.specs.Int.{bit_at}
 use Rattle.std.specs.Option.{option_or}
 use Rattle.std.proofs.lemmas.Bool.{cases_eq, cases_lt, eq-eqb, eqb-true, false≢true, le-leb, le-ltb, lt-leb, lt-ltb, ne_eqb}
@@ -41,6 +41,35 @@ first_marked words word place zeros low is before = (here, λ j less. by j less 
     by j less (inr late) =
         let same : j / 64 ≡ word = omega (arith, less, low, late) in
         ap (λ w. nat_eq (bit_at (get_or words w 0) (j % 64)) 1) same ∙ ap (λ n. nat_eq n 1) (before (j % 64) (omega (arith, less, same)))
+
+-- words that have a mark are marked themselves
+abbrev Grouped : List ℕ → List ℕ → Type 0
+Grouped words groups = (i : ℕ) → is_marked groups i ≡ not (nat_eq (get_or words i 0) 0)
+
+pub word_zero : (words groups : List ℕ) (i : ℕ) → Grouped words groups → is_marked groups i ≡ false → get_or words i 0 ≡ 0
+word_zero words groups i grouped free = by (get_or words i 0) (sym (grouped i) ∙ free)
+  where
+    by : (n : ℕ) → not (nat_eq n 0) ≡ false → n ≡ 0
+    by zero e = refl
+    by (suc n) e = absurd (false≢true (sym e ∙ ap not (ne_eqb (suc n) 0 (λ same. omega (arith, same)))))
+
+pub no_word : (words groups : List ℕ) (i : ℕ) → Grouped words groups → is_marked groups i ≡ true → get_or words i 0 ≡ 0 → ⊥
+no_word words groups i grouped is zero_there = false≢true (sym (grouped i ∙ ap (λ n. not (nat_eq n 0)) zero_there) ∙ is)
+
+pub none_marked : (words groups : List ℕ) → Grouped words groups → ((i : ℕ) → is_marked groups i ≡ false) → (k : ℕ) → is_marked words k ≡ false
+none_marked words groups grouped free k = zero_word words k (word_zero words groups (k / 64) grouped (free (k / 64)))
+
+-- marks that are right below a number, and there
+pub next_mark : (new old : List ℕ) (value : ℕ → Bool) (at : ℕ) → is_marked new at ≡ value at → ((k : ℕ) → k ≢ at → is_marked new k ≡ is_marked old k) → ((k : ℕ) → k < at → is_marked old k ≡ value k) → (k : ℕ) → k < at + 1 → is_marked new k ≡ value k
+next_mark new old value at here others before k low = by (cases_eq k at)
+  where
+    by : (k ≡ at) ⊎ (k ≢ at) → is_marked new k ≡ value k
+    by (inl same) = subst (λ n. is_marked new n ≡ value n) (sym same) here
+    by (inr other) = others k other ∙ before k (less (cases_lt k at))
+      where
+        less : (k < at) ⊎ (at ≤ k) → k < at
+        less (inl it) = it
+        less (inr far) = absurd (other (omega (arith, far, low)))
 
 -- ---- the first that is marked, below a number
 

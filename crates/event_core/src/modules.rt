@@ -177,14 +177,14 @@ impl Modules {
         }
     }
 
-    /// The first module that may begin. Costs a look at words of bits, one for 64 modules.
+    /// The first module that may begin. Costs a look at words of bits, one for 4,096 modules.
     pub(crate) fn ready(&self) -> Option<u32>
         ensures { (o : Outline) → upstreams o ≡ self.now.0 → result ≡ find (is_ready o self.now.1) (below (length o.modules)) }
     {
         first_of(&self.ready, self.upstream.len())
     }
 
-    /// The first module that is to be skipped. Costs a look at words of bits, one for 64 modules.
+    /// The first module that is to be skipped. Costs a look at words of bits, one for 4,096 modules.
     pub(crate) fn skippable(&self) -> Option<u32>
         ensures { (o : Outline) → upstreams o ≡ self.now.0 → result ≡ find (is_skippable o self.now.1) (below (length o.modules)) }
     {

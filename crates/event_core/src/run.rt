@@ -134,7 +134,7 @@ impl Core {
         self.history.as_slice()
     }
 
-    /// The first waiting module whose upstreams are all built. Takes no memory; costs a look at words of bits, one for 64 modules.
+    /// The first waiting module whose upstreams are all built. Takes no memory; costs a look at words of bits, one for 4,096 modules.
     pub fn ready(&self) -> Option<u32>
         ensures { result ≡ find (is_ready self.now.0 (now_of self.now.0 self.now.1).progress) (below (length self.now.0.modules)) }
     {
@@ -142,7 +142,7 @@ impl Core {
     }
 
     /// The first waiting module of which an upstream was skipped, or ended otherwise than built. Takes no memory; costs a look at words
-    /// of bits, one for 64 modules.
+    /// of bits, one for 4,096 modules.
     pub fn skippable(&self) -> Option<u32>
         ensures { result ≡ find (is_skippable self.now.0 (now_of self.now.0 self.now.1).progress) (below (length self.now.0.modules)) }
     {

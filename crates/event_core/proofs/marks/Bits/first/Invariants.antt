@@ -1,5 +1,5 @@
 use Rattle.std.proofs.Common.{◌≡◌, ℕ, ◌<◌, get_or}
-use Rattle.event_core.proofs.marks.Marks.first.Given as goal
+use Rattle.event_core.proofs.marks.Bits.first.Given as goal
 
 -- the words before this one are 0
 abbrev pub invariant-loop-word : goal.invariant-loop-word

@@ -6,9 +6,9 @@ use std::sync::Wait;
 use std::thread::Threads;
 
 // How many notes there are, and how many of each of four workers stand in their order.
-fn counts(tally: &Tally) -> [u32; 5] {
+fn counts(tally: &Tally) -> [u64; 5] {
     [
-        u32::try_from(tally.notes.len()).unwrap_or(0),
+        tally.notes.len() as u64,
         tally.in_order(0),
         tally.in_order(1),
         tally.in_order(2),
@@ -17,27 +17,27 @@ fn counts(tally: &Tally) -> [u32; 5] {
 }
 
 // Every call, in one thread.
-fn noted_by_calls<R: Wait>(rt: &R, alloc: Global) -> Mem<[u32; 5]> {
+fn noted_by_calls<R: Wait>(rt: &R, alloc: Global) -> Mem<[u64; 5]> {
     let (lock, mut pass) = opened(alloc, 2)?;
-    note_down(rt, &lock, &mut pass, 0, 0);
+    note_down(rt, &lock, &mut pass, 0, 0)?;
     let mut other = lock.split(&mut pass)?;
-    note_down(rt, &lock, &mut other, 1, 0);
+    note_down(rt, &lock, &mut other, 1, 0)?;
     lock.rest(rt, &mut pass);
-    note_down(rt, &lock, &mut pass, 0, 1);
+    note_down(rt, &lock, &mut pass, 0, 1)?;
     lock.join(&mut pass, other);
     Ok(counts(&lock.close(pass)))
 }
 
 // A thousand notes of each of one, two or four workers.
-fn noted_by_one<R: Threads + Wait + Sync>(rt: &R, alloc: Global) -> Mem<[u32; 5]> {
+fn noted_by_one<R: Threads + Wait + Sync>(rt: &R, alloc: Global) -> Mem<[u64; 5]> {
     Ok(counts(&tallied(rt, alloc, 1, 1000)?))
 }
 
-fn noted_by_two<R: Threads + Wait + Sync>(rt: &R, alloc: Global) -> Mem<[u32; 5]> {
+fn noted_by_two<R: Threads + Wait + Sync>(rt: &R, alloc: Global) -> Mem<[u64; 5]> {
     Ok(counts(&tallied(rt, alloc, 2, 1000)?))
 }
 
-fn noted_by_four<R: Threads + Wait + Sync>(rt: &R, alloc: Global) -> Mem<[u32; 5]> {
+fn noted_by_four<R: Threads + Wait + Sync>(rt: &R, alloc: Global) -> Mem<[u64; 5]> {
     Ok(counts(&tallied(rt, alloc, 4, 1000)?))
 }
 

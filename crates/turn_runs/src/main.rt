@@ -12,7 +12,7 @@ use turn_lock::tally::{Tally, tallied};
 fn in_order(tally: &Tally, workers: u32) -> u64 {
     let mut sum = 0u64;
     for worker in 0..workers {
-        sum = sum.wrapping_add(tally.in_order(worker) as u64);
+        sum = sum.wrapping_add(tally.in_order(worker));
     }
     sum
 }

@@ -3,8 +3,8 @@
 # rt ci built, or bin/mvn; without either it says so and passes.
 set -u
 cd "$(dirname "$0")/.."
-mvn=$PWD/bin/mvn
-[ -x "$mvn" ] || mvn=$PWD/crates/mvn_cli/out/mvn_cli
+mvn=$PWD/crates/mvn_cli/out/mvn_cli
+[ -x "$mvn" ] || mvn=$PWD/bin/mvn
 [ -x "$mvn" ] || { echo "end to end: no built program here; skipped"; exit 0; }
 work=$(mktemp -d)
 trap 'rm -rf "$work"' EXIT

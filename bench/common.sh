@@ -2,14 +2,21 @@
 # the time of one run is taken and told. A script says what one run is, by a function `once`, and what comes before it
 # untimed, by `prepare`.
 set -eu
-cd "$(dirname "$0")/.."
+. "$(dirname "$0")/../tests/program.sh"
 work=$(mktemp -d)
 trap 'rm -rf "$work"' EXIT
 
 # PROGRAM, HOW IT IS MADE: leaves its path in `program`
 want() {
   program=$PWD/$1
-  [ -x "$program" ] || { echo "bench: no $1 here; call $2 first"; exit 0; }
+  [ -x "$program" ] || stop "no $1 here: call $2 first"
+  cd "$work"
+}
+
+# The same with mvn: the program that MVN names, or bin/mvn
+want_mvn() {
+  find_program
+  program=$mvn
   cd "$work"
 }
 

@@ -2,7 +2,7 @@
 # How the time of `mvn install` grows with the bytes of the sources, and with their number, as ratios in one run. A ratio of
 # the sizes is what a few passes cost; its square would be a rescan. The empty case is an install without sources.
 . "$(dirname "$0")/common.sh"
-want bin/mvn ./build
+want_mvn
 printf '<project><modelVersion>4.0.0</modelVersion><groupId>demo</groupId><artifactId>app</artifactId><version>1.0</version></project>' > pom.xml
 prepare() { rm -rf .m2; }
 once() { "$program" install > out; }

@@ -3,7 +3,7 @@
 # ratios in one run. A ratio of the sizes is what one pass costs; its square would be a rescan. The empty case is a POM of 128
 # bytes; each time is that of 20 runs.
 . "$(dirname "$0")/common.sh"
-want bin/mvn ./build
+want_mvn
 
 # A POM of this many bytes, nearly all of them white space
 pom() {

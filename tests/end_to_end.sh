@@ -1,16 +1,8 @@
 #!/usr/bin/env bash
-# Runs the built program on folders of its own, and compares what it writes and its status. It takes the program that
-# rt ci built, or bin/mvn; without either it says so and passes.
-set -u
-cd "$(dirname "$0")/.."
-mvn=$PWD/crates/mvn_cli/out/mvn_cli
-[ -x "$mvn" ] || mvn=$PWD/bin/mvn
-[ -x "$mvn" ] || { echo "end to end: no built program here; skipped"; exit 0; }
-work=$(mktemp -d)
-trap 'rm -rf "$work"' EXIT
+# Runs the built program on folders of its own, and compares what it writes and its status. The program is the one that MVN names, or bin/mvn.
+. "$(dirname "$0")/cases.sh"
+find_program
 cd "$work" || exit 1
-passed=0
-failed=0
 
 # NAME, WANTED STATUS, WANTED TEXT; the words follow
 want() {
@@ -21,10 +13,9 @@ want() {
   code=${got##*status }
   got=${got%status *}
   if [ "$code" = "$status" ] && [ "$got" = "$text" ]; then
-    passed=$((passed + 1))
+    pass "$name"
   else
-    failed=$((failed + 1))
-    printf 'end to end: %s: wanted %s %q, got %s %q\n' "$name" "$status" "$text" "$code" "$got"
+    fail "$name" "$(printf 'wanted %s %q, got %s %q' "$status" "$text" "$code" "$got")"
   fi
 }
 
@@ -48,14 +39,43 @@ want 'a word that is not UTF-8' 2 $'not built yet\n' $'\xff\xfe'
 want 'the version' 0 $'mvn 0.1.0 (POM model 4.0.0)\n' --version
 head -c 1048577 /dev/zero > pom.xml
 want 'a POM over the limit' 2 $'refused pom.xml rule 1 TooLarge at 1048576\n' validate
-printf '<project><modelVersion>4.0.0</modelVersion></project' > pom.xml
-want 'a POM without its last bracket' 2 $'refused pom.xml rule 3 NotPomText at 43\n' validate
-printf '<!DOCTYPE project><project/>' > pom.xml
-want 'a document type' 2 $'refused pom.xml rule 4 Doctype at 0\n' validate
-printf '<project><modelVersion>4.0.0</modelVersion><dependencies><dependency/></dependencies></project>' > pom.xml
-want 'a dependency of nothing' 2 $'refused pom.xml rule 8 MissingField at project/dependencies/dependency[1]/groupId\n' validate
+{ printf '%s' "$pom"; head -c $((1048576 - ${#pom})) /dev/zero | tr '\0' '\n'; } > pom.xml
+want 'a POM at the limit' 0 "$report" validate
+want 'two words' 2 $'not built yet\n' validate validate
+want 'a part of a word' 2 $'not built yet\n' valida
+
+# POMs that aren't built: what is answered, and the POM, where V stands for the model's version and G, A and N for a group,
+# an artifact and a version
+while IFS='|' read -r answer text; do
+  text=${text//<V>/<modelVersion>4.0.0<\/modelVersion>}
+  text=${text//<G>/<groupId>demo<\/groupId>}
+  text=${text//<A>/<artifactId>app<\/artifactId>}
+  text=${text//<N>/<version>1<\/version>}
+  printf '%s' "$text" > pom.xml
+  want "$text" 2 "$answer"$'\n' validate
+done << 'END'
+refused pom.xml rule 8 MissingField at project/version|<project><V><G><A></project>
+refused pom.xml rule 8 MissingField at project/version|<project><V><G><A><version> </version></project>
+refused pom.xml rule 8 MissingField at project/groupId|<project><V><A></project>
+refused pom.xml rule 8 MissingField at project/artifactId|<project><V><G><N></project>
+refused pom.xml rule 7 ModelVersion at |<project></project>
+refused pom.xml rule 7 ModelVersion at 4.0.1|<project><modelVersion>4.0.1</modelVersion></project>
+refused pom.xml rule 6 RepeatedElement at project/groupId|<project><V><G><G></project>
+refused pom.xml rule 5 RootNotProject at module|<module/>
+refused pom.xml rule 3 NotPomText at 53|<project><V></project><project></project>
+refused pom.xml rule 3 NotPomText at 43|<project><V></project
+refused pom.xml rule 4 Doctype at 0|<!DOCTYPE project><project/>
+refused pom.xml rule 2 Encoding at 30|<?xml version='1.0' encoding='UTF-16'?><project/>
+refused pom.xml rule 8 MissingField at project/dependencies/dependency[1]/groupId|<project><V><dependencies><dependency/></dependencies></project>
+not built yet|<project><V><groupId>a..b</groupId><A><N></project>
+not built yet|<project><V><G><A><N><packaging>pom</packaging></project>
+not built yet|<project><V><G><A><N><properties><x/></properties></project>
+not built yet|<project><V><parent><G><A><N></parent><artifactId>a</artifactId></project>
+END
 printf '\xef\xbb\xbf<?xml version="1.0"?>\r\n<!-- by hand -->\r\n%s\r\n' "${pom/<version>/<name>An app<\/name><version>}" > pom.xml
 want 'a POM with more in it' 0 "$report" validate
+printf '\xef\xbb\xbf<?xml version="1.0" encoding="UTF-8"?>\r\n<project xmlns="http://maven.apache.org/POM/4.0.0">\r\n  <modelVersion>4.0.0</modelVersion>\r\n  <groupId> demo </groupId>\r\n  <artifactId><![CDATA[app]]></artifactId>\r\n  <version>1&#46;0</version>\r\n  <packaging>jar</packaging>\r\n  <name>R&amp;D</name>\r\n  <build/>\r\n</project>\r\n' > pom.xml
+want 'a POM with name spaces and references' 0 "$report" validate
 printf '%s' "$pom" > pom.xml
 
 # install: the POM and the jar lie in the repository, whole, and a second run changes no byte
@@ -68,15 +88,24 @@ want 'the second install' 0 "$report" install
 second=$(cd .m2/repository && find . -type f | sort | xargs sha256sum)
 if [ "$first" = "$second" ] && cmp -s pom.xml "$folder/app-1.0.pom" && [ "$(wc -c < "$folder/app-1.0.jar")" = 65 ] \
   && [ "$(find .m2/repository -type f | wc -l)" = 2 ]; then
-  passed=$((passed + 1))
+  pass 'the installed files'
 else
-  failed=$((failed + 1)); echo "end to end: installed files: $first"
+  fail 'the installed files' "$first"
 fi
 echo '2 errors' > src/main/java/demo/fail-compile
 want 'a failed goal' 1 $'failed demo:app:1.0 goal maven-compiler-plugin:compile default-compile: 2 errors\ntotal 1 built 0 failed 1 skipped 0\n' install
 third=$(cd .m2/repository && find . -type f | sort | xargs sha256sum)
-[ "$first" = "$third" ] && passed=$((passed + 1)) || { failed=$((failed + 1)); echo "end to end: a failed goal changed the repository"; }
+if [ "$first" = "$third" ]; then pass 'the repository after a failed goal'; else fail 'the repository after a failed goal' "$third"; fi
 rm src/main/java/demo/fail-compile
+
+# a link among the sources is not followed
+mkdir elsewhere
+echo 'behind a link' > elsewhere/fail-compile
+ln -s "$work/elsewhere" src/main/java/link
+want 'a link to a folder of sources' 0 "$report" install
+fourth=$(cd .m2/repository && find . -type f | sort | xargs sha256sum)
+if [ "$first" = "$fourth" ]; then pass 'a link was followed'; else fail 'a link was followed' ""; fi
+rm -r src/main/java/link elsewhere
 
 # sources of one byte more than is allowed together; `validate` doesn't read them
 mkdir -p src/test/resources
@@ -91,27 +120,33 @@ rm -r src/test
 rm -rf .m2
 mkdir -p "$folder/app-1.0.jar/in"
 want 'a folder in the place of the jar' 3 $'failed demo:app:1.0 fault shelf\ntotal 1 built 0 failed 1 skipped 0\n' install
-[ -d "$folder/app-1.0.jar/in" ] && passed=$((passed + 1)) || { failed=$((failed + 1)); echo "end to end: the folder is gone"; }
+if [ -d "$folder/app-1.0.jar/in" ]; then pass 'the folder stays'; else fail 'the folder stays' 'it is gone'; fi
 rm -rf .m2 src
 
 # a pipe that nobody reads, and a full device
 status=$( { "$mvn" validate; echo $? >&2; } 2>&1 >/dev/full )
-[ "$status" = 3 ] && passed=$((passed + 1)) || { failed=$((failed + 1)); echo "end to end: full device: status $status"; }
+if [ "$status" = 3 ]; then pass 'a full device'; else fail 'a full device' "status $status"; fi
 { sleep 0.2; "$mvn" validate; echo $? > status; } | true
-[ "$(cat status)" = 3 ] && passed=$((passed + 1)) || { failed=$((failed + 1)); echo "end to end: closed pipe: status $(cat status)"; }
+if [ "$(cat status)" = 3 ]; then pass 'a closed pipe'; else fail 'a closed pipe' "status $(cat status)"; fi
 
-# a file without read permission, for whoever is not root
-if [ "$(id -u)" != 0 ] || command -v setpriv >/dev/null; then
-  chmod 000 pom.xml
-  chmod 755 "$work"
-  if [ "$(id -u)" = 0 ]; then
-    cp "$mvn" "$work/mvn"
-    chmod 755 "$work/mvn"
-    got=$(setpriv --reuid 65534 --regid 65534 --clear-groups "$work/mvn" validate; echo "status $?")
-  else
-    got=$("$mvn" validate; echo "status $?")
-  fi
-  [ "$got" = $'fault tree\nstatus 3' ] && passed=$((passed + 1)) || { failed=$((failed + 1)); echo "end to end: no permission: $got"; }
+# files and folders without permission, for whoever is not root
+chmod 755 "$work"
+as_nobody=()
+if [ "$(id -u)" = 0 ]; then
+  cp "$mvn" "$work/mvn"
+  chmod 755 "$work/mvn"
+  mvn=$work/mvn
+  as_nobody=(setpriv --reuid 65534 --regid 65534 --clear-groups)
 fi
-echo "end_to_end: $passed passed, $failed failed"
-[ "$failed" = 0 ]
+chmod 000 pom.xml
+got=$("${as_nobody[@]}" "$mvn" validate 2>&1; echo "status $?")
+if [ "$got" = $'fault tree\nstatus 3' ]; then pass 'no permission to read'; else fail 'no permission to read' "$got"; fi
+chmod 644 pom.xml
+mkdir -p .m2/repository/demo
+chmod 777 .m2 .m2/repository
+chmod 555 .m2/repository/demo
+got=$("${as_nobody[@]}" "$mvn" install 2>&1; echo "status $?")
+if [ "$got" = $'failed demo:app:1.0 fault shelf\ntotal 1 built 0 failed 1 skipped 0\nstatus 3' ] \
+  && [ -z "$(find .m2/repository/demo -mindepth 1)" ]; then pass 'no permission to publish'; else fail 'no permission to publish' "$got"; fi
+chmod 755 .m2/repository/demo
+tell

@@ -1,12 +1,13 @@
 #!/usr/bin/env bash
-# Compares what the program event_runs is to print, and does, with what a plain, slow program makes of the definition. Without python3 it
-# says so and passes.
-set -u
-cd "$(dirname "$0")/.."
-command -v python3 > /dev/null || { echo "event walks: no python3 here; skipped"; exit 0; }
-if diff <(python3 tests/event_walks.py 1 1200) <(grep '^walk' crates/event_runs/stdout) > /dev/null; then
-  echo "event walks: 1200 walks are answered as by the definition"
+# Compares the stored run of the program event_runs, which the gate holds that program to, with what a plain, slow program makes of the
+# definition: 1,200 walks. It wants python3, and no built program.
+. "$(dirname "$0")/cases.sh"
+stored=crates/event_runs/stdout
+python3 tests/event_walks.py 1 1200 > "$work/walks" || stop "tests/event_walks.py ended with status $?"
+grep '^walk' "$stored" > "$work/stored"
+if [ "$(wc -l < "$work/walks")" = 1200 ] && cmp -s "$work/walks" "$work/stored"; then
+  pass '1200 walks are answered as by the definition'
 else
-  echo "event walks: the stored walks aren't those of the definition"
-  exit 1
+  fail '1200 walks are answered as by the definition' "$stored differs: $(diff "$work/walks" "$work/stored" | sed -n 2p)"
 fi
+tell

@@ -1,15 +1,10 @@
 #!/usr/bin/env bash
-# Kills installs at random moments, KILLS of them (200 by itself), and looks after each that no name is torn: the POM and
-# the jar are absent, or have their whole old bytes or their whole new ones. At the end one more install, undisturbed,
-# leaves what it leaves in a new repository. It takes the program that rt ci built, or bin/mvn.
-set -u
-cd "$(dirname "$0")/.."
-mvn=$PWD/bin/mvn
-[ -x "$mvn" ] || mvn=$PWD/crates/mvn_cli/out/mvn_cli
-[ -x "$mvn" ] || { echo "kills: no built program here; skipped"; exit 0; }
+# Kills installs at random moments, up to half as late again as one takes, KILLS of them (200 by itself), and looks after
+# each that no name is torn: the POM and the jar are absent, or have their whole old bytes or their whole new ones. At the
+# end one more install, undisturbed, leaves what it leaves in a new repository. The program is the one that MVN names, or bin/mvn.
+. "$(dirname "$0")/cases.sh"
+find_program
 kills=${KILLS:-200}
-work=$(mktemp -d)
-trap 'rm -rf "$work"' EXIT
 cd "$work" || exit 1
 
 printf '<project><modelVersion>4.0.0</modelVersion><groupId>demo</groupId><artifactId>app</artifactId><version>1.0</version></project>' > pom.xml
@@ -22,10 +17,14 @@ state() { sha256sum < "$1" 2>/dev/null; }
 for source in old new; do
   head -c 2000000 /dev/zero | tr '\0' "${source:0:1}" > src/main/java/App.java
   rm -rf .m2
-  "$mvn" install > /dev/null || { echo "kills: the install of $source failed"; exit 1; }
+  begun=$(date +%s%N)
+  "$mvn" install > /dev/null || stop "the install of $source failed"
+  longest=$((($(date +%s%N) - begun) * 3 / 2000000 + 1))
+  [ -s "$jar" ] && [ -s "$pom" ] || stop "the install of $source left no jar or no POM"
   state "$jar" > "$source.jar"
 done
 state "$pom" > whole.pom
+! cmp -s old.jar new.jar || stop "two sources make one jar, so no jar tells whose it is"
 
 torn=0
 killed=0
@@ -36,9 +35,11 @@ for ((i = 0; i < kills; i++)); do
   head -c 2000000 /dev/zero | tr '\0' "${source:0:1}" > src/main/java/App.java
   "$mvn" install > /dev/null 2>&1 &
   pid=$!
-  sleep "$(printf '0.%03d' $((RANDOM % 80)))"
-  kill -9 "$pid" 2>/dev/null && killed=$((killed + 1))
+  moment=$((RANDOM % longest))
+  sleep "$(printf '%d.%03d' $((moment / 1000)) $((moment % 1000)))"
+  kill -9 "$pid" 2>/dev/null
   wait "$pid" 2>/dev/null
+  [ $? = 137 ] && killed=$((killed + 1))
   [ -e "$jar" ] && state "$jar" | cmp -s - "$source.jar" && changed=$((changed + 1))
   if [ -e "$pom" ]; then state "$pom" | cmp -s - whole.pom || torn=$((torn + 1)); fi
   if [ -e "$jar" ]; then
@@ -46,10 +47,20 @@ for ((i = 0; i < kills; i++)); do
   fi
 done
 
+# Where no install was killed, or none came as far as its jar, nothing is shown.
+if [ "$torn" = 0 ] && [ "$killed" != 0 ] && [ "$changed" != 0 ]; then
+  pass "no name torn by $kills installs, $killed killed while they ran, the jar new after $changed"
+else
+  fail "no name torn by $kills installs" "$torn torn, $killed killed while they ran, the jar new after $changed"
+fi
+
 head -c 2000000 /dev/zero | tr '\0' n > src/main/java/App.java
 last=$("$mvn" install)
-state "$jar" | cmp -s - new.jar && state "$pom" | cmp -s - whole.pom || torn=$((torn + 1))
-[ "$last" = $'built demo:app:1.0\ntotal 1 built 1 failed 0 skipped 0' ] || torn=$((torn + 1))
+if [ "$last" = $'built demo:app:1.0\ntotal 1 built 1 failed 0 skipped 0' ] && state "$jar" | cmp -s - new.jar && state "$pom" | cmp -s - whole.pom; then
+  pass 'the next install ends like an undisturbed one'
+else
+  fail 'the next install ends like an undisturbed one' "$last"
+fi
 left=$(find .m2/repository/.staging -type f 2>/dev/null | wc -l)
-echo "kills: $kills runs, $killed killed while they ran, the jar new after $changed, $torn names torn or runs that differ, $left pieces left"
-[ "$torn" = 0 ] && [ "$left" = 0 ]
+if [ "$left" = 0 ]; then pass 'no piece is left'; else fail 'no piece is left' "$left are"; fi
+tell

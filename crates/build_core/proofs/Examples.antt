@@ -6,10 +6,10 @@ use Rattle.std.specs.Ordering.{nat_cmp}
 use Rattle.std.specs.Cmp.Lexicographic.{slice_cmp, nat_list_cmp_total}
 use Rattle.mvn_shared.specs.Files.{Files, file_at}
 use Rattle.mvn_base.specs.declared.phase.Phase.TheVariants.{Package}
-use Rattle.mvn_outside.specs.declared.goal.Slot.TheVariants as slot
-use Rattle.mvn_outside.specs.declared.goal.Need.TheVariants as need
-use Rattle.mvn_outside.specs.declared.goal.GoalAnswer.{GoalAnswer}
-use Rattle.mvn_outside.specs.declared.goal.GoalAnswer.TheVariants.{Done, Produced, Failed}
+use Rattle.goal_types.specs.declared.goal.Slot.TheVariants as slot
+use Rattle.goal_types.specs.declared.goal.Need.TheVariants as need
+use Rattle.goal_types.specs.declared.goal.GoalAnswer.{GoalAnswer}
+use Rattle.goal_types.specs.declared.goal.GoalAnswer.TheVariants.{Done, Produced, Failed}
 use Rattle.build_core.specs.declared.plan.Plan.{Plan}
 use Rattle.build_core.specs.declared.plan.PlanModule.{PlanModule}
 use Rattle.build_core.specs.declared.ending.State.TheVariants.{Skipped, Ended}

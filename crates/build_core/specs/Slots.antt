@@ -1,11 +1,11 @@
 -- The outputs that a module keeps while its goals run. Own rules.
 use Rattle.std.specs.Prelude.{ℕ, suc, ◌+◌, Bool, not, ◌==◌, nat_le, nat_lt, List, [], ◌∷◌, ◌++◌, length, take, find, filter, Option, option_map, if◌then◌else◌}
-use Rattle.mvn_outside.specs.declared.goal.Slot.{Slot}
-use Rattle.mvn_outside.specs.declared.goal.Slot.TheVariants.{Nowhere, Pom, Classes, TestClasses, Main, Tests, Sources, Javadoc}
-use Rattle.mvn_outside.specs.declared.goal.OwnBytes.{OwnBytes}
-use Rattle.mvn_outside.specs.declared.goal.GoalCall.{GoalCall}
-use Rattle.mvn_outside.specs.declared.goal.GoalAnswer.{GoalAnswer}
-use Rattle.mvn_outside.specs.declared.goal.GoalAnswer.TheVariants.{Done, Produced, Failed}
+use Rattle.goal_types.specs.declared.goal.Slot.{Slot}
+use Rattle.goal_types.specs.declared.goal.Slot.TheVariants.{Nowhere, Pom, Classes, TestClasses, Main, Tests, Sources, Javadoc}
+use Rattle.goal_types.specs.declared.goal.OwnBytes.{OwnBytes}
+use Rattle.goal_types.specs.declared.goal.GoalCall.{GoalCall}
+use Rattle.goal_types.specs.declared.goal.GoalAnswer.{GoalAnswer}
+use Rattle.goal_types.specs.declared.goal.GoalAnswer.TheVariants.{Done, Produced, Failed}
 
 -- a slot's place in the order of slots
 abbrev pub slot_number : Slot → ℕ

@@ -1,6 +1,6 @@
 // The steps of a run. Own, but for the modes of locks: Resolver, "Named Locks".
 use crate::ending::Ending;
-use mvn_outside::GoalAnswer;
+use goal_types::GoalAnswer;
 use name_locks::Mode;
 
 /// One step of a run. Workers are numbered by their hands; modules, names and files are places in the plan's lists, goals

@@ -1,6 +1,6 @@
 // What is to be built, in which order, from which files. Guide to Working with Multiple Modules.
+use goal_types::{GoalCall, Slot, SourceFile};
 use mvn_base::{FileName, Gav};
-use mvn_outside::{GoalCall, Slot, SourceFile};
 use mvn_shared::{Bytes, List, Text};
 
 /// A whole build.

@@ -1,6 +1,6 @@
 // The values of the plan and of a run, made once.
 use crate::{Answered, Device, Ending, Event, Plan, State};
-use mvn_outside::GoalAnswer;
+use goal_types::GoalAnswer;
 use mvn_shared::List;
 use name_locks::Mode;
 use std::test::Fail;

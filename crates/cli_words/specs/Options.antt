@@ -8,7 +8,7 @@ use Rattle.mvn_base.specs.Phase.{phase_of}
 use Rattle.mvn_base.specs.declared.phase.Phase.{Phase}
 use Rattle.mvn_base.specs.declared.phase.Phase.TheVariants.{Deploy}
 use Rattle.cli_words.specs.declared.command_line.Word.{Word}
-use Rattle.cli_words.specs.declared.command_line.Choice.{Choice}
+use Rattle.mvn_base.specs.declared.machine.Choice.{Choice}
 use Rattle.cli_words.specs.declared.command_line.CommandLine.{CommandLine}
 use Rattle.cli_words.specs.declared.fault.WordKind.TheVariants.{UnknownWord, UnknownPhase, MissingValue, BadNumber, Repeated, TwoPhases, NoPhase, BadSelector, TooManyWorkers, DeployPhase, NotUtf8}
 use Rattle.cli_words.specs.declared.fault.WordKind.{WordKind}

@@ -1,4 +1,4 @@
-use mvn_base::{Pair, Phase};
+use mvn_base::{Choice, Pair, Phase};
 use mvn_shared::{List, Text};
 
 /// A selector of modules, and the number of the word where it stands. Guide to Working with Multiple Modules.
@@ -6,13 +6,6 @@ use mvn_shared::{List, Text};
 pub struct Word {
     pub place: u32,
     pub text: Text,
-}
-
-/// The profiles that are switched on and off by name. Introduction to Build Profiles.
-#[derive(Debug, Drop)]
-pub struct Choice {
-    pub on: List<Text>,
-    pub off: List<Text>,
 }
 
 /// What a command line asks for.

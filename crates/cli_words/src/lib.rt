@@ -10,7 +10,7 @@ mod value;
 mod values;
 mod whole;
 
-pub use command_line::{Choice, CommandLine, Word};
+pub use command_line::{CommandLine, Word};
 pub use fault::{WordError, WordFault, WordKind};
 pub use line::{Count, Line};
 pub use spelling::{Spelling, Wanted};

@@ -1,6 +1,6 @@
-use crate::command_line::{Choice, Word};
+use crate::command_line::Word;
 use crate::spelling::Wanted;
-use mvn_base::{Pair, Phase};
+use mvn_base::{Choice, Pair, Phase};
 use mvn_shared::List;
 
 /// A number of workers, and the word where it stands.

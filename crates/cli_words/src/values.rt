@@ -3,12 +3,12 @@ ghost use Rattle.std.specs.List.{list_any};
 ghost use Rattle.cli_words.specs.Faults.{Answers};
 ghost use Rattle.cli_words.specs.Options.{is_bad_selector, parts, selector, with_define, with_from, with_id, with_profiles, with_projects, with_value, with_workers};
 
-use crate::command_line::{Choice, Word};
+use crate::command_line::Word;
 use crate::fault::{WordError, WordKind, fault};
 use crate::line::{Count, Line};
 use crate::spelling::Wanted;
 use crate::value::{is_bad_selector, name_of, number, parts, value_of};
-use mvn_base::Pair;
+use mvn_base::{Choice, Pair};
 use mvn_shared::{List, Mem, Text};
 use std::alloc::Global;
 

@@ -2,10 +2,10 @@ ghost use Rattle.std.specs.Prelude.{◌≡◌, ◌<◌, ◌≤◌, true, length,
 ghost use Rattle.cli_words.specs.Faults.{Answers};
 ghost use Rattle.cli_words.specs.Options.{command_line, no_words, options, whole_line, with_hands};
 
-use crate::command_line::{Choice, CommandLine};
+use crate::command_line::CommandLine;
 use crate::fault::{WordError, WordKind, fault};
 use crate::line::Line;
-use mvn_base::Phase;
+use mvn_base::{Choice, Phase};
 use mvn_shared::{Bytes, List};
 use std::alloc::Global;
 

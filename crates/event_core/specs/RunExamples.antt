@@ -7,11 +7,11 @@ use Rattle.mvn_shared.specs.Files.{Files}
 use Rattle.name_locks.specs.declared.mode.Mode.TheVariants.{Exclusive}
 use Rattle.mvn_base.specs.declared.gav.Gav.{Gav}
 use Rattle.mvn_base.specs.declared.phase.Phase.TheVariants.{Package}
-use Rattle.mvn_outside.specs.declared.goal.GoalAnswer.{GoalAnswer}
-use Rattle.mvn_outside.specs.declared.goal.GoalAnswer.TheVariants.{Done, Failed, Produced}
-use Rattle.mvn_outside.specs.declared.goal.GoalCall.{GoalCall}
-use Rattle.mvn_outside.specs.declared.goal.Need.TheVariants as need
-use Rattle.mvn_outside.specs.declared.goal.Slot.TheVariants as slot
+use Rattle.goal_types.specs.declared.goal.GoalAnswer.{GoalAnswer}
+use Rattle.goal_types.specs.declared.goal.GoalAnswer.TheVariants.{Done, Failed, Produced}
+use Rattle.goal_types.specs.declared.goal.GoalCall.{GoalCall}
+use Rattle.goal_types.specs.declared.goal.Need.TheVariants as need
+use Rattle.goal_types.specs.declared.goal.Slot.TheVariants as slot
 use Rattle.build_core.specs.declared.plan.Plan.{Plan}
 use Rattle.build_core.specs.declared.plan.PlanModule.{PlanModule}
 use Rattle.build_core.specs.declared.event.Event.{Event}

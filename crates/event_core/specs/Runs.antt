@@ -4,7 +4,7 @@ use Rattle.std.specs.List.{list_all}
 use Rattle.std.specs.Option.{option_map_or}
 use Rattle.std.specs.FinMap as finite
 use Rattle.mvn_shared.specs.Files.{Files}
-use Rattle.mvn_outside.specs.declared.goal.OwnBytes.{OwnBytes}
+use Rattle.goal_types.specs.declared.goal.OwnBytes.{OwnBytes}
 use Rattle.build_core.specs.declared.plan.Plan.{Plan}
 use Rattle.build_core.specs.declared.plan.PlanModule.{PlanModule}
 use Rattle.build_core.specs.declared.event.Answered.{Answered}

@@ -2,10 +2,10 @@
 use Rattle.std.specs.Prelude.{◌≡◌, ℕ, Bool, true, false, not, ◌||◌, ◌==◌, nat_eq, nat_le, List, [], ◌∷◌, ◌++◌, map, find, slice_get, Option, Some, None, is_some, option_and_then, IfSome}
 use Rattle.std.specs.List.{list_all, list_any}
 use Rattle.mvn_shared.specs.Files.{Files}
-use Rattle.mvn_outside.specs.declared.goal.GoalAnswer.{GoalAnswer}
-use Rattle.mvn_outside.specs.declared.goal.GoalRequest.{GoalRequest}
-use Rattle.mvn_outside.specs.declared.goal.OwnBytes.{OwnBytes}
-use Rattle.mvn_outside.specs.declared.goal.Slot.TheVariants.{Main}
+use Rattle.goal_types.specs.declared.goal.GoalAnswer.{GoalAnswer}
+use Rattle.goal_types.specs.declared.goal.GoalRequest.{GoalRequest}
+use Rattle.goal_types.specs.declared.goal.OwnBytes.{OwnBytes}
+use Rattle.goal_types.specs.declared.goal.Slot.TheVariants.{Main}
 use Rattle.build_core.specs.declared.plan.Plan.{Plan}
 use Rattle.build_core.specs.declared.plan.PlanModule.{PlanModule}
 use Rattle.build_core.specs.declared.plan.OwnFile.{OwnFile}

@@ -1,5 +1,5 @@
 use build_core::Event;
-use mvn_outside::GoalAnswer;
+use goal_types::GoalAnswer;
 use mvn_shared::Bytes;
 
 /// What an event of a run carries.

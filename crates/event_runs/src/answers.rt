@@ -111,6 +111,14 @@ pub(crate) fn answer_at(core: &Core, kind: u32, worker: u32, number: u32) -> u32
     }
 }
 
+/// A number for the answer to an event: 0 where it was taken.
+pub(crate) fn number_of(answer: Result<(), NotEnabled>) -> u32 {
+    match answer {
+        Ok(_) => 0,
+        Err(cause) => cause_number(cause),
+    }
+}
+
 // A module's number, or nothing.
 fn module_number(module: Option<u32>) -> u32 {
     match module {

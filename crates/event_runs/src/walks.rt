@@ -16,8 +16,8 @@ const NUMBERS: u32 = 10;
 // The kinds below this one are no bad ends.
 const CALM: u32 = 9;
 
-// A core over an outline that has room.
-fn begun(alloc: Global, outline: Outline) -> Mem<Core> {
+/// A core over an outline that has room.
+pub(crate) fn begun(alloc: Global, outline: Outline) -> Mem<Core> {
     if outline.has_room() && outline.modules.len() < 1_000_000 {
         return Core::over(alloc, outline);
     }

@@ -5,14 +5,14 @@ use Rattle.std.specs.List.{list_any, ends_with}
 use Rattle.std.specs.Str.{is_utf8}
 use Rattle.hex.specs.Hex.{encode_lower}
 use Rattle.sha2.specs.Sha256.{sha256}
-use Rattle.mvn_outside.specs.declared.goal.GoalAnswer.{GoalAnswer}
-use Rattle.mvn_outside.specs.declared.goal.GoalAnswer.TheVariants.{Done, Produced, Failed}
-use Rattle.mvn_outside.specs.declared.goal.GoalRequest.{GoalRequest}
-use Rattle.mvn_outside.specs.declared.goal.SourceFile.{SourceFile}
-use Rattle.mvn_outside.specs.declared.goal.Slot.{Slot}
-use Rattle.mvn_outside.specs.declared.goal.Slot.TheVariants as slot
-use Rattle.mvn_outside.specs.Lines.{line_of}
-use Rattle.mvn_outside.specs.Requests.{request_text}
+use Rattle.goal_types.specs.declared.goal.GoalAnswer.{GoalAnswer}
+use Rattle.goal_types.specs.declared.goal.GoalAnswer.TheVariants.{Done, Produced, Failed}
+use Rattle.goal_types.specs.declared.goal.GoalRequest.{GoalRequest}
+use Rattle.goal_types.specs.declared.goal.SourceFile.{SourceFile}
+use Rattle.goal_types.specs.declared.goal.Slot.{Slot}
+use Rattle.goal_types.specs.declared.goal.Slot.TheVariants as slot
+use Rattle.goal_types.specs.Lines.{line_of}
+use Rattle.goal_types.specs.Requests.{request_text}
 
 -- the last step of a path is this name
 unfoldable pub is_named : List ℕ → List ℕ → Bool

@@ -1,5 +1,5 @@
-pub use Rattle.mvn_outside.specs.Goals
-pub use Rattle.mvn_outside.specs.Lines
-pub use Rattle.mvn_outside.specs.Requests
+pub use Rattle.goal_types.specs.Goals
+pub use Rattle.goal_types.specs.Lines
+pub use Rattle.goal_types.specs.Requests
 pub mod Builtin
 pub mod Same

@@ -2,9 +2,9 @@
 use Rattle.std.proofs.Common.{◌≡◌, ℕ, true, false, List, refl, sym, ap, ◌∙◌}
 use Rattle.std.specs.Cmp.Lexicographic.{nat_list_eq_equiv}
 use Rattle.std.proofs.lemmas.Slice.Eq.{bytes_eq-Decides}
-use Rattle.mvn_outside.specs.declared.goal.GoalAnswer.{GoalAnswer}
-use Rattle.mvn_outside.specs.declared.goal.GoalAnswer.TheVariants.{Done, Produced, Failed}
-use Rattle.mvn_outside.specs.declared.goal.GoalRequest.{GoalRequest}
+use Rattle.goal_types.specs.declared.goal.GoalAnswer.{GoalAnswer}
+use Rattle.goal_types.specs.declared.goal.GoalAnswer.TheVariants.{Done, Produced, Failed}
+use Rattle.goal_types.specs.declared.goal.GoalRequest.{GoalRequest}
 use Rattle.gate_builtin.specs.Builtin.{builtin, same_answer}
 
 pub same_itself : (a : GoalAnswer) → same_answer a a ≡ true

@@ -1,13 +1,13 @@
 ghost use Rattle.std.specs.Prelude.{◌≡◌, ◌∷◌, ◌++◌, ℕ, List, find, flat_map, IfOk};
 ghost use Rattle.std.specs.Option.{option_map};
 ghost use Rattle.sha2.specs.Sha256.{sha256};
-ghost use Rattle.mvn_outside.specs.Requests.{entry_bytes, request_text};
+ghost use Rattle.goal_types.specs.Requests.{entry_bytes, request_text};
 ghost use Rattle.gate_builtin.specs.Builtin.{is_named, text_of, failure_text, failure_in, digest_text, output_for, builtin};
 
-use mvn_outside::{
-    Gate, GateFault, GoalAnswer, GoalRequest, OwnBytes, PathEntry, Slot, SourceFile, line_of,
-    request_line,
+use goal_types::{
+    GoalAnswer, GoalRequest, OwnBytes, PathEntry, Slot, SourceFile, line_of, request_line,
 };
+use mvn_outside::{DeviceFault, Gate};
 use mvn_shared::{Bytes, Mem, Text};
 use sha2::{Digest, Sha256};
 use std::alloc::Global;
@@ -174,10 +174,10 @@ impl Gate for Builtin {
 
     ghost one_answer = { λ _. one_answer };
 
-    fn call(&mut self, request: &GoalRequest) -> Result<GoalAnswer, GateFault> {
+    fn call(&mut self, request: &GoalRequest) -> Result<GoalAnswer, DeviceFault> {
         match answer(self.alloc, request) {
             Ok(answer) => Ok(answer),
-            Err(_) => Err(GateFault::Memory),
+            Err(_) => Err(DeviceFault::Memory),
         }
     }
 }

@@ -8,6 +8,3 @@ mod root;
 pub use model::inherit;
 pub use placing::inherited_plugins;
 pub use root::super_pom;
-
-#[cfg(test)]
-mod tests;

@@ -1,140 +1,131 @@
 ghost use Rattle.std.specs.Prelude.{◌≡◌, IfOk};
-ghost use Rattle.std.specs.Option.{option_or};
-ghost use Rattle.inheritance.specs.Inherit.{inherit, inherit_build, stated_or};
-ghost use Rattle.inheritance.specs.Parts.{joined_parts, own_parts};
+ghost use Rattle.inheritance.specs.Inherit.{inherit, inherit_base, inherit_build, inherit_build_base, inherit_coordinates, inherit_outputs, inherit_sources};
 
 use crate::placing::inherited_plugins;
-use model_merge::{copies, with_others};
-use model_types::{Build, Dependency, Parent, Profile, RawModel};
-use mvn_base::{Pair, PomId};
-use mvn_shared::{List, Mem, Text};
+use model_merge::{stated, stated_list, with_others};
+use model_types::{Build, BuildBase, Coordinates, ModelBase, Outputs, Parent, RawModel, Sources};
+use mvn_shared::{Mem, Shared};
 use std::alloc::Global;
 
-// A text that is stated, or else the parent's.
-fn text_or(own: &Option<Text>, parent: &Option<Text>) -> Mem<Option<Text>>
-    ensures { IfOk result (λ text. text ≡ option_or own.now parent.now) }
+// The child's coordinates with what it takes over.
+#[tactic(auto, unfolding(crate::specs::Inherit::inherit_coordinates))]
+fn inherit_coordinates(child: &Coordinates, parent: &Coordinates) -> Mem<Coordinates>
+    ensures { IfOk result (λ both. both ≡ inherit_coordinates child.now parent.now) }
 {
-    match own {
-        Some(text) => Ok(Some(text.clone()?)),
-        None => Ok(parent.clone()?),
-    }
+    let group = stated(&child.group, &parent.group)?;
+    let artifact = child.artifact.clone()?;
+    let version = stated(&child.version, &parent.version)?;
+    let packaging = child.packaging.clone()?;
+    Ok(Coordinates {
+        group,
+        artifact,
+        version,
+        packaging,
+    })
 }
 
-// A list that is stated, or else the parent's.
-fn stated_or(own: &List<Text>, parent: &List<Text>) -> Mem<List<Text>>
-    ensures { IfOk result (λ list. list ≡ stated_or own.now parent.now) }
+// The child's modules, and the lists that are joined by their keys.
+#[tactic(auto, unfolding(crate::specs::Inherit::inherit_base))]
+fn inherit_base(alloc: Global, child: &ModelBase, parent: &ModelBase) -> Mem<ModelBase>
+    ensures { IfOk result (λ both. both ≡ inherit_base child.now parent.now) }
 {
-    if own.as_slice().is_empty() {
-        Ok(parent.clone()?)
-    } else {
-        Ok(own.clone()?)
-    }
+    let modules = child.modules.clone()?;
+    let properties = with_others(
+        alloc,
+        child.properties.as_slice(),
+        parent.properties.as_slice(),
+    )?;
+    let managed = with_others(alloc, child.managed.as_slice(), parent.managed.as_slice())?;
+    let dependencies = with_others(
+        alloc,
+        child.dependencies.as_slice(),
+        parent.dependencies.as_slice(),
+    )?;
+    Ok(ModelBase {
+        modules,
+        properties,
+        managed,
+        dependencies,
+    })
 }
 
-// A build with what it takes over.
+// Where the child's build puts what it makes.
+#[tactic(auto, unfolding(crate::specs::Inherit::inherit_outputs))]
+fn inherit_outputs(child: &Outputs, parent: &Outputs) -> Mem<Outputs>
+    ensures { IfOk result (λ both. both ≡ inherit_outputs child.now parent.now) }
+{
+    let directory = stated(&child.directory, &parent.directory)?;
+    let output = stated(&child.output, &parent.output)?;
+    let test_output = stated(&child.test_output, &parent.test_output)?;
+    let final_name = stated(&child.final_name, &parent.final_name)?;
+    Ok(Outputs {
+        directory,
+        output,
+        test_output,
+        final_name,
+    })
+}
+
+// Where the child's build finds what it reads.
+#[tactic(auto, unfolding(crate::specs::Inherit::inherit_sources))]
+fn inherit_sources(child: &Sources, parent: &Sources) -> Mem<Sources>
+    ensures { IfOk result (λ both. both ≡ inherit_sources child.now parent.now) }
+{
+    let source = stated(&child.source, &parent.source)?;
+    let test_source = stated(&child.test_source, &parent.test_source)?;
+    let resources = stated_list(&child.resources, &parent.resources)?;
+    let test_resources = stated_list(&child.test_resources, &parent.test_resources)?;
+    Ok(Sources {
+        source,
+        test_source,
+        resources,
+        test_resources,
+    })
+}
+
+// The child's plugins with what it takes over.
+#[tactic(auto, unfolding(crate::specs::Inherit::inherit_build_base))]
+fn inherit_build_base(alloc: Global, child: &BuildBase, parent: &BuildBase) -> Mem<BuildBase>
+    ensures { IfOk result (λ both. both ≡ inherit_build_base child.now parent.now) }
+{
+    let plugins = inherited_plugins(alloc, child.plugins.as_slice(), parent.plugins.as_slice())?;
+    let managed_plugins = inherited_plugins(
+        alloc,
+        child.managed_plugins.as_slice(),
+        parent.managed_plugins.as_slice(),
+    )?;
+    Ok(BuildBase {
+        plugins,
+        managed_plugins,
+    })
+}
+
+// The child's build with what it takes over.
 #[tactic(auto, unfolding(crate::specs::Inherit::inherit_build))]
 fn inherit_build(alloc: Global, child: &Build, parent: &Build) -> Mem<Build>
-    ensures { IfOk result (λ build. build ≡ inherit_build child.now parent.now) }
+    ensures { IfOk result (λ both. both ≡ inherit_build child.now parent.now) }
 {
+    let outputs = Shared::new(alloc, inherit_outputs(&child.outputs, &parent.outputs)?)?;
+    let sources = Shared::new(alloc, inherit_sources(&child.sources, &parent.sources)?)?;
+    let base = Shared::new(alloc, inherit_build_base(alloc, &child.base, &parent.base)?)?;
     let extensions = with_others(
         alloc,
         child.extensions.as_slice(),
         parent.extensions.as_slice(),
     )?;
     Ok(Build {
-        directory: text_or(&child.directory, &parent.directory)?,
-        output: text_or(&child.output, &parent.output)?,
-        test_output: text_or(&child.test_output, &parent.test_output)?,
-        final_name: text_or(&child.final_name, &parent.final_name)?,
-        source: text_or(&child.source, &parent.source)?,
-        test_source: text_or(&child.test_source, &parent.test_source)?,
-        resources: stated_or(&child.resources, &parent.resources)?,
-        test_resources: stated_or(&child.test_resources, &parent.test_resources)?,
-        plugins: inherited_plugins(alloc, child.plugins.as_slice(), parent.plugins.as_slice())?,
-        managed_plugins: inherited_plugins(
-            alloc,
-            child.managed_plugins.as_slice(),
-            parent.managed_plugins.as_slice(),
-        )?,
+        outputs,
+        sources,
+        base,
         extensions,
     })
 }
 
-// The same POM.
-fn same_pom(pom: &PomId) -> Mem<PomId>
-    ensures { IfOk result (λ copy. copy ≡ pom.now) }
-{
-    Ok(pom.clone()?)
-}
-
-// The same parent.
-fn same_parent(parent: &Option<Parent>) -> Mem<Option<Parent>>
-    ensures { IfOk result (λ copy. copy ≡ parent.now) }
+// The same parent, where there is one.
+fn same_parent(parent: &Option<Shared<Parent>>) -> Mem<Option<Shared<Parent>>>
+    ensures { IfOk result (λ same. same ≡ parent.now) }
 {
     Ok(parent.clone()?)
-}
-
-// What stays the child's.
-#[derive(Drop)]
-struct Own {
-    pom: PomId,
-    parent: Option<Parent>,
-    artifact: Text,
-    packaging: Text,
-    modules: List<Text>,
-    profiles: List<Profile>,
-}
-
-impl Own {
-    fn of(child: &RawModel) -> Mem<Own>
-        ensures { IfOk result (λ own. own ≡ own_parts child.now) }
-    {
-        let pom = same_pom(&child.pom)?;
-        let parent = same_parent(&child.parent)?;
-        let artifact = child.artifact.clone()?;
-        let packaging = child.packaging.clone()?;
-        let modules = child.modules.clone()?;
-        let profiles = copies(&child.profiles)?;
-        Ok(Own {
-            pom,
-            parent,
-            artifact,
-            packaging,
-            modules,
-            profiles,
-        })
-    }
-}
-
-// The lists that are joined by their keys.
-#[derive(Drop)]
-struct Joined {
-    properties: List<Pair>,
-    managed: List<Dependency>,
-    dependencies: List<Dependency>,
-}
-
-impl Joined {
-    fn of(alloc: Global, child: &RawModel, parent: &RawModel) -> Mem<Joined>
-        ensures { IfOk result (λ joined. joined ≡ joined_parts child.now parent.now) }
-    {
-        let properties = with_others(
-            alloc,
-            child.properties.as_slice(),
-            parent.properties.as_slice(),
-        )?;
-        let managed = with_others(alloc, child.managed.as_slice(), parent.managed.as_slice())?;
-        let dependencies = with_others(
-            alloc,
-            child.dependencies.as_slice(),
-            parent.dependencies.as_slice(),
-        )?;
-        Ok(Joined {
-            properties,
-            managed,
-            dependencies,
-        })
-    }
 }
 
 /// A POM with what it takes over from the one that it builds on. Costs both, on the average. POM Reference, "Inheritance".
@@ -142,23 +133,21 @@ impl Joined {
 pub fn inherit(alloc: Global, child: &RawModel, parent: &RawModel) -> Mem<RawModel>
     ensures { IfOk result (λ model. model ≡ inherit child.now parent.now) }
 {
-    let group = text_or(&child.group, &parent.group)?;
-    let version = text_or(&child.version, &parent.version)?;
-    let own = Own::of(child)?;
-    let joined = Joined::of(alloc, child, parent)?;
-    let build = inherit_build(alloc, &child.build, &parent.build)?;
+    let coordinates = Shared::new(
+        alloc,
+        inherit_coordinates(&child.coordinates, &parent.coordinates)?,
+    )?;
+    let base = Shared::new(alloc, inherit_base(alloc, &child.base, &parent.base)?)?;
+    let build = Shared::new(alloc, inherit_build(alloc, &child.build, &parent.build)?)?;
+    let pom = child.pom.share()?;
+    let own_parent = same_parent(&child.parent)?;
+    let profiles = child.profiles.share()?;
     Ok(RawModel {
-        pom: own.pom,
-        parent: own.parent,
-        group,
-        artifact: own.artifact,
-        version,
-        packaging: own.packaging,
-        modules: own.modules,
-        properties: joined.properties,
-        managed: joined.managed,
-        dependencies: joined.dependencies,
+        pom,
+        parent: own_parent,
+        coordinates,
+        base,
         build,
-        profiles: own.profiles,
+        profiles,
     })
 }

@@ -9,15 +9,18 @@ ghost use Rattle.model_merge.specs.Merging.{key_of_execution, key_of_plugin, mer
 ghost use Rattle.inheritance.specs.Placing.{handed_on, inheritable, inherited_plugins, is_shared, leading};
 ghost use Rattle.inheritance.specs.Others.{Stands, HasKeys, listed};
 
-use model_merge::{Keyed, copies, merged_over, settled};
+use model_merge::{Keyed, merged_over, settled};
 use model_types::{Execution, Plugin};
 use mvn_base::Key;
-use mvn_shared::{List, Mem};
+use mvn_shared::{List, Mem, Shared};
 use std::alloc::Global;
 use std::collections::{HashMap, HashSet};
 
 // The executions that a child takes over.
-fn inherited_executions(alloc: Global, list: List<Execution>) -> Mem<List<Execution>>
+fn inherited_executions(
+    alloc: Global,
+    list: List<Shared<Execution>>,
+) -> Mem<List<Shared<Execution>>>
     ensures { IfOk result (λ kept. kept ≡ filter (λ (e : executions.Execution). e.inherited) list) }
 {
     let mut kept = List::new(alloc);
@@ -30,36 +33,41 @@ fn inherited_executions(alloc: Global, list: List<Execution>) -> Mem<List<Execut
 }
 
 // A parent's plugin as a child takes it over.
-fn handed_on(alloc: Global, plugin: Plugin) -> Mem<Plugin>
-    ensures { IfOk result (λ handed. handed ≡ handed_on plugin) }
+fn handed_on(alloc: Global, plugin: &Plugin) -> Mem<Plugin>
+    ensures { IfOk result (λ handed. handed ≡ handed_on plugin.now) }
 {
+    let group = plugin.group.clone()?;
+    let artifact = plugin.artifact.clone()?;
+    let version = plugin.version.clone()?;
+    let dependencies = plugin.dependencies.clone()?;
     let executions = inherited_executions(alloc, settled(alloc, plugin.executions.as_slice())?)?;
+    let configuration = plugin.configuration.share()?;
     Ok(Plugin {
-        group: plugin.group,
-        artifact: plugin.artifact,
-        version: plugin.version,
+        group,
+        artifact,
+        version,
         inherited: plugin.inherited,
-        dependencies: plugin.dependencies,
+        dependencies,
         executions,
-        configuration: plugin.configuration,
+        configuration,
     })
 }
 
 // The plugins that a parent passes on.
-fn inheritable(alloc: Global, parent: &[Plugin]) -> Mem<List<Plugin>>
+fn inheritable(alloc: Global, parent: &[Shared<Plugin>]) -> Mem<List<Shared<Plugin>>>
     ensures { IfOk result (λ list. list ≡ inheritable parent.now) }
 {
     let mut list = List::new(alloc);
     for plugin in settled(alloc, parent)?.into_vec() {
         if plugin.inherited {
-            list.push(handed_on(alloc, plugin)?)?;
+            list.push(Shared::new(alloc, handed_on(alloc, &plugin)?)?)?;
         }
     }
     Ok(list)
 }
 
 // One key more.
-fn add_key(alloc: Global, keys: &mut HashSet<Key>, plugin: &Plugin) -> Mem<()>
+fn add_key(alloc: Global, keys: &mut HashSet<Key>, plugin: &Shared<Plugin>) -> Mem<()>
     ensures { OnOk result ((q : names.Key) → contains same_key keys.new q ≡ (same_key (key_of_plugin plugin.now) q || contains same_key keys.old q)) }
 {
     keys.insert(plugin.key(alloc)?)?;
@@ -67,7 +75,7 @@ fn add_key(alloc: Global, keys: &mut HashSet<Key>, plugin: &Plugin) -> Mem<()>
 }
 
 // The keys of plugins.
-fn keys_of(alloc: Global, plugins: &[Plugin]) -> Mem<HashSet<Key>>
+fn keys_of(alloc: Global, plugins: &[Shared<Plugin>]) -> Mem<HashSet<Key>>
     ensures { IfOk result (HasKeys plugins.now) }
 {
     let mut keys = HashSet::new(alloc);
@@ -80,12 +88,12 @@ fn keys_of(alloc: Global, plugins: &[Plugin]) -> Mem<HashSet<Key>>
 // The child's plugins that its parent hasn't: those in front of each shared one, and those that no shared one follows.
 #[derive(Drop)]
 struct Others {
-    before: HashMap<Key, Vec<Plugin>>,
-    last: Vec<Plugin>,
+    before: HashMap<Key, Vec<Shared<Plugin>>>,
+    last: Vec<Shared<Plugin>>,
 }
 
 // Plugins, one list behind the other.
-fn appended(first: Vec<Plugin>, second: Vec<Plugin>) -> Mem<Vec<Plugin>>
+fn appended(first: Vec<Shared<Plugin>>, second: Vec<Shared<Plugin>>) -> Mem<Vec<Shared<Plugin>>>
     ensures { IfOk result (λ list. list.items ≡ first.items ++ second.items) }
 {
     let mut list = first;
@@ -98,9 +106,9 @@ fn appended(first: Vec<Plugin>, second: Vec<Plugin>) -> Mem<Vec<Plugin>>
 // Plugins more, under a key.
 fn add_before(
     alloc: Global,
-    before: &mut HashMap<Key, Vec<Plugin>>,
+    before: &mut HashMap<Key, Vec<Shared<Plugin>>>,
     key: Key,
-    plugins: Vec<Plugin>,
+    plugins: Vec<Shared<Plugin>>,
 ) -> Mem<()>
     ensures { OnOk result ((q : names.Key) → listed before.new q ≡ (if same_key key q then listed before.old q ++ plugins.items else listed before.old q)) }
 {
@@ -127,7 +135,7 @@ impl Others {
     }
 
     // One more that isn't shared.
-    fn with(self, plugin: Plugin) -> Mem<Others>
+    fn with(self, plugin: Shared<Plugin>) -> Mem<Others>
         ensures before { IfOk result (λ others. others.before ≡ self.before) }
         ensures last { IfOk result (λ others. others.last.items ≡ self.last.items ++ plugin ∷ []) }
     {
@@ -137,7 +145,7 @@ impl Others {
     }
 
     // The child's next plugin.
-    fn next(self, alloc: Global, keys: &HashSet<Key>, plugin: Plugin) -> Mem<Others>
+    fn next(self, alloc: Global, keys: &HashSet<Key>, plugin: Shared<Plugin>) -> Mem<Others>
         ensures { (parent done : Items plugins.Plugin) → HasKeys parent keys.now → Stands parent done self.before self.last.items
             → IfOk result (λ others. Stands parent (done ++ plugin ∷ []) others.before others.last.items) }
     {
@@ -150,7 +158,7 @@ impl Others {
 }
 
 // Where the child's others stand.
-fn others_of(alloc: Global, parent: &[Plugin], child: List<Plugin>) -> Mem<Others>
+fn others_of(alloc: Global, parent: &[Shared<Plugin>], child: List<Shared<Plugin>>) -> Mem<Others>
     ensures { IfOk result (λ others. Stands parent.now child others.before others.last.items) }
 {
     let keys = keys_of(alloc, parent)?;
@@ -165,17 +173,21 @@ fn others_of(alloc: Global, parent: &[Plugin], child: List<Plugin>) -> Mem<Other
 }
 
 // Copies of plugins, behind a list.
-fn push_copies(list: &mut List<Plugin>, plugins: &[Plugin]) -> Mem<()>
+fn push_copies(list: &mut List<Shared<Plugin>>, plugins: &[Shared<Plugin>]) -> Mem<()>
     ensures { OnOk result (list.new ≡ list.old ++ plugins.now) }
 {
     for plugin in plugins {
-        list.push(plugin.copy()?)?;
+        list.push(plugin.share()?)?;
     }
     Ok(())
 }
 
 // Copies of what stands under a key, behind a list.
-fn push_listed(list: &mut List<Plugin>, before: &HashMap<Key, Vec<Plugin>>, key: &Key) -> Mem<()>
+fn push_listed(
+    list: &mut List<Shared<Plugin>>,
+    before: &HashMap<Key, Vec<Shared<Plugin>>>,
+    key: &Key,
+) -> Mem<()>
     ensures { OnOk result (list.new ≡ list.old ++ listed before.now key.now) }
 {
     match before.get(key) {
@@ -187,9 +199,9 @@ fn push_listed(list: &mut List<Plugin>, before: &HashMap<Key, Vec<Plugin>>, key:
 // A parent's plugin, behind the child's others that stand in front of it.
 fn push_placed(
     alloc: Global,
-    list: &mut List<Plugin>,
-    before: &HashMap<Key, Vec<Plugin>>,
-    plugin: Plugin,
+    list: &mut List<Shared<Plugin>>,
+    before: &HashMap<Key, Vec<Shared<Plugin>>>,
+    plugin: Shared<Plugin>,
 ) -> Mem<()>
     ensures { OnOk result (list.new ≡ (list.old ++ listed before.now (key_of_plugin plugin)) ++ plugin ∷ []) }
 {
@@ -201,9 +213,9 @@ fn push_placed(
 // A parent's plugins, each behind the child's others that stand in front of it.
 fn in_place(
     alloc: Global,
-    before: &HashMap<Key, Vec<Plugin>>,
-    parent: List<Plugin>,
-) -> Mem<List<Plugin>>
+    before: &HashMap<Key, Vec<Shared<Plugin>>>,
+    parent: List<Shared<Plugin>>,
+) -> Mem<List<Shared<Plugin>>>
     ensures { IfOk result (λ list. list ≡ flat_map (λ p. listed before.now (key_of_plugin p) ++ p ∷ []) parent) }
 {
     let mut list = List::new(alloc);
@@ -217,7 +229,11 @@ fn in_place(
 /// and the child's others in front of the shared one that follows them, or at the end. Costs both, on the average. POM Reference,
 /// "Plugins", of `inherited`; the places are an own rule.
 #[tactic(auto, unfolding(crate::specs::Placing::inherited_plugins))]
-pub fn inherited_plugins(alloc: Global, child: &[Plugin], parent: &[Plugin]) -> Mem<List<Plugin>>
+pub fn inherited_plugins(
+    alloc: Global,
+    child: &[Shared<Plugin>],
+    parent: &[Shared<Plugin>],
+) -> Mem<List<Shared<Plugin>>>
     ensures { IfOk result (λ list. list ≡ inherited_plugins child.now parent.now) }
 {
     let parents = inheritable(alloc, parent)?;

@@ -4,9 +4,8 @@ use Rattle.mvn_base.specs.declared.machine.Machine.{Machine}
 use Rattle.mvn_base.specs.declared.machine.Pair.{Pair}
 use Rattle.model_types.specs.declared.model.RawModel.{RawModel}
 use Rattle.interpolate.specs.Filling.{fill, fill_model, refused_in}
-use Rattle.interpolate.specs.Joining.{TellsOf}
 use Rattle.interpolate.specs.Named.{named}
-use Rattle.interpolate.specs.Tables.{Fails}
+use Rattle.interpolate.specs.Tables.{Fails, TellsOf}
 use Rattle.interpolate.specs.declared.fault.FillFault.{FillFault}
 use Rattle.interpolate.specs.declared.fault.FillFault.TheVariants.{Refused, Memory}
 

@@ -1,6 +1,7 @@
--- A model with its texts filled, in order; the first refusal counts. Own order: the properties, the coordinate, the packaging, the
--- build's folders, what is managed, the dependencies, managed plugins, plugins and extensions, and in each item the order of its fields.
-use Rattle.std.specs.Prelude.{◌≡◌, ℕ, List, [], ◌∷◌, codes, map, Option, None, Some, Result, Ok, Err}
+-- A model with its texts filled, in order; the first refusal counts. Project rule for the order: the properties, the coordinates and
+-- packaging, the build's folders and final name, what is managed, the dependencies, managed plugins, plugins and extensions, and in each
+-- item the order of its fields.
+use Rattle.std.specs.Prelude.{ℕ, List, [], ◌∷◌, codes, map, Option, None, Some, Result, Ok, Err}
 use Rattle.std.specs.Option.{option_map_or}
 use Rattle.mvn_base.specs.declared.gav.Gav.{Gav}
 use Rattle.mvn_base.specs.declared.machine.Machine.{Machine}
@@ -14,10 +15,13 @@ use Rattle.mvn_base.specs.declared.setting.Setting.TheOpen.{Setting-F}
 use Rattle.mvn_base.specs.declared.setting.Setting.TheViews.{roll-Setting}
 use Rattle.mvn_base.specs.declared.setting.Setting.TheFolds.{fold-Setting}
 use Rattle.model_types.specs.declared.build.Build.{Build}
+use Rattle.model_types.specs.declared.build.BuildBase.{BuildBase}
+use Rattle.model_types.specs.declared.build.Outputs.{Outputs}
+use Rattle.model_types.specs.declared.build.Sources.{Sources}
 use Rattle.model_types.specs.declared.dependency.Dependency.{Dependency}
 use Rattle.model_types.specs.declared.dependency.Exclusion.{Exclusion}
-use Rattle.model_types.specs.declared.fault.ModelError.{ModelError}
-use Rattle.model_types.specs.declared.fault.ModelError.TheVariants as errors
+use Rattle.model_types.specs.declared.model.Coordinates.{Coordinates}
+use Rattle.model_types.specs.declared.model.ModelBase.{ModelBase}
 use Rattle.model_types.specs.declared.model.RawModel.{RawModel}
 use Rattle.model_types.specs.declared.plugin.Execution.{Execution}
 use Rattle.model_types.specs.declared.plugin.Plugin.{Plugin}
@@ -25,10 +29,6 @@ use Rattle.expressions.specs.declared.part.Part.{Part}
 use Rattle.expressions.specs.declared.part.Part.TheVariants.{Plain, Name}
 use Rattle.expressions.specs.Parts.{parts}
 use Rattle.interpolate.specs.Named.{named}
-use Rattle.interpolate.specs.declared.groups.Artifacts.{Artifacts}
-use Rattle.interpolate.specs.declared.groups.Head.{Head}
-use Rattle.interpolate.specs.declared.groups.Inputs.{Inputs}
-use Rattle.interpolate.specs.declared.groups.Outputs.{Outputs}
 use Rattle.interpolate.specs.Values.{Filled, ◌>>=◌, filled, value}
 
 abbrev pub if_there : {A B : Type 0} → (A → Filled B) → Option A → Filled (Option B)
@@ -56,38 +56,13 @@ unresolved name = Err (Unresolved, name)
 abbrev pub resolved : List ℕ → Filled (List ℕ)
 resolved text = option_map_or unresolved (first_name (parts text)) (Ok text)
 
--- a build from its filled parts
-abbrev pub build_of : Outputs → Inputs → Artifacts → Build
-build_of outputs inputs artifacts = record {
-  directory = outputs.directory;
-  output = outputs.output;
-  test_output = outputs.test_output;
-  final_name = outputs.final_name;
-  source = inputs.source;
-  test_source = inputs.test_source;
-  resources = inputs.resources;
-  test_resources = inputs.test_resources;
-  plugins = artifacts.plugins;
-  managed_plugins = artifacts.managed_plugins;
-  extensions = artifacts.extensions;
-}
+-- a base with these in the place of its own; its modules stay as they are
+abbrev pub with_items : ModelBase → List Pair → List Dependency → List Dependency → ModelBase
+with_items b properties managed dependencies = record { modules = b.modules; properties = properties; managed = managed; dependencies = dependencies }
 
--- a model from its filled parts; its POM, parent, modules and profiles stay as they are
-abbrev pub model_of : RawModel → Head → Outputs → Inputs → Artifacts → RawModel
-model_of raw head outputs inputs artifacts = record {
-  pom = raw.pom;
-  parent = raw.parent;
-  group = head.group;
-  artifact = head.artifact;
-  version = head.version;
-  packaging = head.packaging;
-  modules = raw.modules;
-  properties = head.properties;
-  managed = artifacts.managed;
-  dependencies = artifacts.dependencies;
-  build = build_of outputs inputs artifacts;
-  profiles = raw.profiles;
-}
+-- a model with these groups in the place of its own; its POM, parent and profiles stay as they are
+abbrev pub with_groups : RawModel → Coordinates → ModelBase → Build → RawModel
+with_groups raw coordinates base build = record { pom = raw.pom; parent = raw.parent; coordinates = coordinates; base = base; build = build; profiles = raw.profiles }
 
 module _ (known : List Pair) where
   -- the text of an element of this name
@@ -154,49 +129,63 @@ module _ (known : List Pair) where
       each fill_setting p.configuration >>= (λ configuration.
       Ok (record { group = group; artifact = artifact; version = version; inherited = p.inherited; dependencies = dependencies; executions = executions; configuration = configuration })))))))
 
-  abbrev pub fill_outputs : Build → Filled Outputs
-  fill_outputs b =
-      if_there (text_of (codes "directory")) b.directory >>= (λ directory.
-      if_there (text_of (codes "outputDirectory")) b.output >>= (λ output.
-      if_there (text_of (codes "testOutputDirectory")) b.test_output >>= (λ test_output.
-      if_there (text_of (codes "finalName")) b.final_name >>= (λ final_name.
+  abbrev pub fill_coordinates : Coordinates → Filled Coordinates
+  fill_coordinates c =
+      if_there (name_of (codes "groupId")) c.group >>= (λ group.
+      name_of (codes "artifactId") c.artifact >>= (λ artifact.
+      if_there (name_of (codes "version")) c.version >>= (λ version.
+      text_of (codes "packaging") c.packaging >>= (λ packaging.
+      Ok (record { group = group; artifact = artifact; version = version; packaging = packaging })))))
+
+  abbrev pub fill_outputs : Outputs → Filled Outputs
+  fill_outputs o =
+      if_there (text_of (codes "directory")) o.directory >>= (λ directory.
+      if_there (text_of (codes "outputDirectory")) o.output >>= (λ output.
+      if_there (text_of (codes "testOutputDirectory")) o.test_output >>= (λ test_output.
+      if_there (text_of (codes "finalName")) o.final_name >>= (λ final_name.
       Ok (record { directory = directory; output = output; test_output = test_output; final_name = final_name })))))
 
-  abbrev pub fill_inputs : Build → Filled Inputs
-  fill_inputs b =
-      if_there (text_of (codes "sourceDirectory")) b.source >>= (λ source.
-      if_there (text_of (codes "testSourceDirectory")) b.test_source >>= (λ test_source.
-      each (text_of (codes "directory")) b.resources >>= (λ resources.
-      each (text_of (codes "directory")) b.test_resources >>= (λ test_resources.
+  abbrev pub fill_sources : Sources → Filled Sources
+  fill_sources s =
+      if_there (text_of (codes "sourceDirectory")) s.source >>= (λ source.
+      if_there (text_of (codes "testSourceDirectory")) s.test_source >>= (λ test_source.
+      each (text_of (codes "directory")) s.resources >>= (λ resources.
+      each (text_of (codes "directory")) s.test_resources >>= (λ test_resources.
       Ok (record { source = source; test_source = test_source; resources = resources; test_resources = test_resources })))))
 
-  -- a model's properties, coordinate and packaging
-  abbrev pub fill_head : RawModel → Filled Head
-  fill_head raw =
-      each fill_property raw.properties >>= (λ properties.
-      if_there (name_of (codes "groupId")) raw.group >>= (λ group.
-      name_of (codes "artifactId") raw.artifact >>= (λ artifact.
-      if_there (name_of (codes "version")) raw.version >>= (λ version.
-      text_of (codes "packaging") raw.packaging >>= (λ packaging.
-      Ok (record { properties = properties; group = group; artifact = artifact; version = version; packaging = packaging }))))))
+  -- what is managed, and the dependencies; the properties are filled before
+  abbrev pub fill_base : ModelBase → List Pair → Filled ModelBase
+  fill_base b properties =
+      each fill_dependency b.managed >>= (λ managed.
+      each fill_dependency b.dependencies >>= (λ dependencies.
+      Ok (with_items b properties managed dependencies)))
 
-  -- the dependencies and plugins that it has
-  abbrev pub fill_artifacts : RawModel → Filled Artifacts
-  fill_artifacts raw =
-      each fill_dependency raw.managed >>= (λ managed.
-      each fill_dependency raw.dependencies >>= (λ dependencies.
-      each fill_plugin raw.build.managed_plugins >>= (λ managed_plugins.
-      each fill_plugin raw.build.plugins >>= (λ plugins.
-      each fill_extension raw.build.extensions >>= (λ extensions.
-      Ok (record { managed = managed; dependencies = dependencies; managed_plugins = managed_plugins; plugins = plugins; extensions = extensions }))))))
+  abbrev pub fill_build_base : BuildBase → Filled BuildBase
+  fill_build_base b =
+      each fill_plugin b.managed_plugins >>= (λ managed_plugins.
+      each fill_plugin b.plugins >>= (λ plugins.
+      Ok (record { plugins = plugins; managed_plugins = managed_plugins })))
+
+  -- the plugins and the extensions; the folders and the final name are filled before
+  abbrev pub fill_build : Build → Outputs → Sources → Filled Build
+  fill_build b outputs sources =
+      fill_build_base b.base >>= (λ base.
+      each fill_extension b.extensions >>= (λ extensions.
+      Ok (record { outputs = outputs; sources = sources; base = base; extensions = extensions })))
+
+  -- a model of this base and build
+  abbrev pub fill_groups : RawModel → ModelBase → Build → Filled RawModel
+  fill_groups raw base build =
+      each fill_property base.properties >>= (λ properties.
+      fill_coordinates raw.coordinates >>= (λ coordinates.
+      fill_outputs build.outputs >>= (λ outputs.
+      fill_sources build.sources >>= (λ sources.
+      fill_base base properties >>= (λ filled_base.
+      fill_build build outputs sources >>= (λ filled_build.
+      Ok (with_groups raw coordinates filled_base filled_build)))))))
 
   abbrev pub fill_model : RawModel → Filled RawModel
-  fill_model raw =
-      fill_head raw >>= (λ head.
-      fill_outputs raw.build >>= (λ outputs.
-      fill_inputs raw.build >>= (λ inputs.
-      fill_artifacts raw >>= (λ artifacts.
-      Ok (model_of raw head outputs inputs artifacts)))))
+  fill_model raw = fill_groups raw raw.base raw.build
 
 -- a refusal names the POM
 abbrev pub refused_in : PomId → Filled RawModel → Result RawModel Refusal
@@ -206,9 +195,3 @@ refused_in pom (Err e) = Err (record { pom = pom; rule = e.0; place = places.Nam
 -- a model with its texts filled, or the first refusal
 unfoldable pub fill : RawModel → Option (List ℕ) → Machine → List Pair → Result RawModel Refusal
 fill raw basedir machine defines = refused_in raw.pom (fill_model (named raw basedir machine defines) raw)
-
--- what is said, and what the call answers, where it had memory
-abbrev pub Answers : Result RawModel Refusal → Result RawModel ModelError → Type 0
-Answers said (Ok model) = said ≡ Ok model
-Answers said (Err (errors.Refused refusal)) = said ≡ Err refusal
-Answers said (Err errors.Memory) = Unit {0}

@@ -1,5 +1,4 @@
 pub mod Filling
-pub mod Joining
 pub mod Named
 pub mod Tables
 pub mod Values

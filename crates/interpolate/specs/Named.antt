@@ -1,4 +1,4 @@
--- What an expression of a model can name. POM Reference, "Properties"; which of equal names counts is an own rule.
+-- What an expression of a model can name. POM Reference, "Properties"; which of equal names counts is a project rule.
 use Rattle.std.specs.Prelude.{ℕ, List, [], ◌++◌, codes, map, Option, None, Some, option_map, option_to_list}
 use Rattle.mvn_base.specs.declared.gav.Gav.{Gav}
 use Rattle.mvn_base.specs.declared.machine.Machine.{Machine}
@@ -19,9 +19,9 @@ behind front pairs = map (λ (p : Pair). record { name = front ++ p.name; value 
 abbrev pub own_fields : RawModel → Option (List ℕ) → List Pair
 own_fields raw basedir =
     field (codes "basedir") basedir
-    ++ field (codes "groupId") raw.group
-    ++ field (codes "artifactId") (Some raw.artifact)
-    ++ field (codes "version") raw.version
+    ++ field (codes "groupId") raw.coordinates.group
+    ++ field (codes "artifactId") (Some raw.coordinates.artifact)
+    ++ field (codes "version") raw.coordinates.version
 
 abbrev pub coordinate_fields : Gav → List Pair
 coordinate_fields gav = field (codes "parent.groupId") (Some gav.group) ++ field (codes "parent.artifactId") (Some gav.artifact) ++ field (codes "parent.version") (Some gav.version)
@@ -32,16 +32,16 @@ parent_fields (Some parent) = coordinate_fields parent.gav
 
 abbrev pub build_fields : Build → List Pair
 build_fields build =
-    field (codes "build.directory") build.directory
-    ++ field (codes "build.outputDirectory") build.output
-    ++ field (codes "build.testOutputDirectory") build.test_output
-    ++ field (codes "build.finalName") build.final_name
-    ++ field (codes "build.sourceDirectory") build.source
-    ++ field (codes "build.testSourceDirectory") build.test_source
+    field (codes "build.directory") build.outputs.directory
+    ++ field (codes "build.outputDirectory") build.outputs.output
+    ++ field (codes "build.testOutputDirectory") build.outputs.test_output
+    ++ field (codes "build.finalName") build.outputs.final_name
+    ++ field (codes "build.sourceDirectory") build.sources.source
+    ++ field (codes "build.testSourceDirectory") build.sources.test_source
 
 -- the fields of a model
 abbrev pub fields : RawModel → Option (List ℕ) → List Pair
-fields raw basedir = own_fields raw basedir ++ field (codes "packaging") (Some raw.packaging) ++ parent_fields raw.parent ++ build_fields raw.build
+fields raw basedir = own_fields raw basedir ++ field (codes "packaging") (Some raw.coordinates.packaging) ++ parent_fields raw.parent ++ build_fields raw.build
 
 -- all that can be named, from what counts least on: of equal names the last one counts
 unfoldable pub named : RawModel → Option (List ℕ) → Machine → List Pair → List Pair
@@ -49,7 +49,7 @@ named raw basedir machine defines =
     own_fields raw basedir
     ++ machine.system
     ++ behind (codes "env.") machine.env
-    ++ raw.properties
+    ++ raw.base.properties
     ++ defines
     ++ behind (codes "pom.") (fields raw basedir)
     ++ behind (codes "project.") (fields raw basedir)

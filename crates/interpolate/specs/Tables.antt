@@ -5,7 +5,11 @@ use Rattle.std.specs.Option.{option_map_or}
 use Rattle.std.specs.Str.{bytes_eq}
 use Rattle.std.specs.Vec.Iter.{into_iter_items, into_iter_len}
 use Rattle.mvn_base.specs.declared.machine.Pair.{Pair}
+use Rattle.mvn_base.specs.declared.refusal.Place.TheVariants as places
+use Rattle.mvn_base.specs.declared.refusal.PomId.{PomId}
+use Rattle.mvn_base.specs.declared.refusal.Refusal.{Refusal}
 use Rattle.mvn_base.specs.declared.rule.Rule.{Rule}
+use Rattle.model_types.specs.declared.model.RawModel.{RawModel}
 use Rattle.expressions.specs.declared.part.Part.{Part}
 use Rattle.expressions.specs.declared.part.Part.TheVariants.{Name}
 use Rattle.expressions.specs.Named.{last_named}
@@ -24,16 +28,20 @@ use Rattle.interpolate.specs.declared.filler.Turn.TheVariants as turn
 use Rattle.interpolate.specs.declared.filler.Whole.{Whole}
 use Rattle.interpolate.specs.declared.filler.Whole.TheVariants as whole
 
--- what is said, and what a call answers, where it had memory
-abbrev pub Says : {A : Type 0} → Filled A → Result A FillFault → Type 0
-Says said (Ok x) = said ≡ Ok x
-Says said (Err (Refused rule place)) = said ≡ Err (rule, place)
-Says said (Err Memory) = Unit {0}
-
 -- a fault is the refusal that is said
 abbrev pub Fails : {A : Type 0} → Filled A → FillFault → Type 0
 Fails said (Refused rule place) = said ≡ Err (rule, place)
 Fails said Memory = Unit {0}
+
+-- what is said, and what a call answers, where it had memory
+abbrev pub Tells : {A : Type 0} → Filled A → Result A FillFault → Type 0
+Tells said (Ok x) = said ≡ Ok x
+Tells said (Err fault) = Fails said fault
+
+-- a fault is the refusal that is said of this POM
+abbrev pub TellsOf : PomId → FillFault → Result RawModel Refusal → Type 0
+TellsOf pom (Refused rule place) said = said ≡ Err (record { pom = pom; rule = rule; place = places.Name place })
+TellsOf pom Memory said = Unit {0}
 
 -- a list behind what is there
 abbrev pub prefixed : {A : Type 0} → List A → Filled (List A) → Filled (List A)

@@ -5,7 +5,7 @@ use mvn_shared::{OutOfMemory, Text};
 use std::alloc::{AllocError, Global};
 
 /// Why a text isn't filled: a rule, with the name or the element that it is about, or memory ran out.
-#[derive(Debug, Drop)]
+#[derive(Drop)]
 pub(crate) enum FillFault {
     Refused { rule: Rule, place: Text },
     Memory,

@@ -10,7 +10,7 @@ ghost use Rattle.interpolate.specs.declared.filler.Filler as tables;
 ghost use Rattle.interpolate.specs.declared.step.Step as steps;
 ghost use Rattle.expressions.specs.Parts.{parts, spelled};
 ghost use Rattle.expressions.specs.Named.{last_named};
-ghost use Rattle.interpolate.specs.Tables.{AskCounts, Asks, Ends, Gives, Goes, IsStep, IsTable, IsWay, Says, StopCounts, Stops, TurnCounts, Turns, Waits, WholeCounts, begun_in, names, fresh_count, fresh_in};
+ghost use Rattle.interpolate.specs.Tables.{AskCounts, Asks, Ends, Gives, Goes, IsStep, IsTable, IsWay, StopCounts, Stops, TurnCounts, Turns, Waits, WholeCounts, begun_in, names, fresh_count, fresh_in};
 ghost use Rattle.interpolate.specs.Filling.{first_name, name_of, text_of};
 ghost use Rattle.interpolate.specs.Values.{part_value, value, with_part};
 

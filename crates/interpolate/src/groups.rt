@@ -1,38 +1,25 @@
-ghost use Rattle.std.specs.Prelude.{List as Items, []};
+ghost use Rattle.std.specs.Prelude.{◌≡◌, List as Items, [], IfOk};
 ghost use Rattle.mvn_base.specs.declared.machine.Pair as pairs;
-ghost use Rattle.interpolate.specs.Filling.{fill_artifacts, fill_head, fill_inputs, fill_outputs};
+ghost use Rattle.interpolate.specs.Filling.{fill_base, fill_build, fill_build_base, fill_coordinates, fill_outputs, fill_sources, with_items};
 ghost use Rattle.interpolate.specs.Tables.{Gives, IsTable};
 
 use crate::fault::FillFault;
 use crate::filler::Filler;
-use crate::items::{fill_each, fill_texts, name_if, text_if};
-use model_types::{Build, Dependency, Plugin, RawModel};
-use mvn_base::{Gav, Pair};
-use mvn_shared::{List, Text};
+use crate::items::{Fill, fill_each, fill_texts, name_if, text_if};
+use model_types::{Build, BuildBase, Coordinates, Dependency, ModelBase, Outputs, Sources};
+use mvn_base::Pair;
+use mvn_shared::{List, Mem, Shared};
 use std::alloc::Global;
 
-/// A model's properties, coordinate and packaging.
-#[derive(Drop)]
-pub(crate) struct Head {
-    pub(crate) properties: List<Pair>,
-    pub(crate) group: Option<Text>,
-    pub(crate) artifact: Text,
-    pub(crate) version: Option<Text>,
-    pub(crate) packaging: Text,
-}
+impl Fill for Coordinates {
+    ghost filled = { fill_coordinates };
 
-impl Head {
-    /// With its texts filled.
-    pub(crate) fn of(alloc: Global, filler: &mut Filler, raw: &RawModel) -> Result<Head, FillFault>
-        ensures { (known : Items pairs.Pair) → IsTable known [] filler.old → Gives known (fill_head known raw.now) filler.new result }
-    {
-        let properties = fill_each(alloc, filler, &raw.properties)?;
-        let group = name_if(alloc, filler, "groupId", &raw.group)?;
-        let artifact = filler.name(alloc, "artifactId", &raw.artifact)?;
-        let version = name_if(alloc, filler, "version", &raw.version)?;
-        let packaging = filler.text(alloc, "packaging", &raw.packaging)?;
-        Ok(Head {
-            properties,
+    fn fill(&self, alloc: Global, filler: &mut Filler) -> Result<Coordinates, FillFault> {
+        let group = name_if(alloc, filler, "groupId", &self.group)?;
+        let artifact = filler.name(alloc, "artifactId", &self.artifact)?;
+        let version = name_if(alloc, filler, "version", &self.version)?;
+        let packaging = filler.text(alloc, "packaging", &self.packaging)?;
+        Ok(Coordinates {
             group,
             artifact,
             version,
@@ -41,28 +28,14 @@ impl Head {
     }
 }
 
-/// What a build makes, and where.
-#[derive(Drop)]
-pub(crate) struct Outputs {
-    pub(crate) directory: Option<Text>,
-    pub(crate) output: Option<Text>,
-    pub(crate) test_output: Option<Text>,
-    pub(crate) final_name: Option<Text>,
-}
+impl Fill for Outputs {
+    ghost filled = { fill_outputs };
 
-impl Outputs {
-    /// With its texts filled.
-    pub(crate) fn of(
-        alloc: Global,
-        filler: &mut Filler,
-        build: &Build,
-    ) -> Result<Outputs, FillFault>
-        ensures { (known : Items pairs.Pair) → IsTable known [] filler.old → Gives known (fill_outputs known build.now) filler.new result }
-    {
-        let directory = text_if(alloc, filler, "directory", &build.directory)?;
-        let output = text_if(alloc, filler, "outputDirectory", &build.output)?;
-        let test_output = text_if(alloc, filler, "testOutputDirectory", &build.test_output)?;
-        let final_name = text_if(alloc, filler, "finalName", &build.final_name)?;
+    fn fill(&self, alloc: Global, filler: &mut Filler) -> Result<Outputs, FillFault> {
+        let directory = text_if(alloc, filler, "directory", &self.directory)?;
+        let output = text_if(alloc, filler, "outputDirectory", &self.output)?;
+        let test_output = text_if(alloc, filler, "testOutputDirectory", &self.test_output)?;
+        let final_name = text_if(alloc, filler, "finalName", &self.final_name)?;
         Ok(Outputs {
             directory,
             output,
@@ -72,25 +45,15 @@ impl Outputs {
     }
 }
 
-/// What a build is made from.
-#[derive(Drop)]
-pub(crate) struct Inputs {
-    pub(crate) source: Option<Text>,
-    pub(crate) test_source: Option<Text>,
-    pub(crate) resources: List<Text>,
-    pub(crate) test_resources: List<Text>,
-}
+impl Fill for Sources {
+    ghost filled = { fill_sources };
 
-impl Inputs {
-    /// With its texts filled.
-    pub(crate) fn of(alloc: Global, filler: &mut Filler, build: &Build) -> Result<Inputs, FillFault>
-        ensures { (known : Items pairs.Pair) → IsTable known [] filler.old → Gives known (fill_inputs known build.now) filler.new result }
-    {
-        let source = text_if(alloc, filler, "sourceDirectory", &build.source)?;
-        let test_source = text_if(alloc, filler, "testSourceDirectory", &build.test_source)?;
-        let resources = fill_texts(alloc, filler, "directory", &build.resources)?;
-        let test_resources = fill_texts(alloc, filler, "directory", &build.test_resources)?;
-        Ok(Inputs {
+    fn fill(&self, alloc: Global, filler: &mut Filler) -> Result<Sources, FillFault> {
+        let source = text_if(alloc, filler, "sourceDirectory", &self.source)?;
+        let test_source = text_if(alloc, filler, "testSourceDirectory", &self.test_source)?;
+        let resources = fill_texts(alloc, filler, "directory", &self.resources)?;
+        let test_resources = fill_texts(alloc, filler, "directory", &self.test_resources)?;
+        Ok(Sources {
             source,
             test_source,
             resources,
@@ -99,36 +62,76 @@ impl Inputs {
     }
 }
 
-/// The artifacts that a model names.
-#[derive(Drop)]
-pub(crate) struct Artifacts {
-    pub(crate) managed: List<Dependency>,
-    pub(crate) dependencies: List<Dependency>,
-    pub(crate) managed_plugins: List<Plugin>,
-    pub(crate) plugins: List<Plugin>,
-    pub(crate) extensions: List<Gav>,
-}
+impl Fill for BuildBase {
+    ghost filled = { fill_build_base };
 
-impl Artifacts {
-    /// With their texts filled.
-    pub(crate) fn of(
-        alloc: Global,
-        filler: &mut Filler,
-        raw: &RawModel,
-    ) -> Result<Artifacts, FillFault>
-        ensures { (known : Items pairs.Pair) → IsTable known [] filler.old → Gives known (fill_artifacts known raw.now) filler.new result }
-    {
-        let managed = fill_each(alloc, filler, &raw.managed)?;
-        let dependencies = fill_each(alloc, filler, &raw.dependencies)?;
-        let managed_plugins = fill_each(alloc, filler, &raw.build.managed_plugins)?;
-        let plugins = fill_each(alloc, filler, &raw.build.plugins)?;
-        let extensions = fill_each(alloc, filler, &raw.build.extensions)?;
-        Ok(Artifacts {
-            managed,
-            dependencies,
-            managed_plugins,
+    fn fill(&self, alloc: Global, filler: &mut Filler) -> Result<BuildBase, FillFault> {
+        let managed_plugins = fill_each(alloc, filler, &self.managed_plugins)?;
+        let plugins = fill_each(alloc, filler, &self.plugins)?;
+        Ok(BuildBase {
             plugins,
-            extensions,
+            managed_plugins,
         })
     }
+}
+
+// These in the place of a base's own; its modules stay as they are.
+fn with_items(
+    alloc: Global,
+    base: &ModelBase,
+    properties: List<Pair>,
+    managed: List<Shared<Dependency>>,
+    dependencies: List<Shared<Dependency>>,
+) -> Mem<Shared<ModelBase>>
+    ensures { IfOk result (λ filled. filled ≡ with_items base.now properties managed dependencies) }
+{
+    let modules = base.modules.clone()?;
+    let filled = ModelBase {
+        modules,
+        properties,
+        managed,
+        dependencies,
+    };
+    Shared::new(alloc, filled)
+}
+
+/// What is managed and the dependencies with their texts filled, beside properties that are filled already. Costs what
+/// these come to.
+pub(crate) fn fill_base(
+    alloc: Global,
+    filler: &mut Filler,
+    base: &ModelBase,
+    properties: List<Pair>,
+) -> Result<Shared<ModelBase>, FillFault>
+    ensures { (known : Items pairs.Pair) → IsTable known [] filler.old
+        → Gives known (fill_base known base.now properties) filler.new result }
+{
+    let managed = fill_each(alloc, filler, &base.managed)?;
+    let dependencies = fill_each(alloc, filler, &base.dependencies)?;
+    let filled = with_items(alloc, base, properties, managed, dependencies)?;
+    Ok(filled)
+}
+
+/// The plugins and extensions with their texts filled, beside folders and a final name that are filled already. Costs what
+/// these come to.
+pub(crate) fn fill_build(
+    alloc: Global,
+    filler: &mut Filler,
+    build: &Build,
+    outputs: Shared<Outputs>,
+    sources: Shared<Sources>,
+) -> Result<Shared<Build>, FillFault>
+    ensures { (known : Items pairs.Pair) → IsTable known [] filler.old
+        → Gives known (fill_build known build.now outputs sources) filler.new result }
+{
+    let base = build.base.fill(alloc, filler)?;
+    let extensions = fill_each(alloc, filler, &build.extensions)?;
+    let build = Build {
+        outputs,
+        sources,
+        base,
+        extensions,
+    };
+    let filled = Shared::new(alloc, build)?;
+    Ok(filled)
 }

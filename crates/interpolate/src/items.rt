@@ -6,10 +6,10 @@ ghost use Rattle.interpolate.specs.Values.{Filled};
 
 use crate::fault::FillFault;
 use crate::filler::Filler;
-use crate::settings::fill_settings;
+use crate::settings::fill_configuration;
 use model_types::{Dependency, Exclusion, Execution, Plugin};
 use mvn_base::{Gav, Pair};
-use mvn_shared::{List, Text};
+use mvn_shared::{List, Shared, Text};
 use std::alloc::Global;
 
 /// What has texts that are filled.
@@ -23,7 +23,8 @@ pub(crate) trait Fill: Sized + Drop {
     ghost filled: { Items Pair → Self → Filled Self };
 
     fn fill(&self, alloc: Global, filler: &mut Filler) -> Result<Self, FillFault>
-        ensures { (known : Items Pair) → IsTable known [] filler.old → Gives known (filled known self.now) filler.new result };
+        ensures { (known : Items Pair) → IsTable known [] filler.old
+            → Gives known (filled known self.now) filler.new result };
 }
 
 /// All of some, with their texts filled. Costs what these come to.
@@ -32,7 +33,8 @@ pub(crate) fn fill_each<T: Fill>(
     filler: &mut Filler,
     items: &List<T>,
 ) -> Result<List<T>, FillFault>
-    ensures { (known : Items pairs.Pair) → IsTable known [] filler.old → Gives known (each (T.filled known) items.now) filler.new result }
+    ensures { (known : Items pairs.Pair) → IsTable known [] filler.old
+        → Gives known (each (T.filled known) items.now) filler.new result }
 {
     let mut list = List::new(alloc);
     for item in items.as_slice() {
@@ -51,7 +53,8 @@ pub(crate) fn fill_texts(
     element: &str,
     texts: &List<Text>,
 ) -> Result<List<Text>, FillFault>
-    ensures { (known : Items pairs.Pair) → IsTable known [] filler.old → Gives known (each (text_of known element.now) texts.now) filler.new result }
+    ensures { (known : Items pairs.Pair) → IsTable known [] filler.old
+        → Gives known (each (text_of known element.now) texts.now) filler.new result }
 {
     let mut list = List::new(alloc);
     for text in texts.as_slice() {
@@ -70,7 +73,8 @@ pub(crate) fn text_if(
     element: &str,
     text: &Option<Text>,
 ) -> Result<Option<Text>, FillFault>
-    ensures { (known : Items pairs.Pair) → IsTable known [] filler.old → Gives known (if_there (text_of known element.now) text.now) filler.new result }
+    ensures { (known : Items pairs.Pair) → IsTable known [] filler.old
+        → Gives known (if_there (text_of known element.now) text.now) filler.new result }
 {
     match text {
         Some(text) => match filler.text(alloc, element, text) {
@@ -88,7 +92,8 @@ pub(crate) fn name_if(
     element: &str,
     text: &Option<Text>,
 ) -> Result<Option<Text>, FillFault>
-    ensures { (known : Items pairs.Pair) → IsTable known [] filler.old → Gives known (if_there (name_of known element.now) text.now) filler.new result }
+    ensures { (known : Items pairs.Pair) → IsTable known [] filler.old
+        → Gives known (if_there (name_of known element.now) text.now) filler.new result }
 {
     match text {
         Some(text) => match filler.name(alloc, element, text) {
@@ -96,6 +101,17 @@ pub(crate) fn name_if(
             Err(fault) => Err(fault),
         },
         None => Ok(None),
+    }
+}
+
+impl<T: Fill> Fill for Shared<T> {
+    ghost filled = { T.filled };
+
+    fn fill(&self, alloc: Global, filler: &mut Filler) -> Result<Shared<T>, FillFault> {
+        match self.value().fill(alloc, filler) {
+            Ok(item) => Ok(Shared::new(alloc, item)?),
+            Err(fault) => Err(fault),
+        }
     }
 }
 
@@ -168,7 +184,7 @@ impl Fill for Execution {
         let id = filler.text(alloc, "id", &self.id)?;
         let phase = text_if(alloc, filler, "phase", &self.phase)?;
         let goals = fill_texts(alloc, filler, "goal", &self.goals)?;
-        let configuration = fill_settings(alloc, filler, &self.configuration)?;
+        let configuration = fill_configuration(alloc, filler, &self.configuration)?;
         Ok(Execution {
             id,
             phase,
@@ -188,7 +204,7 @@ impl Fill for Plugin {
         let version = name_if(alloc, filler, "version", &self.version)?;
         let dependencies = fill_each(alloc, filler, &self.dependencies)?;
         let executions = fill_each(alloc, filler, &self.executions)?;
-        let configuration = fill_settings(alloc, filler, &self.configuration)?;
+        let configuration = fill_configuration(alloc, filler, &self.configuration)?;
         Ok(Plugin {
             group,
             artifact,

@@ -11,6 +11,3 @@ mod settings;
 mod step;
 
 pub use model::fill;
-
-#[cfg(test)]
-mod tests;

@@ -4,7 +4,7 @@ ghost use Rattle.interpolate.specs.Named.{behind, build_fields, coordinate_field
 
 use model_types::{Build, Parent, RawModel};
 use mvn_base::{Gav, Machine, Pair};
-use mvn_shared::{List, Mem, Text};
+use mvn_shared::{List, Mem, Shared, Text};
 use std::alloc::Global;
 
 // A name with its text, where there is one, behind a list.
@@ -24,9 +24,9 @@ fn push_own(alloc: Global, list: &mut List<Pair>, raw: &RawModel, basedir: Optio
     ensures { OnOk result (list.new ≡ list.old ++ own_fields raw.now (option_copied basedir.entry)) }
 {
     push_field(alloc, list, "basedir", basedir)?;
-    push_field(alloc, list, "groupId", raw.group.as_ref())?;
-    push_field(alloc, list, "artifactId", Some(&raw.artifact))?;
-    push_field(alloc, list, "version", raw.version.as_ref())
+    push_field(alloc, list, "groupId", raw.coordinates.group.as_ref())?;
+    push_field(alloc, list, "artifactId", Some(&raw.coordinates.artifact))?;
+    push_field(alloc, list, "version", raw.coordinates.version.as_ref())
 }
 
 // A parent's coordinate, behind a list.
@@ -39,7 +39,7 @@ fn push_coordinate(alloc: Global, list: &mut List<Pair>, gav: &Gav) -> Mem<()>
 }
 
 // The parent's coordinate, where there is one.
-fn push_parent(alloc: Global, list: &mut List<Pair>, parent: &Option<Parent>) -> Mem<()>
+fn push_parent(alloc: Global, list: &mut List<Pair>, parent: &Option<Shared<Parent>>) -> Mem<()>
     ensures { OnOk result (list.new ≡ list.old ++ parent_fields parent.now) }
 {
     match parent {
@@ -52,21 +52,41 @@ fn push_parent(alloc: Global, list: &mut List<Pair>, parent: &Option<Parent>) ->
 fn push_build(alloc: Global, list: &mut List<Pair>, build: &Build) -> Mem<()>
     ensures { OnOk result (list.new ≡ list.old ++ build_fields build.now) }
 {
-    push_field(alloc, list, "build.directory", build.directory.as_ref())?;
-    push_field(alloc, list, "build.outputDirectory", build.output.as_ref())?;
+    push_field(
+        alloc,
+        list,
+        "build.directory",
+        build.outputs.directory.as_ref(),
+    )?;
+    push_field(
+        alloc,
+        list,
+        "build.outputDirectory",
+        build.outputs.output.as_ref(),
+    )?;
     push_field(
         alloc,
         list,
         "build.testOutputDirectory",
-        build.test_output.as_ref(),
+        build.outputs.test_output.as_ref(),
     )?;
-    push_field(alloc, list, "build.finalName", build.final_name.as_ref())?;
-    push_field(alloc, list, "build.sourceDirectory", build.source.as_ref())?;
+    push_field(
+        alloc,
+        list,
+        "build.finalName",
+        build.outputs.final_name.as_ref(),
+    )?;
+    push_field(
+        alloc,
+        list,
+        "build.sourceDirectory",
+        build.sources.source.as_ref(),
+    )?;
     push_field(
         alloc,
         list,
         "build.testSourceDirectory",
-        build.test_source.as_ref(),
+        build.sources.test_source.as_ref(),
     )
 }
 
@@ -76,7 +96,12 @@ fn fields(alloc: Global, raw: &RawModel, basedir: Option<&Text>) -> Mem<List<Pai
 {
     let mut list = List::new(alloc);
     push_own(alloc, &mut list, raw, basedir)?;
-    push_field(alloc, &mut list, "packaging", Some(&raw.packaging))?;
+    push_field(
+        alloc,
+        &mut list,
+        "packaging",
+        Some(&raw.coordinates.packaging),
+    )?;
     push_parent(alloc, &mut list, &raw.parent)?;
     push_build(alloc, &mut list, &raw.build)?;
     Ok(list)
@@ -133,7 +158,7 @@ pub(crate) fn named(
     push_own(alloc, &mut list, raw, basedir)?;
     push_all(&mut list, machine.system.as_slice())?;
     push_behind(alloc, &mut list, "env.", machine.env.as_slice())?;
-    push_all(&mut list, raw.properties.as_slice())?;
+    push_all(&mut list, raw.base.properties.as_slice())?;
     push_all(&mut list, defines)?;
     push_behind(alloc, &mut list, "pom.", fields.as_slice())?;
     push_behind(alloc, &mut list, "project.", fields.as_slice())?;

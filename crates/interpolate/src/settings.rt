@@ -6,7 +6,7 @@ ghost use Rattle.interpolate.specs.Tables.{Gives, IsTable};
 use crate::fault::FillFault;
 use crate::filler::Filler;
 use mvn_base::Setting;
-use mvn_shared::List;
+use mvn_shared::{List, Shared};
 use std::alloc::Global;
 
 // A setting with its text and its children filled.
@@ -16,7 +16,8 @@ fn filled_setting(
     filler: &mut Filler,
     setting: &Setting,
 ) -> Result<Setting, FillFault>
-    ensures { (known : Items pairs.Pair) → IsTable known [] filler.old → Gives known (fill_setting known setting.now) filler.new result }
+    ensures { (known : Items pairs.Pair) → IsTable known [] filler.old
+        → Gives known (fill_setting known setting.now) filler.new result }
 {
     let name = setting.name.clone()?;
     let text = filler.text(alloc, name.as_str(), &setting.text)?;
@@ -31,14 +32,15 @@ fn filled_setting(
     })
 }
 
-/// A configuration with its texts filled, in order. Costs what these come to.
+// Settings with their texts filled, in order.
 #[cycle(filled_setting)]
-pub(crate) fn fill_settings(
+fn fill_settings(
     alloc: Global,
     filler: &mut Filler,
     settings: &List<Setting>,
 ) -> Result<List<Setting>, FillFault>
-    ensures { (known : Items pairs.Pair) → IsTable known [] filler.old → Gives known (each (fill_setting known) settings.now) filler.new result }
+    ensures { (known : Items pairs.Pair) → IsTable known [] filler.old
+        → Gives known (each (fill_setting known) settings.now) filler.new result }
 {
     let mut list = List::new(alloc);
     for setting in settings.as_slice() {
@@ -48,4 +50,19 @@ pub(crate) fn fill_settings(
         }
     }
     Ok(list)
+}
+
+/// A configuration with its texts filled, in order. Costs what these come to.
+pub(crate) fn fill_configuration(
+    alloc: Global,
+    filler: &mut Filler,
+    configuration: &Shared<List<Setting>>,
+) -> Result<Shared<List<Setting>>, FillFault>
+    ensures { (known : Items pairs.Pair) → IsTable known [] filler.old
+        → Gives known (each (fill_setting known) configuration.now) filler.new result }
+{
+    match fill_settings(alloc, filler, configuration.value()) {
+        Ok(settings) => Ok(Shared::new(alloc, settings)?),
+        Err(fault) => Err(fault),
+    }
 }

@@ -1,6 +1,6 @@
 ghost use Rattle.std.specs.Prelude.{◌≡◌, ◌++◌, [], IfOk};
 ghost use Rattle.expressions.specs.Parts.{parts};
-ghost use Rattle.interpolate.specs.Tables.{Grows, Says, rest_of};
+ghost use Rattle.interpolate.specs.Tables.{Grows, Tells, rest_of};
 ghost use Rattle.interpolate.specs.Values.{limited};
 
 use crate::fault::{FillFault, refused};
@@ -47,7 +47,7 @@ impl Step {
 
 /// A text behind another, where both are no longer than a filled text may be. Costs the second.
 pub(crate) fn longer(alloc: Global, place: &str, done: Text, more: &Text) -> Result<Text, FillFault>
-    ensures { Says (limited place.now (done ++ more.now)) result }
+    ensures { Tells (limited place.now (done ++ more.now)) result }
 {
     if done.len() > LONGEST || more.len() > LONGEST - done.len() {
         return Err(refused(alloc, Rule::TooLarge, place));

@@ -5,7 +5,7 @@ use Rattle.std.specs.Str.{bytes_eq}
 use Rattle.mvn_base.specs.Phase.{phase_name}
 use Rattle.mvn_base.specs.declared.phase.Phase.{Phase}
 use Rattle.mvn_base.specs.declared.phase.Phase.TheVariants as phase
-use Rattle.mvn_outside.specs.GoalRules.{maven_plugins}
+use Rattle.mvn_base.specs.Limits.{maven_plugins}
 use Rattle.model_types.specs.declared.plugin.Execution.{Execution}
 use Rattle.model_types.specs.declared.plugin.Plugin.{Plugin}
 use Rattle.model_merge.specs.Keyed.{others, settled, underlaid}

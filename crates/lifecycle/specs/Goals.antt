@@ -5,8 +5,9 @@ use Rattle.std.specs.List.{list_any}
 use Rattle.std.specs.Str.{bytes_eq}
 use Rattle.mvn_base.specs.Phase.{phase_number, phase_of}
 use Rattle.mvn_base.specs.declared.phase.Phase.{Phase}
-use Rattle.mvn_outside.specs.GoalRules.{goal_rule, maven_plugins}
-use Rattle.mvn_outside.specs.declared.goal.GoalCall.{GoalCall}
+use Rattle.mvn_base.specs.Limits.{maven_plugins}
+use Rattle.goal_types.specs.GoalRules.{goal_rule}
+use Rattle.goal_types.specs.declared.goal.GoalCall.{GoalCall}
 use Rattle.model_types.specs.declared.plugin.Execution.{Execution}
 use Rattle.model_types.specs.declared.plugin.Plugin.{Plugin}
 use Rattle.model_merge.specs.Configuration.{merged_configuration}

@@ -5,11 +5,9 @@ ghost use Rattle.lifecycle.specs.Bindings.{bindings, bound_execution, bound_id, 
 use crate::table::{Row, rows_of};
 use model_merge::{appended, merged_under, others_than, settled};
 use model_types::{Execution, Plugin};
-use mvn_shared::{List, Mem, Text};
+use mvn_base::{MAVEN_PLUGINS, Setting};
+use mvn_shared::{List, Mem, Shared, Text};
 use std::alloc::Global;
-
-/// The group of Maven's own plugins.
-const MAVEN_PLUGINS: &str = "org.apache.maven.plugins";
 
 // The id of a bound execution.
 fn bound_id(alloc: Global, goal: &str) -> Mem<Text>
@@ -27,22 +25,34 @@ fn one_text(alloc: Global, text: &str) -> Mem<List<Text>>
     Ok(list)
 }
 
+// No settings.
+fn no_settings(alloc: Global) -> Mem<Shared<List<Setting>>>
+    ensures { IfOk result (λ settings. settings ≡ []) }
+{
+    Shared::new(alloc, List::new(alloc))
+}
+
 // The execution that a binding gives.
-fn bound_execution(alloc: Global, row: &Row) -> Mem<Execution>
+fn bound_execution(alloc: Global, row: &Row) -> Mem<Shared<Execution>>
     ensures { IfOk result (λ execution. execution ≡ bound_execution (row_view row.now)) }
 {
     let (_, goal, phase) = *row;
-    Ok(Execution {
-        id: bound_id(alloc, goal)?,
-        phase: Some(Text::from_str(alloc, phase.name())?),
-        goals: one_text(alloc, goal)?,
+    let id = bound_id(alloc, goal)?;
+    let phase = Some(Text::from_str(alloc, phase.name())?);
+    let goals = one_text(alloc, goal)?;
+    let configuration = no_settings(alloc)?;
+    let execution = Execution {
+        id,
+        phase,
+        goals,
         inherited: true,
-        configuration: List::new(alloc),
-    })
+        configuration,
+    };
+    Shared::new(alloc, execution)
 }
 
 // Those of a plugin.
-fn bound_executions(alloc: Global, rows: &[Row], name: &Text) -> Mem<List<Execution>>
+fn bound_executions(alloc: Global, rows: &[Row], name: &Text) -> Mem<List<Shared<Execution>>>
     ensures { IfOk result (λ list. list ≡ map bound_execution (filter (λ b. bytes_eq name.now b.plugin) (map row_view rows.now))) }
 {
     let mut list = List::new(alloc);
@@ -55,18 +65,23 @@ fn bound_executions(alloc: Global, rows: &[Row], name: &Text) -> Mem<List<Execut
 }
 
 // A plugin with its bound executions.
-fn bound_plugin(alloc: Global, rows: &[Row], name: &Text) -> Mem<Plugin>
+fn bound_plugin(alloc: Global, rows: &[Row], name: &Text) -> Mem<Shared<Plugin>>
     ensures { IfOk result (λ plugin. plugin ≡ bound_plugin (map row_view rows.now) name.now) }
 {
-    Ok(Plugin {
-        group: Text::from_str(alloc, MAVEN_PLUGINS)?,
-        artifact: name.clone()?,
+    let group = Text::from_str(alloc, MAVEN_PLUGINS)?;
+    let artifact = name.clone()?;
+    let executions = bound_executions(alloc, rows, name)?;
+    let configuration = no_settings(alloc)?;
+    let plugin = Plugin {
+        group,
+        artifact,
         version: None,
         inherited: true,
         dependencies: List::new(alloc),
-        executions: bound_executions(alloc, rows, name)?,
-        configuration: List::new(alloc),
-    })
+        executions,
+        configuration,
+    };
+    Shared::new(alloc, plugin)
 }
 
 // The plugins of bindings, once for each.
@@ -81,7 +96,7 @@ fn names_of(alloc: Global, rows: &[Row]) -> Mem<List<Text>>
 }
 
 // The bound plugins of these bindings.
-fn bound_plugins(alloc: Global, rows: &[Row]) -> Mem<List<Plugin>>
+fn bound_plugins(alloc: Global, rows: &[Row]) -> Mem<List<Shared<Plugin>>>
     ensures { IfOk result (λ plugins. plugins ≡ bound_plugins (map row_view rows.now)) }
 {
     let names = settled(alloc, names_of(alloc, rows)?.as_slice())?;
@@ -94,7 +109,7 @@ fn bound_plugins(alloc: Global, rows: &[Row]) -> Mem<List<Plugin>>
 
 /// The plugins that a packaging binds, in the order of its bindings, each with an execution `default-goal` for each goal; none exactly
 /// where the packaging is unknown. Constant cost. Introduction to the Build Lifecycle, "Built-in Lifecycle Bindings".
-pub fn bindings(alloc: Global, packaging: &Text) -> Mem<Option<List<Plugin>>>
+pub fn bindings(alloc: Global, packaging: &Text) -> Mem<Option<List<Shared<Plugin>>>>
     ensures { IfOk result (λ plugins. plugins ≡ bindings packaging.now) }
 {
     match rows_of(packaging.as_str()) {
@@ -107,10 +122,10 @@ pub fn bindings(alloc: Global, packaging: &Text) -> Mem<Option<List<Plugin>>>
 /// child with its managed entry. Costs all lists, on the average. Introduction to the Build Lifecycle; the places are an own rule.
 pub fn bind(
     alloc: Global,
-    plugins: &[Plugin],
-    managed: &[Plugin],
-    bound: List<Plugin>,
-) -> Mem<List<Plugin>>
+    plugins: &[Shared<Plugin>],
+    managed: &[Shared<Plugin>],
+    bound: List<Shared<Plugin>>,
+) -> Mem<List<Shared<Plugin>>>
     ensures { IfOk result (λ list. list ≡ bound_to plugins.now managed.now bound) }
 {
     let declared = merged_under(alloc, plugins, bound.as_slice())?;

@@ -5,15 +5,12 @@ ghost use Rattle.lifecycle.specs.Bindings.{bound_id, row_view};
 ghost use Rattle.lifecycle.specs.Goals.{call_at, call_in, calls_of, is_bound_by, is_free, is_install, phase_at};
 
 use crate::table::Row;
+use goal_types::{GoalCall, goal_rule};
 use model_merge::merged_configuration;
 use model_types::{Execution, Plugin};
-use mvn_base::{Phase, phase_of};
-use mvn_outside::{GoalCall, goal_rule};
+use mvn_base::{MAVEN_PLUGINS, Phase, phase_of};
 use mvn_shared::{List, Mem, Text};
 use std::alloc::Global;
-
-/// The group of Maven's own plugins.
-const MAVEN_PLUGINS: &str = "org.apache.maven.plugins";
 
 /// What the id of a bound execution begins with.
 const DEFAULT: &[u8] = b"default-";

@@ -1,17 +1,17 @@
 ghost use Rattle.std.specs.Prelude.{◌≡◌, ◌++◌, ◌+◌, [], ◌∷◌, nat_eq, map, filter, flat_map, IfOk, OnOk};
 ghost use Rattle.std.specs.List.{list_any};
 ghost use Rattle.mvn_base.specs.Phase.{phase_number};
-ghost use Rattle.mvn_outside.specs.declared.goal.GoalCall as goal_calls;
+ghost use Rattle.goal_types.specs.declared.goal.GoalCall as goal_calls;
 ghost use Rattle.lifecycle.specs.Bindings.{row_view};
 ghost use Rattle.lifecycle.specs.Goals.{all_calls, calls_before, calls_of, calls_through, declared, executions_of, in_order, installs, installs_in, is_bound_by, is_free, is_reached, rows_of, unbound};
 
 use crate::call::{is_bound_by, is_install, phase_at, push_calls};
 use crate::table::{Row, rows_of};
 use crate::unbound::unbound;
+use goal_types::GoalCall;
 use model_types::{Execution, Model, Plugin};
 use mvn_base::Phase;
-use mvn_outside::GoalCall;
-use mvn_shared::{List, Mem, Text};
+use mvn_shared::{List, Mem, Shared, Text};
 use std::alloc::Global;
 
 /// The goals that run up to a phase.
@@ -53,7 +53,12 @@ fn push_bound_in(alloc: Global, calls: &mut List<GoalCall>, row: &Row, plugin: &
 
 // Those among all.
 #[tactic(auto, using(crate::proofs::Walking::flat_filter))]
-fn push_bound(alloc: Global, calls: &mut List<GoalCall>, row: &Row, plugins: &[Plugin]) -> Mem<()>
+fn push_bound(
+    alloc: Global,
+    calls: &mut List<GoalCall>,
+    row: &Row,
+    plugins: &[Shared<Plugin>],
+) -> Mem<()>
     ensures { OnOk result (calls.new ≡ calls.old ++ flat_map calls_of (filter (is_bound_by (row_view row.now)) (declared plugins.now))) }
 {
     for plugin in plugins {
@@ -68,7 +73,7 @@ fn push_all_bound(
     alloc: Global,
     calls: &mut List<GoalCall>,
     rows: &[Row],
-    plugins: &[Plugin],
+    plugins: &[Shared<Plugin>],
 ) -> Mem<()>
     ensures { OnOk result (calls.new ≡ calls.old ++ flat_map calls_of (flat_map (λ b. filter (is_bound_by b) (declared plugins.now)) (map row_view rows.now))) }
 {
@@ -119,7 +124,12 @@ fn push_free_in(alloc: Global, calls: &mut List<GoalCall>, rows: &[Row], plugin:
 
 // Those among all.
 #[tactic(auto, using(crate::proofs::Walking::flat_filter))]
-fn push_free(alloc: Global, calls: &mut List<GoalCall>, rows: &[Row], plugins: &[Plugin]) -> Mem<()>
+fn push_free(
+    alloc: Global,
+    calls: &mut List<GoalCall>,
+    rows: &[Row],
+    plugins: &[Shared<Plugin>],
+) -> Mem<()>
     ensures { OnOk result (calls.new ≡ calls.old ++ flat_map calls_of (filter (is_free (map row_view rows.now)) (declared plugins.now))) }
 {
     for plugin in plugins {
@@ -130,7 +140,7 @@ fn push_free(alloc: Global, calls: &mut List<GoalCall>, rows: &[Row], plugins: &
 
 // The calls of all phases, in the order in which those of one phase run.
 #[tactic(auto, using(crate::proofs::Walking::flat_more))]
-fn all_calls(alloc: Global, rows: &[Row], plugins: &[Plugin]) -> Mem<List<GoalCall>>
+fn all_calls(alloc: Global, rows: &[Row], plugins: &[Shared<Plugin>]) -> Mem<List<GoalCall>>
     ensures { IfOk result (λ calls. calls ≡ all_calls (map row_view rows.now) plugins.now) }
 {
     let mut calls = List::new(alloc);
@@ -142,8 +152,12 @@ fn all_calls(alloc: Global, rows: &[Row], plugins: &[Plugin]) -> Mem<List<GoalCa
 /// The bindings of an unknown packaging.
 const NO_ROWS: [Row; 0] = [];
 
-// The calls of all phases, by the bindings of a packaging.
-fn packaged_calls(alloc: Global, packaging: &Text, plugins: &[Plugin]) -> Mem<List<GoalCall>>
+/// The calls of all phases, by the bindings of a packaging. Costs them, and a look at each goal for each binding.
+fn packaged_calls(
+    alloc: Global,
+    packaging: &Text,
+    plugins: &[Shared<Plugin>],
+) -> Mem<List<GoalCall>>
     ensures { IfOk result (λ calls. calls ≡ all_calls (rows_of packaging.now) plugins.now) }
 {
     match rows_of(packaging.as_str()) {
@@ -171,7 +185,7 @@ fn push_phase(list: &mut List<GoalCall>, calls: &[GoalCall], number: u32) -> Mem
     Ok(())
 }
 
-// The calls phase by phase, up to this one.
+/// The calls phase by phase, up to this one. Costs a look at each of them for each phase.
 fn by_phases(alloc: Global, calls: &[GoalCall], phase: Phase) -> Mem<List<GoalCall>>
     ensures { IfOk result (λ list. list ≡ calls_before (phase_number phase + 1) calls.now) }
 {
@@ -219,9 +233,9 @@ fn plugin_installs(phase: Phase, plugin: &Plugin) -> bool
     false
 }
 
-// Whether installing is reached.
+/// Whether installing is reached. Costs a look at each goal.
 #[tactic(auto, using(crate::proofs::Walking::any_either))]
-fn installs(phase: Phase, plugins: &[Plugin]) -> bool
+fn installs(phase: Phase, plugins: &[Shared<Plugin>]) -> bool
     ensures { result ≡ installs phase plugins.now }
 {
     for plugin in plugins {
@@ -237,11 +251,11 @@ fn installs(phase: Phase, plugins: &[Plugin]) -> bool
 /// and a look at each goal for each of the 23 phases and for each of at most eight bindings. Introduction to the Build Lifecycle.
 #[tactic(auto, unfolding(crate::specs::Goals::calls_through))]
 pub fn goals(alloc: Global, model: &Model, phase: Phase) -> Mem<GoalList>
-    ensures calls { IfOk result (λ list. list.calls ≡ calls_through phase model.now.packaging model.now.build.plugins) }
-    ensures unbound { IfOk result (λ list. list.unbound ≡ unbound model.now.build.plugins) }
-    ensures installs { IfOk result (λ list. list.installs ≡ installs phase model.now.build.plugins) }
+    ensures calls { IfOk result (λ list. list.calls ≡ calls_through phase model.now.packaging model.now.build.base.plugins) }
+    ensures unbound { IfOk result (λ list. list.unbound ≡ unbound model.now.build.base.plugins) }
+    ensures installs { IfOk result (λ list. list.installs ≡ installs phase model.now.build.base.plugins) }
 {
-    let plugins = model.build.plugins.as_slice();
+    let plugins = model.build.base.plugins.as_slice();
     let all = packaged_calls(alloc, &model.packaging, plugins)?;
     let calls = by_phases(alloc, all.as_slice(), phase)?;
     let unbound = unbound(alloc, plugins)?;

@@ -10,6 +10,3 @@ mod unbound;
 pub use binding::{bind, bindings};
 pub use goal_list::{GoalList, goals};
 pub use mvn_base::{Phase, phase_of};
-
-#[cfg(test)]
-mod tests;

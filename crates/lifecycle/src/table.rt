@@ -24,49 +24,29 @@ const POM_ROWS: [Row; 2] = [
     (DEPLOY, "deploy", Phase::Deploy),
 ];
 
-const JAR_ROWS: [Row; 8] = [
-    (RESOURCES, "resources", Phase::ProcessResources),
-    (COMPILER, "compile", Phase::Compile),
-    (RESOURCES, "testResources", Phase::ProcessTestResources),
-    (COMPILER, "testCompile", Phase::TestCompile),
-    (SUREFIRE, "test", Phase::Test),
-    ("maven-jar-plugin", "jar", Phase::Package),
-    (INSTALL, "install", Phase::Install),
-    (DEPLOY, "deploy", Phase::Deploy),
-];
+// The bindings of a packaging of compiled classes, by the plugin and the goal that pack them.
+macro_rules! class_rows {
+    ($plugin:expr, $goal:expr) => {
+        [
+            (RESOURCES, "resources", Phase::ProcessResources),
+            (COMPILER, "compile", Phase::Compile),
+            (RESOURCES, "testResources", Phase::ProcessTestResources),
+            (COMPILER, "testCompile", Phase::TestCompile),
+            (SUREFIRE, "test", Phase::Test),
+            ($plugin, $goal, Phase::Package),
+            (INSTALL, "install", Phase::Install),
+            (DEPLOY, "deploy", Phase::Deploy),
+        ]
+    };
+}
 
-const EJB_ROWS: [Row; 8] = [
-    (RESOURCES, "resources", Phase::ProcessResources),
-    (COMPILER, "compile", Phase::Compile),
-    (RESOURCES, "testResources", Phase::ProcessTestResources),
-    (COMPILER, "testCompile", Phase::TestCompile),
-    (SUREFIRE, "test", Phase::Test),
-    ("maven-ejb-plugin", "ejb", Phase::Package),
-    (INSTALL, "install", Phase::Install),
-    (DEPLOY, "deploy", Phase::Deploy),
-];
+const JAR_ROWS: [Row; 8] = class_rows!("maven-jar-plugin", "jar");
 
-const RAR_ROWS: [Row; 8] = [
-    (RESOURCES, "resources", Phase::ProcessResources),
-    (COMPILER, "compile", Phase::Compile),
-    (RESOURCES, "testResources", Phase::ProcessTestResources),
-    (COMPILER, "testCompile", Phase::TestCompile),
-    (SUREFIRE, "test", Phase::Test),
-    ("maven-rar-plugin", "rar", Phase::Package),
-    (INSTALL, "install", Phase::Install),
-    (DEPLOY, "deploy", Phase::Deploy),
-];
+const EJB_ROWS: [Row; 8] = class_rows!("maven-ejb-plugin", "ejb");
 
-const WAR_ROWS: [Row; 8] = [
-    (RESOURCES, "resources", Phase::ProcessResources),
-    (COMPILER, "compile", Phase::Compile),
-    (RESOURCES, "testResources", Phase::ProcessTestResources),
-    (COMPILER, "testCompile", Phase::TestCompile),
-    (SUREFIRE, "test", Phase::Test),
-    ("maven-war-plugin", "war", Phase::Package),
-    (INSTALL, "install", Phase::Install),
-    (DEPLOY, "deploy", Phase::Deploy),
-];
+const RAR_ROWS: [Row; 8] = class_rows!("maven-rar-plugin", "rar");
+
+const WAR_ROWS: [Row; 8] = class_rows!("maven-war-plugin", "war");
 
 const EAR_ROWS: [Row; 5] = [
     (EAR, "generate-application-xml", Phase::GenerateResources),

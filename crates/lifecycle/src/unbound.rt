@@ -1,9 +1,9 @@
 ghost use Rattle.std.specs.Prelude.{◌≡◌, ◌++◌, map, filter, flat_map, if◌then◌else◌, [], ◌∷◌, IfOk, OnOk};
 ghost use Rattle.lifecycle.specs.Goals.{executions_of, is_unbound, unbound, unbound_of, unbound_text};
 
+use goal_types::goal_rule;
 use model_types::{Execution, Plugin};
-use mvn_outside::goal_rule;
-use mvn_shared::{List, Mem, Text};
+use mvn_shared::{List, Mem, Shared, Text};
 use std::alloc::Global;
 
 // Whether a goal has no phase.
@@ -74,7 +74,7 @@ fn push_plugin(alloc: Global, list: &mut List<Text>, plugin: &Plugin) -> Mem<()>
 /// The goals that have no phase, by plugin, execution and goal, each as `artifact:goal execution`. Costs their texts and a look at each
 /// goal.
 #[tactic(auto, using(crate::proofs::Walking::flat_more))]
-pub(crate) fn unbound(alloc: Global, plugins: &[Plugin]) -> Mem<List<Text>>
+pub(crate) fn unbound(alloc: Global, plugins: &[Shared<Plugin>]) -> Mem<List<Text>>
     ensures { IfOk result (λ list. list ≡ unbound plugins.now) }
 {
     let mut list = List::new(alloc);

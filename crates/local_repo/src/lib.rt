@@ -6,6 +6,3 @@ pub mod staging;
 
 pub use publishing::{put, settle};
 pub use staging::{stage, sweep};
-
-#[cfg(test)]
-mod tests;

@@ -2,21 +2,21 @@
 ghost use Rattle.std.specs.Prelude.{◌≡◌, ◌<◌, ℕ, true, length, None, Some, is_some, IfOk, OnOk, OnErr};
 ghost use Rattle.std.specs.FinMap as map;
 ghost use Rattle.mvn_shared.specs.Cause.{HasCause};
-ghost use Rattle.mvn_outside.specs.Faults.{area_failed};
+ghost use Rattle.mvn_outside.specs.Faults.{device_failed};
 ghost use Rattle.mvn_outside.specs.Pieces.{emptied};
 ghost use Rattle.local_repo.specs.Staged.{staged, KeepsPieces};
 
-use mvn_outside::{Area, AreaFault};
+use mvn_outside::{Area, DeviceFault};
 
 /// A new sealed piece with these bytes. After an `Err` all other pieces are as they were, and a piece that was begun is
 /// there unsealed. Own rule. Costs what the area's appends cost, and no memory of its own.
-pub fn stage<A: Area>(area: &mut A, bytes: &[u8]) -> Result<u64, AreaFault>
+pub fn stage<A: Area>(area: &mut A, bytes: &[u8]) -> Result<u64, DeviceFault>
     ensures fresh { IfOk result (λ piece. map.get (A.pieces area.old) piece ≡ None) }
     ensures sealed { IfOk result (λ piece. A.pieces area.new ≡ map.insert (A.pieces area.old) piece true) }
     ensures bytes { IfOk result (λ piece. A.contents area.new ≡ staged (A.contents area.old) piece bytes.now) }
     ensures err { OnErr result (KeepsPieces (A.pieces area.old) (A.pieces area.new)) }
     ensures never { A.never_fails area.new ≡ A.never_fails area.old }
-    ensures cause { HasCause (A.faults area.old) (A.faults area.new) (area_failed result) }
+    ensures cause { HasCause (A.faults area.old) (A.faults area.new) (device_failed result) }
 {
     let piece = area.begin()?;
     let mut done = 0;
@@ -29,11 +29,11 @@ pub fn stage<A: Area>(area: &mut A, bytes: &[u8]) -> Result<u64, AreaFault>
 
 /// Removes all pieces, leftovers of a stopped run among them. After an `Err` some may be gone. Costs what the area's
 /// sweep costs.
-pub fn sweep<A: Area>(area: &mut A) -> Result<(), AreaFault>
+pub fn sweep<A: Area>(area: &mut A) -> Result<(), DeviceFault>
     ensures ok { OnOk result ((A.pieces area.new ≡ map.empty) × (A.contents area.new ≡ emptied (A.contents area.old))) }
     ensures same { is_some (A.contents area.new) ≡ is_some (A.contents area.old) }
     ensures never { A.never_fails area.new ≡ A.never_fails area.old }
-    ensures cause { HasCause (A.faults area.old) (A.faults area.new) (area_failed result) }
+    ensures cause { HasCause (A.faults area.old) (A.faults area.new) (device_failed result) }
 {
     area.sweep()
 }

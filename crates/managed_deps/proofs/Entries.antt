@@ -1,69 +1,106 @@
 -- Entries under their keys, one after another.
-use Rattle.std.proofs.Common.{◌≡◌, ℕ, suc, ◌+◌, ◌<◌, Bool, true, false, List, [], ◌∷◌, ◌++◌, flat_map, length, get_or, drop, Option, Some, None, is_some, refl, arith, sym, ap, ◌∙◌, if◌then◌else◌}
-use Rattle.std.proofs.Math.Seq.{drop-cons}
-use Rattle.std.proofs.lemmas.Bool.{false≢true}
+use Rattle.std.proofs.Common.{◌≡◌, ℕ, Bool, true, false, ◌&&◌, List, [], ◌∷◌, ◌++◌, fold, Option, Some, None, is_some, refl, sym, ap, ◌∙◌, if◌then◌else◌}
 use Rattle.std.specs.Option.{option_or}
+use Rattle.std.specs.Str.{bytes_eq}
+use Rattle.std.proofs.lemmas.Bool.{false≢true}
+use Rattle.std.proofs.lemmas.Slice.Eq.{bytes_eq-Decides}
 use Rattle.indexmap.specs.IndexMap.{insert_entry}
 use Rattle.mvn_base.specs.declared.key.Key.{Key}
 use Rattle.model_types.specs.declared.dependency.Dependency.{Dependency}
-use Rattle.managed_deps.specs.Managed.{find_entry, find_pair, key_of, only_under, same_key}
+use Rattle.managed_deps.specs.Managed.{add, find_entry, find_pair, first_of_each, key_of, same_key}
 
-some_none : (d : Dependency) → ◌≡◌ {A = Option Dependency} (Some d) None → ⊥
-some_none d e = cc
-
+-- a pair's answer, behind the answer of those before it
 either : (b : Bool) (x : Dependency) (o other : Option Dependency) → (if b then Some x else option_or o other) ≡ option_or (if b then Some x else o) other
 either true x o other = refl
 either false x o other = refl
 
--- an entry under a new key is found last
-pub put_last : (entries : List (Key × Dependency)) (key wanted : Key) (d : Dependency) → find_pair entries key ≡ None → find_pair (insert_entry same_key entries key d) wanted ≡ option_or (find_pair entries wanted) (if same_key wanted key then Some d else None)
-put_last [] key wanted d none = refl
-put_last (e ∷ entries) key wanted d none = by (same_key key e.0) refl (put_last entries key wanted d)
+-- a key that isn't there is put at the end
+pub put_new : (entries : List (Key × Dependency)) (key : Key) (d : Dependency) → is_some (find_pair entries key) ≡ false → insert_entry same_key entries key d ≡ entries ++ (key, d) ∷ []
+put_new [] key d none = refl
+put_new (e ∷ entries) key d none = by (same_key key e.0) refl (put_new entries key d)
   where
-    by : (b : Bool) → same_key key e.0 ≡ b → (find_pair entries key ≡ None → find_pair (insert_entry same_key entries key d) wanted ≡ option_or (find_pair entries wanted) (if same_key wanted key then Some d else None))
-        → find_pair (insert_entry same_key (e ∷ entries) key d) wanted ≡ option_or (find_pair (e ∷ entries) wanted) (if same_key wanted key then Some d else None)
-    by true s further = absurd (some_none e.1 (sym (ap (λ b. if b then Some e.1 else find_pair entries key) s) ∙ none))
+    by : (b : Bool) → same_key key e.0 ≡ b → (is_some (find_pair entries key) ≡ false → insert_entry same_key entries key d ≡ entries ++ (key, d) ∷ [])
+        → insert_entry same_key (e ∷ entries) key d ≡ (e ∷ entries) ++ (key, d) ∷ []
+    by true s further = absurd (false≢true (sym none ∙ ap (λ b. is_some (if b then Some e.1 else find_pair entries key)) s))
     by false s further =
-        let rest = further (sym (ap (λ b. if b then Some e.1 else find_pair entries key) s) ∙ none) in
-        ap (λ b. find_pair (if b then (e.0, d) ∷ entries else e ∷ insert_entry same_key entries key d) wanted) s
-        ∙ ap (λ o. if same_key wanted e.0 then Some e.1 else o) rest
-        ∙ either (same_key wanted e.0) e.1 (find_pair entries wanted) (if same_key wanted key then Some d else None)
+        ap (λ b. if b then (e.0, d) ∷ entries else e ∷ insert_entry same_key entries key d) s
+        ∙ ap (λ l. e ∷ l) (further (sym (ap (λ b. is_some (if b then Some e.1 else find_pair entries key)) s) ∙ none))
 
-pub none_there : (o : Option Dependency) (b : Bool) → b ≡ is_some o → b ≡ false → o ≡ None
-none_there None b e f = refl
-none_there (Some x) b e f = absurd (false≢true (sym f ∙ e))
+-- an entry more, where there is none of its key
+pub added : (before after : List (Key × Dependency)) (key : Key) (d copy : Dependency) (b : Bool) → key ≡ key_of d → copy ≡ d → b ≡ is_some (find_pair before key) → b ≡ false → after ≡ insert_entry same_key before key copy → after ≡ add before d
+added before after key d copy b named same test isnt is =
+    is
+    ∙ ap (λ x. insert_entry same_key before key x) same
+    ∙ put_new before key d (sym test ∙ isnt)
+    ∙ ap (λ k. before ++ (k, d) ∷ []) named
+    ∙ sym (ap (λ t. if t then before else before ++ (key_of d, d) ∷ []) (sym (ap (λ k. is_some (find_pair before k)) named) ∙ sym test ∙ isnt))
 
--- one entry more, of this dependency
-pub added : (before after : List (Key × Dependency)) (key wanted : Key) (d copy : Dependency) → key ≡ key_of d → copy ≡ d → find_pair before key ≡ None → after ≡ insert_entry same_key before key copy
-    → find_pair after wanted ≡ option_or (find_pair before wanted) (only_under d wanted)
-added before after key wanted d copy named same none is =
-    ap (λ l. find_pair l wanted) is ∙ put_last before key wanted copy none ∙ ap (λ x. option_or (find_pair before wanted) (if same_key wanted key then Some x else None)) same
-    ∙ ap (λ k. option_or (find_pair before wanted) (if same_key wanted k then Some d else None)) named
+and_left : (a b : Bool) → (a && b) ≡ true → a ≡ true
+and_left true b e = refl
+and_left false b e = e
 
-or_or : (a b c : Option Dependency) → option_or (option_or a b) c ≡ option_or a (option_or b c)
-or_or (Some x) b c = refl
-or_or None b c = refl
+and_right : (a b : Bool) → (a && b) ≡ true → b ≡ true
+and_right true b e = e
+and_right false b e = absurd (false≢true e)
 
-or_if : (b : Bool) (x : Dependency) (o other : Option Dependency) → (if b then Some x else option_or o other) ≡ option_or (if b then Some x else o) other
-or_if b x o other = either b x o other
+same_text : (a b : List ℕ) → bytes_eq a b ≡ true → a ≡ b
+same_text a b e = (bytes_eq-Decides a b).0 e
 
-pub find_append : (xs ys : List Dependency) (key : Key) → find_entry (xs ++ ys) key ≡ option_or (find_entry xs key) (find_entry ys key)
-find_append [] ys key = refl
-find_append (d ∷ xs) ys key = ap (λ o. if same_key key (key_of d) then Some d else o) (find_append xs ys key) ∙ or_if (same_key key (key_of d)) d (find_entry xs key) (find_entry ys key)
+same_key_is : (a b : Key) → same_key a b ≡ true → a ≡ b
+same_key_is a b e =
+    let group = same_text a.group b.group (and_left _ _ e) in
+    let rest = and_right (bytes_eq a.group b.group) _ e in
+    let artifact = same_text a.artifact b.artifact (and_left _ _ rest) in
+    let last = and_right (bytes_eq a.artifact b.artifact) _ rest in
+    let kind = same_text a.kind b.kind (and_left _ _ last) in
+    let classifier = same_text a.classifier b.classifier (and_right (bytes_eq a.kind b.kind) _ last) in
+    λ i. record { group = group i; artifact = artifact i; kind = kind i; classifier = classifier i }
 
-abbrev pub flat : List (List Dependency) → List Dependency
-flat imports = flat_map (λ entries. entries) imports
+-- what is found behind a list and one pair more
+find_last : (entries : List (Key × Dependency)) (wanted key : Key) (d : Dependency) → find_pair (entries ++ (key, d) ∷ []) wanted ≡ option_or (find_pair entries wanted) (if same_key wanted key then Some d else None)
+find_last [] wanted key d = refl
+find_last (e ∷ entries) wanted key d =
+    ap (λ o. if same_key wanted e.0 then Some e.1 else o) (find_last entries wanted key d)
+    ∙ either (same_key wanted e.0) e.1 (find_pair entries wanted) (if same_key wanted key then Some d else None)
 
-pub imports_begin : (own : List Dependency) (imports : List (List Dependency)) (key : Key) (set : Option Dependency) → set ≡ find_entry own key → option_or set (find_entry (flat imports) key) ≡ find_entry (own ++ flat imports) key
-imports_begin own imports key set is = ap (λ o. option_or o (find_entry (flat imports) key)) is ∙ sym (find_append own (flat imports) key)
+kept : (o other : Option Dependency) → is_some o ≡ true → o ≡ option_or o other
+kept (Some x) other e = refl
+kept None other e = absurd (false≢true e)
 
-pub import_added : (imports : List (List Dependency)) (i : ℕ) (item : List Dependency) (key : Key) (old new whole : Option Dependency) → i < length imports → item ≡ get_or imports i item → new ≡ option_or old (find_entry item key)
-    → option_or old (find_entry (flat (drop i imports)) key) ≡ whole → option_or new (find_entry (flat (drop (i + 1) imports)) key) ≡ whole
-import_added imports i item key old new whole low is added so =
-    let rest = find_entry (flat (drop (suc i) imports)) key in
-    let one : i + 1 ≡ suc i = omega arith in
-    ap (λ k. option_or new (find_entry (flat (drop k imports)) key)) one
-    ∙ ap (λ o. option_or o rest) added
-    ∙ or_or old (find_entry item key) rest
-    ∙ ap (option_or old) (sym (find_append item (flat (drop (suc i) imports)) key) ∙ ap (λ x. find_entry (x ++ flat (drop (suc i) imports)) key) is ∙ sym (ap (λ l. find_entry (flat l) key) (drop-cons imports i item low)))
-    ∙ so
+-- an entry more is found where nothing was
+find_added : (entries : List (Key × Dependency)) (d : Dependency) (wanted : Key) → find_pair (add entries d) wanted ≡ option_or (find_pair entries wanted) (if same_key wanted (key_of d) then Some d else None)
+find_added entries d wanted = by (is_some (find_pair entries (key_of d))) refl
+  where
+    there : (b : Bool) → same_key wanted (key_of d) ≡ b → is_some (find_pair entries (key_of d)) ≡ true → find_pair entries wanted ≡ option_or (find_pair entries wanted) (if b then Some d else None)
+    there true s e = kept (find_pair entries wanted) (Some d) (ap (λ k. is_some (find_pair entries k)) (same_key_is wanted (key_of d) s) ∙ e)
+    there false s e = none (find_pair entries wanted)
+      where
+        none : (o : Option Dependency) → o ≡ option_or o None
+        none (Some x) = refl
+        none None = refl
+
+    by : (b : Bool) → is_some (find_pair entries (key_of d)) ≡ b → find_pair (if b then entries else entries ++ (key_of d, d) ∷ []) wanted ≡ option_or (find_pair entries wanted) (if same_key wanted (key_of d) then Some d else None)
+    by true e = there (same_key wanted (key_of d)) refl e
+    by false e = find_last entries wanted (key_of d) d
+
+one_more : (b : Bool) (o rest : Option Dependency) (d : Dependency) → option_or (option_or o (if b then Some d else None)) rest ≡ option_or o (if b then Some d else rest)
+one_more true (Some x) rest d = refl
+one_more true None rest d = refl
+one_more false (Some x) rest d = refl
+one_more false None rest d = refl
+
+-- so of further entries
+find_folded : (entries : List (Key × Dependency)) (further : List Dependency) (key : Key) → find_pair (fold add entries further) key ≡ option_or (find_pair entries key) (find_entry further key)
+find_folded entries [] key = none (find_pair entries key)
+  where
+    none : (o : Option Dependency) → o ≡ option_or o None
+    none (Some x) = refl
+    none None = refl
+find_folded entries (d ∷ further) key =
+    find_folded (add entries d) further key
+    ∙ ap (λ o. option_or o (find_entry further key)) (find_added entries d key)
+    ∙ one_more (same_key key (key_of d)) (find_pair entries key) (find_entry further key) d
+
+-- what is found among the first of each key is the first of that key
+pub found : (entries : List Dependency) (key : Key) → find_pair (first_of_each entries) key ≡ find_entry entries key
+found entries key = find_folded [] entries key

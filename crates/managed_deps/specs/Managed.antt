@@ -2,7 +2,7 @@
 -- "Dependency Management".
 pub use Rattle.model_merge.specs.Keyed.{same_key}
 pub use Rattle.model_merge.specs.Merging.{key_of_dependency as key_of}
-use Rattle.std.specs.Prelude.{ℕ, Bool, false, not, List, [], ◌∷◌, ◌++◌, map, flat_map, filter, codes, Option, Some, None, if◌then◌else◌}
+use Rattle.std.specs.Prelude.{ℕ, Bool, false, not, List, [], ◌∷◌, ◌++◌, map, flat_map, filter, fold, codes, Option, Some, None, is_some, if◌then◌else◌}
 use Rattle.std.specs.Map.{lookup}
 use Rattle.std.specs.Option.{option_or}
 use Rattle.std.specs.Str.{bytes_eq}
@@ -30,8 +30,13 @@ find_entry (d ∷ entries) key = if same_key key (key_of d) then Some d else fin
 abbrev pub find_pair : List (Key × Dependency) → Key → Option Dependency
 find_pair entries key = lookup (same_key key) entries
 
-abbrev pub only_under : Dependency → Key → Option Dependency
-only_under d key = if same_key key (key_of d) then Some d else None
+-- one entry more, under its key, where none is there
+abbrev pub add : List (Key × Dependency) → Dependency → List (Key × Dependency)
+add entries d = if is_some (find_pair entries (key_of d)) then entries else entries ++ (key_of d, d) ∷ []
+
+-- the first entry of each key, in order
+abbrev pub first_of_each : List Dependency → List (Key × Dependency)
+first_of_each entries = fold add [] entries
 
 -- own entries without imports, and then those of the imports in order
 abbrev pub own_entries : List Dependency → List Dependency

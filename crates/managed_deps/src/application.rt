@@ -1,22 +1,11 @@
 ghost use Rattle.std.specs.Prelude.{◌≡◌, map, Some, IfOk};
-ghost use Rattle.std.specs.Option.{option_or};
 ghost use Rattle.managed_deps.specs.Managed.{apply_one, apply_plugins, exclusions_of, with_managed};
 
 use crate::set::ManagedSet;
-use model_merge::{Keyed, merged_under};
+use model_merge::{Keyed, merged_under, stated};
 use model_types::{Dependency, Exclusion, Plugin};
-use mvn_shared::{List, Mem, Text};
+use mvn_shared::{List, Mem, Shared};
 use std::alloc::Global;
-
-// A text that is stated, or else the managed one.
-fn text_or(own: &Option<Text>, managed: &Option<Text>) -> Mem<Option<Text>>
-    ensures { IfOk result (λ text. text ≡ option_or own.now managed.now) }
-{
-    match own {
-        Some(text) => Ok(Some(text.clone()?)),
-        None => Ok(managed.clone()?),
-    }
-}
 
 // A list that is stated, or else the managed one.
 fn exclusions_of(own: &List<Exclusion>, managed: &List<Exclusion>) -> Mem<List<Exclusion>>
@@ -33,31 +22,48 @@ fn exclusions_of(own: &List<Exclusion>, managed: &List<Exclusion>) -> Mem<List<E
 fn with_managed(own: &Dependency, managed: &Dependency) -> Mem<Dependency>
     ensures { IfOk result (λ value. value ≡ with_managed own.now (Some managed.now)) }
 {
+    let group = own.group.clone()?;
+    let artifact = own.artifact.clone()?;
+    let version = stated(&own.version, &managed.version)?;
+    let kind = own.kind.clone()?;
+    let classifier = own.classifier.clone()?;
+    let scope = stated(&own.scope, &managed.scope)?;
+    let optional = own.optional.clone()?;
+    let exclusions = exclusions_of(&own.exclusions, &managed.exclusions)?;
     Ok(Dependency {
-        group: own.group.clone()?,
-        artifact: own.artifact.clone()?,
-        version: text_or(&own.version, &managed.version)?,
-        kind: own.kind.clone()?,
-        classifier: own.classifier.clone()?,
-        scope: text_or(&own.scope, &managed.scope)?,
-        optional: own.optional.clone()?,
-        exclusions: exclusions_of(&own.exclusions, &managed.exclusions)?,
+        group,
+        artifact,
+        version,
+        kind,
+        classifier,
+        scope,
+        optional,
+        exclusions,
     })
 }
 
 // A declaration with what is managed under its key.
-fn applied(alloc: Global, dependency: &Dependency, set: &ManagedSet) -> Mem<Dependency>
+fn applied(
+    alloc: Global,
+    dependency: &Shared<Dependency>,
+    set: &ManagedSet,
+) -> Mem<Shared<Dependency>>
     ensures { IfOk result (λ value. value ≡ apply_one set.now dependency.now) }
 {
     match set.find(&dependency.key(alloc)?) {
-        Some(managed) => with_managed(dependency, managed),
-        None => dependency.copy(),
+        Some(managed) => Shared::new(alloc, with_managed(dependency, managed)?),
+        None => dependency.share(),
     }
 }
 
 /// Declarations, each with the version, the scope and the exclusions that are managed under its key where it states none. `optional`
-/// isn't managed. Costs their texts, and a look-up each. Introduction to the Dependency Mechanism, "Dependency Management".
-pub fn apply(alloc: Global, dependencies: &[Dependency], set: &ManagedSet) -> Mem<List<Dependency>>
+/// isn't managed. Costs a look-up each, and the texts of those that are managed; the others are shared. Introduction to the
+/// Dependency Mechanism, "Dependency Management".
+pub fn apply(
+    alloc: Global,
+    dependencies: &[Shared<Dependency>],
+    set: &ManagedSet,
+) -> Mem<List<Shared<Dependency>>>
     ensures { IfOk result (λ list. list ≡ map (apply_one set.now) dependencies.now) }
 {
     let mut list = List::new(alloc);
@@ -69,7 +75,11 @@ pub fn apply(alloc: Global, dependencies: &[Dependency], set: &ManagedSet) -> Me
 
 /// Plugins, each merged as child with the managed one of its name; of equal names among the managed ones the later counts. Costs both,
 /// on the average. POM Reference, "Plugin Management".
-pub fn apply_plugins(alloc: Global, plugins: &[Plugin], managed: &[Plugin]) -> Mem<List<Plugin>>
+pub fn apply_plugins(
+    alloc: Global,
+    plugins: &[Shared<Plugin>],
+    managed: &[Shared<Plugin>],
+) -> Mem<List<Shared<Plugin>>>
     ensures { IfOk result (λ list. list ≡ apply_plugins plugins.now managed.now) }
 {
     merged_under(alloc, plugins, managed)

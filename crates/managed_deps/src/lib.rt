@@ -6,6 +6,3 @@ mod set;
 
 pub use application::{apply, apply_plugins};
 pub use set::{ManagedSet, managed};
-
-#[cfg(test)]
-mod tests;

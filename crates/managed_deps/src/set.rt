@@ -1,21 +1,21 @@
-ghost use Rattle.std.specs.Prelude.{◌≡◌, ◌++◌, [], Some, is_some, IfOk, OnOk};
-ghost use Rattle.std.specs.Option.{option_copied, option_or};
+ghost use Rattle.std.specs.Prelude.{◌≡◌, [], map, fold, is_some, IfOk, OnOk};
+ghost use Rattle.std.specs.Option.{option_copied};
 ghost use Rattle.indexmap.specs.IndexMap.{insert_entry};
 ghost use Rattle.mvn_base.specs.declared.key.Key as keys;
-ghost use Rattle.managed_deps.specs.Managed.{all_entries, own_entries, find_entry, find_pair, is_import, only_under, same_key};
+ghost use Rattle.managed_deps.specs.Managed.{add, all_entries, find_entry, find_pair, first_of_each, is_import, own_entries, same_key};
 
 use indexmap::IndexMap;
 use model_merge::Keyed;
 use model_types::Dependency;
 use mvn_base::Key;
-use mvn_shared::{List, Mem};
+use mvn_shared::{List, Mem, Shared};
 use std::alloc::Global;
 use std::marker::Model;
 
 /// Managed dependencies, the first of each key. Contracts see it as the list of its entries, each under its key.
-#[derive(Debug, Drop)]
+#[derive(Drop)]
 pub struct ManagedSet {
-    entries: IndexMap<Key, Dependency>,
+    entries: IndexMap<Key, Shared<Dependency>>,
 }
 
 impl Model for ManagedSet {
@@ -40,7 +40,11 @@ fn is_import(dependency: &Dependency) -> bool
 }
 
 // One entry more, under a key.
-fn put(entries: &mut IndexMap<Key, Dependency>, key: Key, dependency: Dependency) -> Mem<()>
+fn put(
+    entries: &mut IndexMap<Key, Shared<Dependency>>,
+    key: Key,
+    dependency: Shared<Dependency>,
+) -> Mem<()>
     ensures { OnOk result (entries.new.entries ≡ insert_entry same_key entries.old.entries key dependency) }
 {
     entries.insert(key, dependency)?;
@@ -58,10 +62,17 @@ impl ManagedSet {
     }
 
     /// What is managed under a key. Constant time on the average, besides the key; takes no memory.
-    pub fn find(&self, key: &Key) -> Option<&Dependency>
+    pub fn find(&self, key: &Key) -> Option<&Shared<Dependency>>
         ensures { option_copied result ≡ find_pair self.now key.now }
     {
         self.entries.get(key)
+    }
+
+    /// What is managed, in order. Costs one step an entry; nothing is copied.
+    pub fn into_list(self, alloc: Global) -> Mem<List<Shared<Dependency>>>
+        ensures { IfOk result (λ list. list ≡ map (λ e. e.1) self) }
+    {
+        Ok(List::of(self.entries.into_values().collect(alloc)?))
     }
 
     // Whether anything is managed under a key.
@@ -72,21 +83,21 @@ impl ManagedSet {
     }
 
     // One entry more, where none is there under its key.
-    fn add(&mut self, alloc: Global, dependency: &Dependency) -> Mem<()>
-        ensures { OnOk result ((key : keys.Key) → find_pair self.new key ≡ option_or (find_pair self.old key) (only_under dependency.now key)) }
+    fn add(&mut self, alloc: Global, dependency: &Shared<Dependency>) -> Mem<()>
+        ensures { OnOk result (self.new ≡ add self.old dependency.now) }
     {
         let key = dependency.key(alloc)?;
         if self.has(&key) {
             return Ok(());
         }
-        put(&mut self.entries, key, dependency.copy()?)?;
+        put(&mut self.entries, key, dependency.share()?)?;
         Ok(())
     }
 }
 
 // The entries of a list, each where none is there under its key.
-fn add_all(alloc: Global, set: &mut ManagedSet, entries: &[Dependency]) -> Mem<()>
-    ensures { OnOk result ((key : keys.Key) → find_pair set.new key ≡ option_or (find_pair set.old key) (find_entry entries.now key)) }
+fn add_all(alloc: Global, set: &mut ManagedSet, entries: &[Shared<Dependency>]) -> Mem<()>
+    ensures { OnOk result (set.new ≡ fold add set.old entries.now) }
 {
     for dependency in entries {
         set.add(alloc, dependency)?;
@@ -95,8 +106,8 @@ fn add_all(alloc: Global, set: &mut ManagedSet, entries: &[Dependency]) -> Mem<(
 }
 
 // So of those that are no imports.
-fn add_own(alloc: Global, set: &mut ManagedSet, entries: &[Dependency]) -> Mem<()>
-    ensures { OnOk result ((key : keys.Key) → find_pair set.new key ≡ option_or (find_pair set.old key) (find_entry (own_entries entries.now) key)) }
+fn add_own(alloc: Global, set: &mut ManagedSet, entries: &[Shared<Dependency>]) -> Mem<()>
+    ensures { OnOk result (set.new ≡ fold add set.old (own_entries entries.now)) }
 {
     for dependency in entries {
         if !is_import(dependency) {
@@ -106,15 +117,33 @@ fn add_own(alloc: Global, set: &mut ManagedSet, entries: &[Dependency]) -> Mem<(
     Ok(())
 }
 
-/// What is managed: the first entry of each key among the own ones without their imports, and then those of the imports in order.
-/// Costs their number and texts, on the average. Introduction to the Dependency Mechanism, "Importing Dependencies".
-pub fn managed(alloc: Global, own: &[Dependency], imports: &[List<Dependency>]) -> Mem<ManagedSet>
-    ensures { IfOk result (λ set. (key : keys.Key) → find_pair set key ≡ find_entry (all_entries own.now imports.now) key) }
+// The first entry of each key among the own ones without their imports, and then those of the imports.
+fn firsts(
+    alloc: Global,
+    own: &[Shared<Dependency>],
+    imports: &[List<Shared<Dependency>>],
+) -> Mem<ManagedSet>
+    ensures { IfOk result (λ set. set ≡ first_of_each (all_entries own.now imports.now)) }
 {
     let mut set = ManagedSet::new(alloc);
     add_own(alloc, &mut set, own)?;
     for entries in imports {
         add_all(alloc, &mut set, entries.as_slice())?;
     }
+    Ok(set)
+}
+
+/// What is managed: the first entry of each key among the own ones without their imports, and then those of the imports in order.
+/// Costs their number and keys, on the average; the entries are shared. Introduction to the Dependency Mechanism, "Importing
+/// Dependencies".
+pub fn managed(
+    alloc: Global,
+    own: &[Shared<Dependency>],
+    imports: &[List<Shared<Dependency>>],
+) -> Mem<ManagedSet>
+    ensures whole { IfOk result (λ set. set ≡ first_of_each (all_entries own.now imports.now)) }
+    ensures found { IfOk result (λ set. (key : keys.Key) → find_pair set key ≡ find_entry (all_entries own.now imports.now) key) }
+{
+    let set = firsts(alloc, own, imports)?;
     Ok(set)
 }

@@ -1,8 +1,10 @@
 use inheritance::inherit;
 use interpolate::fill;
-use model_types::{Build, Dependency, Profile, RawModel};
+use model_types::{
+    Build, BuildBase, Coordinates, Dependency, ModelBase, Outputs, Profile, RawModel, Sources,
+};
 use mvn_base::{Machine, Pair, PomId};
-use mvn_shared::{List, Mem, Text};
+use mvn_shared::{List, Mem, Shared, Text};
 use profile_rules::inject;
 use std::alloc::Global;
 
@@ -11,14 +13,14 @@ fn text(alloc: Global, text: &str) -> Mem<Text> {
 }
 
 // The dependency of a number.
-fn dependency(alloc: Global, number: u32) -> Mem<Dependency> {
+fn dependency(alloc: Global, number: u32) -> Mem<Shared<Dependency>> {
     let group = text(alloc, "g")?;
     let artifact = Text::of(format!(in alloc; "artifact{number}")?);
     let version = Some(text(alloc, "1.0")?);
     let kind = text(alloc, "jar")?;
     let classifier = text(alloc, "")?;
     let optional = text(alloc, "")?;
-    Ok(Dependency {
+    let dependency = Dependency {
         group,
         artifact,
         version,
@@ -27,11 +29,12 @@ fn dependency(alloc: Global, number: u32) -> Mem<Dependency> {
         scope: None,
         optional,
         exclusions: List::new(alloc),
-    })
+    };
+    Shared::new(alloc, dependency)
 }
 
 // The dependencies of some numbers.
-fn dependencies(alloc: Global, from: u32, to: u32) -> Mem<List<Dependency>> {
+fn dependencies(alloc: Global, from: u32, to: u32) -> Mem<List<Shared<Dependency>>> {
     let mut list = List::new(alloc);
     for number in from..to {
         list.push(dependency(alloc, number)?)?;
@@ -39,79 +42,105 @@ fn dependencies(alloc: Global, from: u32, to: u32) -> Mem<List<Dependency>> {
     Ok(list)
 }
 
-fn build(alloc: Global) -> Build {
-    Build {
-        directory: None,
-        output: None,
-        test_output: None,
-        final_name: None,
-        source: None,
-        test_source: None,
-        resources: List::new(alloc),
-        test_resources: List::new(alloc),
-        plugins: List::new(alloc),
-        managed_plugins: List::new(alloc),
-        extensions: List::new(alloc),
-    }
-}
-
-// The texts of a model.
-#[derive(Drop)]
-struct Texts {
-    path: Text,
-    artifact: Text,
-    packaging: Text,
-}
-
-fn made_texts(alloc: Global) -> Mem<Texts> {
-    let path = text(alloc, "pom.xml")?;
-    let artifact = text(alloc, "app")?;
-    let packaging = text(alloc, "jar")?;
-    Ok(Texts {
-        path,
-        artifact,
-        packaging,
-    })
-}
-
-fn model(
+// Properties and dependencies, and nothing else.
+fn base(
     alloc: Global,
-    texts: Texts,
     properties: List<Pair>,
-    dependencies: List<Dependency>,
-    profiles: List<Profile>,
-) -> RawModel {
-    let Texts {
-        path,
-        artifact,
-        packaging,
-    } = texts;
-    RawModel {
-        pom: PomId::Path(path),
-        parent: None,
-        group: None,
-        artifact,
-        version: None,
-        packaging,
+    dependencies: List<Shared<Dependency>>,
+) -> Mem<Shared<ModelBase>> {
+    let base = ModelBase {
         modules: List::new(alloc),
         properties,
         managed: List::new(alloc),
         dependencies,
-        build: build(alloc),
+    };
+    Shared::new(alloc, base)
+}
+
+// No plugins.
+fn build_base(alloc: Global) -> Mem<Shared<BuildBase>> {
+    let base = BuildBase {
+        plugins: List::new(alloc),
+        managed_plugins: List::new(alloc),
+    };
+    Shared::new(alloc, base)
+}
+
+fn outputs(alloc: Global) -> Mem<Shared<Outputs>> {
+    let outputs = Outputs {
+        directory: None,
+        output: None,
+        test_output: None,
+        final_name: None,
+    };
+    Shared::new(alloc, outputs)
+}
+
+fn sources(alloc: Global) -> Mem<Shared<Sources>> {
+    let sources = Sources {
+        source: None,
+        test_source: None,
+        resources: List::new(alloc),
+        test_resources: List::new(alloc),
+    };
+    Shared::new(alloc, sources)
+}
+
+// A build that says nothing.
+fn build(alloc: Global) -> Mem<Shared<Build>> {
+    let outputs = outputs(alloc)?;
+    let sources = sources(alloc)?;
+    let base = build_base(alloc)?;
+    let build = Build {
+        outputs,
+        sources,
+        base,
+        extensions: List::new(alloc),
+    };
+    Shared::new(alloc, build)
+}
+
+fn coordinates(alloc: Global) -> Mem<Shared<Coordinates>> {
+    let artifact = text(alloc, "app")?;
+    let packaging = text(alloc, "jar")?;
+    let coordinates = Coordinates {
+        group: None,
+        artifact,
+        version: None,
+        packaging,
+    };
+    Shared::new(alloc, coordinates)
+}
+
+fn pom(alloc: Global) -> Mem<Shared<PomId>> {
+    let path = text(alloc, "pom.xml")?;
+    Shared::new(alloc, PomId::Path(path))
+}
+
+fn model(alloc: Global, base: Shared<ModelBase>, profiles: Shared<List<Profile>>) -> Mem<RawModel> {
+    let pom = pom(alloc)?;
+    let coordinates = coordinates(alloc)?;
+    let build = build(alloc)?;
+    Ok(RawModel {
+        pom,
+        parent: None,
+        coordinates,
+        base,
+        build,
         profiles,
-    }
+    })
 }
 
 // A model that has some dependencies alone.
 fn with_dependencies(alloc: Global, from: u32, to: u32) -> Mem<RawModel> {
-    let texts = made_texts(alloc)?;
-    let list = dependencies(alloc, from, to)?;
-    Ok(model(alloc, texts, List::new(alloc), list, List::new(alloc)))
+    let base = base(alloc, List::new(alloc), dependencies(alloc, from, to)?)?;
+    let none = Shared::new(alloc, List::new(alloc))?;
+    model(alloc, base, none)
 }
 
 fn count_inherited(alloc: Global, child: &RawModel, parent: &RawModel) -> Mem<usize> {
     let whole = inherit(alloc, child, parent)?;
-    Ok(whole.dependencies.len())
+    Ok(whole.base.dependencies.len())
 }
 
 /// How many dependencies a model of a number has over one of as many, half of them shared.
@@ -121,37 +150,34 @@ pub(crate) fn inherited(alloc: Global, number: u32) -> Mem<usize> {
     count_inherited(alloc, &child, &parent)
 }
 
-fn profile(alloc: Global, dependencies: List<Dependency>) -> Mem<Profile> {
+// A profile that has some dependencies.
+fn profile(alloc: Global, from: u32, to: u32) -> Mem<Profile> {
     let id = text(alloc, "p")?;
+    let base = base(alloc, List::new(alloc), dependencies(alloc, from, to)?)?;
+    let build = build_base(alloc)?;
     Ok(Profile {
         id,
         activation: None,
-        modules: List::new(alloc),
-        properties: List::new(alloc),
-        managed: List::new(alloc),
-        dependencies,
-        plugins: List::new(alloc),
-        managed_plugins: List::new(alloc),
+        base,
+        build,
     })
 }
 
-// A profile that has some dependencies.
-fn profiles(alloc: Global, from: u32, to: u32) -> Mem<List<Profile>> {
+fn profiles(alloc: Global, from: u32, to: u32) -> Mem<Shared<List<Profile>>> {
     let mut list = List::new(alloc);
-    list.push(profile(alloc, dependencies(alloc, from, to)?)?)?;
-    Ok(list)
+    list.push(profile(alloc, from, to)?)?;
+    Shared::new(alloc, list)
 }
 
 fn with_profile(alloc: Global, number: u32) -> Mem<RawModel> {
-    let texts = made_texts(alloc)?;
     let profiles = profiles(alloc, number / 2, number)?;
-    let list = dependencies(alloc, 0, number)?;
-    Ok(model(alloc, texts, List::new(alloc), list, profiles))
+    let base = base(alloc, List::new(alloc), dependencies(alloc, 0, number)?)?;
+    model(alloc, base, profiles)
 }
 
 fn count_injected(alloc: Global, raw: &RawModel) -> Mem<usize> {
     let whole = inject(alloc, raw, &[0])?;
-    Ok(whole.dependencies.len())
+    Ok(whole.base.dependencies.len())
 }
 
 /// How many a model of a number has with a profile of half as many, which it shares.
@@ -185,13 +211,14 @@ fn push(alloc: Global, list: &mut List<Pair>, number: u32, value: Text) -> Mem<(
 }
 
 fn with_properties(alloc: Global, properties: List<Pair>) -> Mem<RawModel> {
-    let texts = made_texts(alloc)?;
-    Ok(model(alloc, texts, properties, List::new(alloc), List::new(alloc)))
+    let base = base(alloc, properties, List::new(alloc))?;
+    let none = Shared::new(alloc, List::new(alloc))?;
+    model(alloc, base, none)
 }
 
 fn bytes_filled(alloc: Global, raw: &RawModel, machine: &Machine) -> usize {
     match fill(alloc, raw, None, machine, &[]) {
-        Ok(model) => bytes_of(&model.properties),
+        Ok(model) => bytes_of(&model.base.properties),
         Err(_) => 0,
     }
 }

@@ -2,3 +2,4 @@ pub mod Configuration
 pub mod Keyed
 pub mod Merging
 pub mod Names
+pub mod Stated

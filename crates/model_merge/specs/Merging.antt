@@ -8,7 +8,6 @@ use Rattle.mvn_base.specs.declared.machine.Pair.{Pair}
 use Rattle.model_types.specs.declared.dependency.Dependency.{Dependency}
 use Rattle.model_types.specs.declared.plugin.Execution.{Execution}
 use Rattle.model_types.specs.declared.plugin.Plugin.{Plugin}
-use Rattle.model_types.specs.declared.profile.Profile.{Profile}
 use Rattle.model_merge.specs.Configuration.{merged_configuration}
 use Rattle.model_merge.specs.Keyed.{merged_lists, with_others}
 
@@ -33,9 +32,6 @@ key_of_execution e = key_of_name e.id
 
 abbrev pub key_of_plugin : Plugin → Key
 key_of_plugin p = key_of_two p.group p.artifact
-
-abbrev pub key_of_profile : Profile → Key
-key_of_profile p = key_of_name p.id
 
 -- an execution, and the one of its id that it builds on
 unfoldable pub merged_execution : Execution → Execution → Execution

@@ -1,8 +1,7 @@
 ghost use Rattle.std.specs.Prelude.{◌≡◌, [], IfOk};
 ghost use Rattle.model_merge.specs.Merging.{key_of_dependency, key_of_execution, key_of_extension, key_of_name, key_of_pair, key_of_plugin, key_of_two};
 
-use crate::joined::copies;
-use crate::keyed::Keyed;
+use crate::keyed::{Item, Keyed};
 use model_types::{Dependency, Execution, Plugin};
 use mvn_base::{Gav, Key, Pair};
 use mvn_shared::{Mem, Text};
@@ -16,7 +15,7 @@ fn nothing(alloc: Global) -> Text
 }
 
 // A key of one part.
-pub(crate) fn key_of_name(alloc: Global, name: &Text) -> Mem<Key>
+fn key_of_name(alloc: Global, name: &Text) -> Mem<Key>
     ensures { IfOk result (λ key. key ≡ key_of_name name.now) }
 {
     Ok(Key {
@@ -46,7 +45,9 @@ impl Keyed for Text {
     fn key(&self, alloc: Global) -> Mem<Key> {
         key_of_name(alloc, self)
     }
+}
 
+impl Item for Text {
     fn copy(&self) -> Mem<Text> {
         Ok(self.clone()?)
     }
@@ -59,7 +60,9 @@ impl Keyed for Pair {
     fn key(&self, alloc: Global) -> Mem<Key> {
         key_of_name(alloc, &self.name)
     }
+}
 
+impl Item for Pair {
     fn copy(&self) -> Mem<Pair> {
         Ok(self.clone()?)
     }
@@ -81,10 +84,6 @@ impl Keyed for Dependency {
             classifier,
         })
     }
-
-    fn copy(&self) -> Mem<Dependency> {
-        Ok(self.clone()?)
-    }
 }
 
 /// An extension's key is its group and artifact. POM Reference, "Extensions".
@@ -94,7 +93,9 @@ impl Keyed for Gav {
     fn key(&self, alloc: Global) -> Mem<Key> {
         key_of_two(alloc, &self.group, &self.artifact)
     }
+}
 
+impl Item for Gav {
     fn copy(&self) -> Mem<Gav> {
         Ok(self.clone()?)
     }
@@ -107,10 +108,6 @@ impl Keyed for Execution {
     fn key(&self, alloc: Global) -> Mem<Key> {
         key_of_name(alloc, &self.id)
     }
-
-    fn copy(&self) -> Mem<Execution> {
-        Ok(self.clone()?)
-    }
 }
 
 /// A plugin's key is its group and artifact. POM Reference, "Plugins".
@@ -119,23 +116,5 @@ impl Keyed for Plugin {
 
     fn key(&self, alloc: Global) -> Mem<Key> {
         key_of_two(alloc, &self.group, &self.artifact)
-    }
-
-    fn copy(&self) -> Mem<Plugin> {
-        let group = self.group.clone()?;
-        let artifact = self.artifact.clone()?;
-        let version = self.version.clone()?;
-        let dependencies = copies(&self.dependencies)?;
-        let executions = copies(&self.executions)?;
-        let configuration = self.configuration.clone()?;
-        Ok(Plugin {
-            group,
-            artifact,
-            version,
-            inherited: self.inherited,
-            dependencies,
-            executions,
-            configuration,
-        })
     }
 }

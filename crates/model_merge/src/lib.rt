@@ -2,19 +2,17 @@
 #![tactic(auto)]
 
 mod configuration;
+mod fallback;
 mod joined;
 mod keyed;
 mod keys;
 mod plugin;
-mod profile;
 
 pub use configuration::merged_configuration;
+pub use fallback::{stated, stated_list};
 pub use joined::{
     absorbed, appended, copies, merged_lists, merged_over, merged_under, others_than, settled,
     with_others,
 };
-pub use keyed::{Keyed, Mergeable};
+pub use keyed::{Item, Keyed, Mergeable};
 pub use plugin::{merged_execution, merged_plugin};
-
-#[cfg(test)]
-mod tests;

@@ -1,22 +1,26 @@
 ghost use Rattle.std.specs.Prelude.{◌≡◌, IfOk};
-ghost use Rattle.std.specs.Option.{option_or};
+ghost use Rattle.model_merge.specs.Configuration.{merged_configuration};
 ghost use Rattle.model_merge.specs.Merging.{merged_execution, merged_plugin};
 
 use crate::configuration::merged_configuration;
+use crate::fallback::stated;
 use crate::joined::{merged_lists, with_others};
 use crate::keyed::Mergeable;
 use model_types::{Execution, Plugin};
-use mvn_shared::{Mem, Text};
+use mvn_base::Setting;
+use mvn_shared::{List, Mem, Shared};
 use std::alloc::Global;
 
-// A text that is stated, or else the parent's.
-fn text_or(own: &Option<Text>, parent: &Option<Text>) -> Mem<Option<Text>>
-    ensures { IfOk result (λ text. text ≡ option_or own.now parent.now) }
+// A child's configuration over the parent's, for any number of owners.
+fn shared_configuration(
+    alloc: Global,
+    child: &List<Setting>,
+    parent: &List<Setting>,
+) -> Mem<Shared<List<Setting>>>
+    ensures { IfOk result (λ merged. merged ≡ merged_configuration child.now parent.now) }
 {
-    match own {
-        Some(text) => Ok(Some(text.clone()?)),
-        None => Ok(parent.clone()?),
-    }
+    let merged = merged_configuration(alloc, child.as_slice(), parent.as_slice())?;
+    Shared::new(alloc, merged)
 }
 
 /// An execution, merged with the one of its id that it builds on: its phase where it has one, the parent's goals and then its
@@ -26,16 +30,16 @@ fn text_or(own: &Option<Text>, parent: &Option<Text>) -> Mem<Option<Text>>
 pub fn merged_execution(alloc: Global, child: &Execution, parent: &Execution) -> Mem<Execution>
     ensures { IfOk result (λ merged. merged ≡ merged_execution child.now parent.now) }
 {
+    let id = child.id.clone()?;
+    let phase = stated(&child.phase, &parent.phase)?;
+    let goals = with_others(alloc, parent.goals.as_slice(), child.goals.as_slice())?;
+    let configuration = shared_configuration(alloc, &child.configuration, &parent.configuration)?;
     Ok(Execution {
-        id: child.id.clone()?,
-        phase: text_or(&child.phase, &parent.phase)?,
-        goals: with_others(alloc, parent.goals.as_slice(), child.goals.as_slice())?,
+        id,
+        phase,
+        goals,
         inherited: child.inherited && parent.inherited,
-        configuration: merged_configuration(
-            alloc,
-            child.configuration.as_slice(),
-            parent.configuration.as_slice(),
-        )?,
+        configuration,
     })
 }
 
@@ -54,26 +58,28 @@ impl Mergeable for Execution {
 pub fn merged_plugin(alloc: Global, child: &Plugin, parent: &Plugin) -> Mem<Plugin>
     ensures { IfOk result (λ merged. merged ≡ merged_plugin child.now parent.now) }
 {
+    let group = child.group.clone()?;
+    let artifact = child.artifact.clone()?;
+    let version = stated(&child.version, &parent.version)?;
+    let dependencies = with_others(
+        alloc,
+        child.dependencies.as_slice(),
+        parent.dependencies.as_slice(),
+    )?;
+    let executions = merged_lists(
+        alloc,
+        child.executions.as_slice(),
+        parent.executions.as_slice(),
+    )?;
+    let configuration = shared_configuration(alloc, &child.configuration, &parent.configuration)?;
     Ok(Plugin {
-        group: child.group.clone()?,
-        artifact: child.artifact.clone()?,
-        version: text_or(&child.version, &parent.version)?,
+        group,
+        artifact,
+        version,
         inherited: child.inherited && parent.inherited,
-        dependencies: with_others(
-            alloc,
-            child.dependencies.as_slice(),
-            parent.dependencies.as_slice(),
-        )?,
-        executions: merged_lists(
-            alloc,
-            child.executions.as_slice(),
-            parent.executions.as_slice(),
-        )?,
-        configuration: merged_configuration(
-            alloc,
-            child.configuration.as_slice(),
-            parent.configuration.as_slice(),
-        )?,
+        dependencies,
+        executions,
+        configuration,
     })
 }
 

@@ -1,7 +1,10 @@
+ghost use Rattle.std.specs.Prelude.{◌≡◌};
+
 use mvn_shared::{List, Text};
+use std::alloc::AllocError;
 
 /// What a POM states of an artifact that it needs. POM Reference, "Dependencies".
-#[derive(Clone, Debug, Drop)]
+#[derive(Drop)]
 pub struct Dependency {
     pub group: Text,
     pub artifact: Text,
@@ -19,8 +22,18 @@ pub struct Dependency {
 }
 
 /// What is left out below a dependency; `*` stands for any. POM Reference, "Exclusions".
-#[derive(Clone, Debug, Drop)]
+#[derive(Drop)]
 pub struct Exclusion {
     pub group: Text,
     pub artifact: Text,
+}
+
+impl Clone for Exclusion {
+    ghost is_clone = { λ exclusion copy. copy ≡ exclusion };
+
+    fn clone(&self) -> Result<Exclusion, AllocError> {
+        let group = self.group.clone()?;
+        let artifact = self.artifact.clone()?;
+        Ok(Exclusion { group, artifact })
+    }
 }

@@ -1,22 +1,22 @@
 use crate::dependency::Dependency;
 use mvn_base::Setting;
-use mvn_shared::{List, Text};
+use mvn_shared::{List, Shared, Text};
 
 /// A plugin, and what it is to do. POM Reference, "Plugins".
-#[derive(Clone, Debug, Drop)]
+#[derive(Drop)]
 pub struct Plugin {
     pub group: Text,
     pub artifact: Text,
     pub version: Option<Text>,
     /// Whether a child's POM takes it over.
     pub inherited: bool,
-    pub dependencies: List<Dependency>,
-    pub executions: List<Execution>,
-    pub configuration: List<Setting>,
+    pub dependencies: List<Shared<Dependency>>,
+    pub executions: List<Shared<Execution>>,
+    pub configuration: Shared<List<Setting>>,
 }
 
 /// Goals of a plugin, and the phase that they are bound to. POM Reference, "Executions".
-#[derive(Clone, Debug, Drop)]
+#[derive(Drop)]
 pub struct Execution {
     pub id: Text,
     /// None where each goal's own default counts.
@@ -24,5 +24,5 @@ pub struct Execution {
     pub goals: List<Text>,
     /// Whether a child's POM takes it over.
     pub inherited: bool,
-    pub configuration: List<Setting>,
+    pub configuration: Shared<List<Setting>>,
 }

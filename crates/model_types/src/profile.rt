@@ -1,25 +1,18 @@
-use crate::dependency::Dependency;
-use crate::plugin::Plugin;
-use mvn_base::Pair;
-use mvn_shared::{List, Text};
+use crate::build::BuildBase;
+use crate::model::ModelBase;
+use mvn_shared::{Shared, Text};
 
 /// What is added to a POM where the profile is active. POM Reference, "Profiles".
-#[derive(Clone, Debug, Drop)]
+#[derive(Drop)]
 pub struct Profile {
     pub id: Text,
-    pub activation: Option<Activation>,
-    pub modules: List<Text>,
-    pub properties: List<Pair>,
-    /// `dependencyManagement`.
-    pub managed: List<Dependency>,
-    pub dependencies: List<Dependency>,
-    pub plugins: List<Plugin>,
-    /// `pluginManagement`.
-    pub managed_plugins: List<Plugin>,
+    pub activation: Option<Shared<Activation>>,
+    pub base: Shared<ModelBase>,
+    pub build: Shared<BuildBase>,
 }
 
 /// When a profile is active by itself. POM Reference, "Activation".
-#[derive(Clone, Debug, Drop)]
+#[derive(Drop)]
 pub struct Activation {
     pub by_default: bool,
     pub property: Option<Property>,
@@ -32,14 +25,14 @@ pub struct Activation {
 }
 
 /// A property that has to be defined, or to have a value.
-#[derive(Clone, Debug, Drop)]
+#[derive(Drop)]
 pub struct Property {
     pub name: Text,
     pub value: Option<Text>,
 }
 
 /// What the system has to be.
-#[derive(Clone, Debug, Drop)]
+#[derive(Drop)]
 pub struct Os {
     pub name: Option<Text>,
     pub family: Option<Text>,

@@ -1,8 +1,11 @@
+pub mod Faults
 pub mod FileName
 pub mod Gav
 pub mod Key
+pub mod Limits
 pub mod Names
 pub mod Phase
 pub mod Rule
 pub mod Refusal
+pub mod Says
 pub mod Types

@@ -1,4 +1,4 @@
-ghost use Rattle.std.specs.Prelude.{◌≡◌, ◌<◌, ◌==◌, ◌++◌, [], ◌∷◌, true, map, IfOk, OnOk};
+ghost use Rattle.std.specs.Prelude.{◌≡◌, ◌<◌, ◌==◌, ◌++◌, [], ◌∷◌, true, map, codes, IfOk, OnOk};
 ghost use Rattle.std.specs.String.{string_bytes};
 ghost use Rattle.mvn_base.specs.FileName.{artifact_folder, folder_byte, classifier_part, file_name, IsValid, is_classifier, step_before_last, version_in};
 ghost use Rattle.std.specs.List.{slice_split};
@@ -100,6 +100,7 @@ fn push_classifier(path: &mut String, classifier: &str) -> Mem<()>
 pub fn file_of(alloc: Global, gav: &Gav, classifier: &Text, extension: &Text) -> Mem<FileName>
     requires names { IsValid gav.now }
     requires classifier { is_classifier classifier.now ≡ true }
+    requires extension { is_name extension.now ≡ true }
     ensures { IfOk result (λ name. name ≡ file_name gav.now classifier.now extension.now) }
 {
     let artifact = gav.artifact.as_str();
@@ -137,6 +138,15 @@ fn step_before_last<'a>(steps: &[&'a str]) -> &'a str
     }
 }
 
+// The extension of a POM.
+#[tactic(auto, unfolding(crate::specs::Names::is_name, crate::specs::Names::is_name_byte))]
+fn pom_extension(alloc: Global) -> Mem<Text>
+    ensures word { IfOk result (λ text. text ≡ codes "pom") }
+    ensures name { IfOk result (λ text. is_name text ≡ true) }
+{
+    Text::from_str(alloc, "pom")
+}
+
 /// The version of an artifact whose POM has this name, where it is a valid one. Costs the name's length.
 #[tactic(auto, unfolding(crate::specs::FileName::version_in))]
 pub fn version_in(alloc: Global, group: &Text, artifact: &Text, name: &Text) -> Mem<Option<Text>>
@@ -158,7 +168,7 @@ pub fn version_in(alloc: Global, group: &Text, artifact: &Text, name: &Text) -> 
         alloc,
         &gav,
         &Text::from_str(alloc, "")?,
-        &Text::from_str(alloc, "pom")?,
+        &pom_extension(alloc)?,
     )?;
     if pom.as_text() == name {
         Ok(Some(gav.version))

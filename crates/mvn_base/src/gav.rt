@@ -2,15 +2,30 @@ ghost use Rattle.std.specs.Prelude.{◌≡◌, IfOk};
 ghost use Rattle.mvn_base.specs.Gav.{lock_name};
 
 use mvn_shared::{Mem, Text};
-use std::alloc::Global;
+use std::alloc::{AllocError, Global};
 use std::fmt;
 
 /// A coordinate: group, artifact and version. POM Reference, "Maven Coordinates".
-#[derive(Clone, Debug, Drop, PartialEq, Eq, PartialOrd, Ord, Hash)]
+#[derive(Debug, Drop, PartialEq, Eq, PartialOrd, Ord, Hash)]
 pub struct Gav {
     pub group: Text,
     pub artifact: Text,
     pub version: Text,
+}
+
+impl Clone for Gav {
+    ghost is_clone = { λ gav copy. copy ≡ gav };
+
+    fn clone(&self) -> Result<Gav, AllocError> {
+        let group = self.group.clone()?;
+        let artifact = self.artifact.clone()?;
+        let version = self.version.clone()?;
+        Ok(Gav {
+            group,
+            artifact,
+            version,
+        })
+    }
 }
 
 impl fmt::Display for Gav {

@@ -1,9 +1,11 @@
 //! What Maven's names, rules and places are, below everything that reads a project.
 #![tactic(auto)]
 
+pub mod fault;
 pub mod file_name;
 pub mod gav;
 pub mod key;
+pub mod limits;
 pub mod machine;
 pub mod names;
 pub mod phase;
@@ -12,10 +14,12 @@ pub mod rule;
 pub mod setting;
 pub mod type_rule;
 
+pub use fault::ModelError;
 pub use file_name::{FileName, artifact_folder, file_of, version_in};
 pub use gav::{Gav, lock_name};
 pub use key::{Key, key_text};
-pub use machine::{Machine, Pair};
+pub use limits::{MAVEN_PLUGINS, MOST_FILES, MOST_OUTPUT, MOST_SOURCES, POM_LIMIT};
+pub use machine::{Choice, Machine, Pair};
 pub use mvn_shared::{Bytes, FileMap, List, Mem, OutOfMemory, Text, TextError};
 pub use names::{valid_group, valid_name, valid_version};
 pub use phase::{Phase, phase_of};

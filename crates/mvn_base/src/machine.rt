@@ -1,10 +1,30 @@
+ghost use Rattle.std.specs.Prelude.{◌≡◌};
+
 use mvn_shared::{List, Text};
+use std::alloc::AllocError;
 
 /// A name and its value, as of a property or a variable.
-#[derive(Clone, Debug, Drop, PartialEq, Eq)]
+#[derive(Debug, Drop, PartialEq, Eq)]
 pub struct Pair {
     pub name: Text,
     pub value: Text,
+}
+
+impl Clone for Pair {
+    ghost is_clone = { λ pair copy. copy ≡ pair };
+
+    fn clone(&self) -> Result<Pair, AllocError> {
+        let name = self.name.clone()?;
+        let value = self.value.clone()?;
+        Ok(Pair { name, value })
+    }
+}
+
+/// The profiles that are switched on and off by name. Introduction to Build Profiles.
+#[derive(Debug, Drop)]
+pub struct Choice {
+    pub on: List<Text>,
+    pub off: List<Text>,
 }
 
 /// What a project may ask of the machine that builds it. POM Reference, "Properties" and "Profiles".

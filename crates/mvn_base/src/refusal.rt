@@ -1,10 +1,13 @@
+ghost use Rattle.std.specs.Prelude.{◌≡◌};
+
 use crate::gav::Gav;
 use crate::rule::Rule;
 use mvn_shared::Text;
+use std::alloc::AllocError;
 use std::fmt;
 
 /// Which POM is meant: one of the project, by its path, or one of a repository, by its coordinate.
-#[derive(Clone, Debug, Drop, PartialEq, Eq)]
+#[derive(Debug, Drop, PartialEq, Eq)]
 pub enum PomId {
     Path(Text),
     Gav(Gav),
@@ -23,6 +26,17 @@ pub struct Refusal {
     pub pom: PomId,
     pub rule: Rule,
     pub place: Place,
+}
+
+impl Clone for PomId {
+    ghost is_clone = { λ pom copy. copy ≡ pom };
+
+    fn clone(&self) -> Result<PomId, AllocError> {
+        match self {
+            PomId::Path(path) => Ok(PomId::Path(path.clone()?)),
+            PomId::Gav(gav) => Ok(PomId::Gav(gav.clone()?)),
+        }
+    }
 }
 
 impl fmt::Display for PomId {

@@ -1,2 +1,1 @@
 pub mod NumberMaps
-pub mod Requests

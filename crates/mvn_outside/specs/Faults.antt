@@ -6,10 +6,6 @@ use Rattle.mvn_outside.specs.declared.fault.ReadFault.{ReadFault}
 use Rattle.mvn_outside.specs.declared.fault.ReadFault.TheVariants as read
 use Rattle.mvn_outside.specs.declared.fault.ListFault.{ListFault}
 use Rattle.mvn_outside.specs.declared.fault.ListFault.TheVariants as list
-use Rattle.mvn_outside.specs.declared.fault.AreaFault.{AreaFault}
-use Rattle.mvn_outside.specs.declared.fault.AreaFault.TheVariants as area
-use Rattle.mvn_outside.specs.declared.fault.GateFault.{GateFault}
-use Rattle.mvn_outside.specs.declared.fault.GateFault.TheVariants as gate
 
 abbrev pub device_failed : {T : Type 0} → Result T DeviceFault → Bool
 device_failed (Ok x) = false
@@ -28,16 +24,6 @@ list_failed (Err list.Failed) = true
 list_failed (Err list.TooMany) = false
 list_failed (Err list.Memory) = false
 
-abbrev pub area_failed : {T : Type 0} → Result T AreaFault → Bool
-area_failed (Ok x) = false
-area_failed (Err area.Failed) = true
-area_failed (Err area.Memory) = false
-
-abbrev pub gate_failed : {T : Type 0} → Result T GateFault → Bool
-gate_failed (Ok x) = false
-gate_failed (Err gate.Failed) = true
-gate_failed (Err gate.Memory) = false
-
 -- the same fault of a device, where more may go wrong
 abbrev pub read_fault : DeviceFault → ReadFault
 read_fault device.Failed = read.Failed
@@ -46,7 +32,3 @@ read_fault device.Memory = read.Memory
 abbrev pub list_fault : DeviceFault → ListFault
 list_fault device.Failed = list.Failed
 list_fault device.Memory = list.Memory
-
-abbrev pub area_fault : DeviceFault → AreaFault
-area_fault device.Failed = area.Failed
-area_fault device.Memory = area.Memory

@@ -3,13 +3,9 @@ pub use Rattle.mvn_shared.specs.Files
 pub use Rattle.mvn_shared.specs.Told
 pub use Rattle.mvn_base.specs.FileName
 pub use Rattle.mvn_base.specs.Names
-pub mod Answers
+pub use Rattle.goal_types.specs.Goals
 pub mod Faults
-pub mod GoalRules
-pub mod Goals
-pub mod Lines
 pub mod Pieces
 pub mod Reading
-pub mod Requests
 pub mod Shelf
 pub mod Versions

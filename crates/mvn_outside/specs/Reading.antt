@@ -1,6 +1,7 @@
 -- What a read and a listing answer, by what is told to stand there. Own rules.
 use Rattle.std.specs.Prelude.{◌≡◌, ℕ, ◌<◌, ◌≤◌, List, length, Option, IsSomeAnd, Result, Ok, Err}
 use Rattle.mvn_shared.specs.Files.{Files, names_below}
+use Rattle.mvn_base.specs.Limits.{most_files}
 use Rattle.mvn_outside.specs.declared.fault.ReadFault.{ReadFault}
 use Rattle.mvn_outside.specs.declared.fault.ReadFault.TheVariants as read
 use Rattle.mvn_outside.specs.declared.fault.ListFault.{ListFault}
@@ -13,13 +14,9 @@ Reads there limit (Err read.TooLarge) = IsSomeAnd there (λ bytes. limit < lengt
 Reads there limit (Err read.Failed) = Unit {0}
 Reads there limit (Err read.Memory) = Unit {0}
 
--- how many names a listing may have
-abbrev pub most_names : ℕ
-most_names = 65536
-
 -- a listing: the names, or too many exactly where there are more
 abbrev pub Lists : Files → List ℕ → Result (List (List ℕ)) ListFault → Type 0
-Lists files folder (Ok names) = (names ≡ names_below files folder) × (length names ≤ most_names)
-Lists files folder (Err list.TooMany) = most_names < length (names_below files folder)
+Lists files folder (Ok names) = (names ≡ names_below files folder) × (length names ≤ most_files)
+Lists files folder (Err list.TooMany) = most_files < length (names_below files folder)
 Lists files folder (Err list.Failed) = Unit {0}
 Lists files folder (Err list.Memory) = Unit {0}

@@ -2,7 +2,8 @@ use mvn_shared::OutOfMemory;
 use std::error::Error;
 use std::fmt;
 
-/// Why a device gave no answer: it failed, or memory ran out.
+/// Why a device gave no answer: it failed, or memory ran out. A device is any object outside: the project's folder, the
+/// repository, a staging area, the output, and what runs the goals.
 #[derive(Clone, Copy, Debug, PartialEq, Eq)]
 pub enum DeviceFault {
     Failed,
@@ -25,43 +26,11 @@ pub enum ListFault {
     Memory,
 }
 
-/// Why a staging area gave no answer: it failed, or memory ran out.
-#[derive(Clone, Copy, Debug, PartialEq, Eq)]
-pub enum AreaFault {
-    Failed,
-    Memory,
-}
-
-/// Why a goal gave no answer: what runs it failed, or memory ran out.
-#[derive(Clone, Copy, Debug, PartialEq, Eq)]
-pub enum GateFault {
-    Failed,
-    Memory,
-}
-
 impl fmt::Display for DeviceFault {
     fn fmt<W: fmt::Write>(&self, f: &mut fmt::Formatter<W>) -> fmt::Result {
         f.write_str(match self {
             DeviceFault::Failed => "the device failed",
             DeviceFault::Memory => "out of memory",
-        })
-    }
-}
-
-impl fmt::Display for AreaFault {
-    fn fmt<W: fmt::Write>(&self, f: &mut fmt::Formatter<W>) -> fmt::Result {
-        f.write_str(match self {
-            AreaFault::Failed => "the staging area failed",
-            AreaFault::Memory => "out of memory",
-        })
-    }
-}
-
-impl fmt::Display for GateFault {
-    fn fmt<W: fmt::Write>(&self, f: &mut fmt::Formatter<W>) -> fmt::Result {
-        f.write_str(match self {
-            GateFault::Failed => "what runs the goals failed",
-            GateFault::Memory => "out of memory",
         })
     }
 }
@@ -91,10 +60,6 @@ impl Error for DeviceFault {}
 impl Error for ReadFault {}
 
 impl Error for ListFault {}
-
-impl Error for AreaFault {}
-
-impl Error for GateFault {}
 
 impl From<OutOfMemory> for DeviceFault {
     ghost use Rattle.std.specs.Prelude.{◌≡◌};
@@ -129,28 +94,6 @@ impl From<OutOfMemory> for ListFault {
     }
 }
 
-impl From<OutOfMemory> for AreaFault {
-    ghost use Rattle.std.specs.Prelude.{◌≡◌};
-    ghost use Rattle.mvn_outside.specs.declared.fault.AreaFault.TheVariants.{Memory};
-
-    ghost from_gives = { λ _ e. e ≡ Memory };
-
-    fn from(_: OutOfMemory) -> Self {
-        AreaFault::Memory
-    }
-}
-
-impl From<OutOfMemory> for GateFault {
-    ghost use Rattle.std.specs.Prelude.{◌≡◌};
-    ghost use Rattle.mvn_outside.specs.declared.fault.GateFault.TheVariants.{Memory};
-
-    ghost from_gives = { λ _ e. e ≡ Memory };
-
-    fn from(_: OutOfMemory) -> Self {
-        GateFault::Memory
-    }
-}
-
 impl From<DeviceFault> for ReadFault {
     ghost use Rattle.std.specs.Prelude.{◌≡◌};
     ghost use Rattle.mvn_outside.specs.Faults.{read_fault};
@@ -175,20 +118,6 @@ impl From<DeviceFault> for ListFault {
         match fault {
             DeviceFault::Failed => ListFault::Failed,
             DeviceFault::Memory => ListFault::Memory,
-        }
-    }
-}
-
-impl From<DeviceFault> for AreaFault {
-    ghost use Rattle.std.specs.Prelude.{◌≡◌};
-    ghost use Rattle.mvn_outside.specs.Faults.{area_fault};
-
-    ghost from_gives = { λ fault e. e ≡ area_fault fault };
-
-    fn from(fault: DeviceFault) -> Self {
-        match fault {
-            DeviceFault::Failed => AreaFault::Failed,
-            DeviceFault::Memory => AreaFault::Memory,
         }
     }
 }

@@ -1,4 +1,4 @@
-ghost use Rattle.std.specs.Prelude.{◌≡◌, ℕ, Bool, true, List, Option, IfOk, IfSome};
+ghost use Rattle.std.specs.Prelude.{◌≡◌, ℕ, Bool, true, List, IfOk};
 ghost use Rattle.mvn_shared.specs.Cause.{HasCause};
 ghost use Rattle.mvn_outside.specs.Faults.{device_failed};
 
@@ -7,8 +7,9 @@ use mvn_shared::Text;
 
 /// What may say whether a file is there, and may fail. It may tell what it answers: memory does, a disk doesn't.
 pub trait Files {
-    /// At which paths there is a file, or a folder with files, where it tells.
-    ghost there: { Self → Option (List ℕ → Bool) };
+    /// The answers that agree with all that it tells: `world` says at which paths there is a file, or a folder with
+    /// files. Memory fits one; a disk tells nothing, so none fits.
+    ghost fits: { Self → (List ℕ → Bool) → Type 0 };
 
     /// The faults so far. The count never falls.
     ghost faults: { Self → ℕ };
@@ -21,12 +22,12 @@ pub trait Files {
 
     /// Whether a file stands at a path, or below it.
     fn has(&mut self, path: &Text) -> Result<bool, DeviceFault>
-        ensures tells { IfSome (there self.old) (λ is_there. IfOk result (λ found. found ≡ is_there path.now)) }
+        ensures tells { (world : List ℕ → Bool) → fits self.old world
+            → IfOk result (λ found. found ≡ world path.now) }
+        ensures fit { (world : List ℕ → Bool) → fits self.old world → fits self.new world }
         ensures same { tells_same self.old self.new }
         ensures never { never_fails self.new ≡ never_fails self.old }
         ensures cause { HasCause (faults self.old) (faults self.new) (device_failed result) };
-
-    ghost same_there: { (before now : Self) → tells_same before now → there now ≡ there before };
 
     /// Where no call fails, there is no fault.
     ghost no_faults: { (files : Self) → never_fails files ≡ true → faults files ≡ 0 };

@@ -96,4 +96,7 @@ pub trait Shelf {
 
     /// Where no call fails, there is no fault.
     ghost no_faults: { (shelf : Self) → never_fails shelf ≡ true → faults shelf ≡ 0 };
+
+    /// No more publishes are settled than there are.
+    ghost settled_within: { (shelf : Self) → IfSome (told shelf) (λ t. t.settled ≤ length t.publishes) };
 }

@@ -1,4 +1,4 @@
-ghost use Rattle.std.specs.Prelude.{◌≡◌, ◌≤◌, Bool, List, ℕ, Option, Some, length, IfOk, IfSome};
+ghost use Rattle.std.specs.Prelude.{◌≡◌, ◌≤◌, Bool, List, ℕ, Option, length, IfOk, IfSome};
 ghost use Rattle.mvn_shared.specs.Cause.{HasCause};
 ghost use Rattle.mvn_shared.specs.Files as told;
 ghost use Rattle.mvn_outside.specs.Faults.{read_failed, list_failed};
@@ -16,6 +16,7 @@ pub trait Tree: Files {
     /// The bytes of a file of at most `limit` bytes; nothing where no file is there. A folder is no file.
     fn read(&mut self, path: &Text, limit: u64) -> Result<Option<Bytes>, ReadFault>
         ensures reads { IfSome (files self.old) (λ files. Reads (told.file_at files path.now) limit result) }
+        ensures fit { (world : List ℕ → Bool) → Self.fits self.old world → Self.fits self.new world }
         ensures within { IfOk result (λ found. IfSome found (λ bytes. length bytes ≤ limit)) }
         ensures same { Self.tells_same self.old self.new }
         ensures never { Self.never_fails self.new ≡ Self.never_fails self.old }
@@ -24,6 +25,7 @@ pub trait Tree: Files {
     /// The paths of the files below a folder, ascending by bytes; none where it is a file or isn't there.
     fn list(&mut self, folder: &Text) -> Result<List<Text>, ListFault>
         ensures lists { IfSome (files self.old) (λ files. Lists files folder.now result) }
+        ensures fit { (world : List ℕ → Bool) → Self.fits self.old world → Self.fits self.new world }
         ensures same { Self.tells_same self.old self.new }
         ensures never { Self.never_fails self.new ≡ Self.never_fails self.old }
         ensures cause { HasCause (Self.faults self.old) (Self.faults self.new) (list_failed result) };
@@ -31,5 +33,5 @@ pub trait Tree: Files {
     ghost same_files: { (before now : Self) → Self.tells_same before now → files now ≡ files before };
 
     /// Where it tells its files, a path is there as these files say.
-    ghost agrees: { (tree : Self) → IfSome (files tree) (λ files. Self.there tree ≡ Some (told.is_there files)) };
+    ghost agrees: { (tree : Self) → IfSome (files tree) (λ files. Self.fits tree (told.is_there files)) };
 }

@@ -1,3 +1,4 @@
+pub mod Causes
 pub mod FileMaps
 pub mod Maps
 pub mod Told

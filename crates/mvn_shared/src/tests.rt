@@ -1,5 +1,5 @@
 // Each call that allocates once, with memory at hand.
-use crate::{Bytes, FileMap, List, Text, TextError};
+use crate::{Bytes, FileMap, List, Shared, Text, TextError};
 use std::test::Fail;
 
 #[test]
@@ -26,6 +26,11 @@ fn lists_and_bytes_hold_what_they_are_given(rt: HostRuntime) -> Result<(), Fail>
     assert_eq!(rt; list.len(), 2);
     let copy = list.clone()?;
     assert!(rt; copy.as_slice() == list.as_slice());
+    let mut text = Text::from_str(alloc, "a")?;
+    text.push_str("-b")?;
+    let shared = Shared::new(alloc, text)?;
+    assert_eq!(rt; shared.share()?.as_str(), "a-b");
+    assert_eq!(rt; shared.value().len(), shared.clone()?.len());
     Ok(())
 }
 

@@ -1,4 +1,4 @@
-ghost use Rattle.std.specs.Prelude.{◌≡◌, ◌↔◌, ◌==◌, [], length, IsTrue, IfOk, IsErrOf, OnOk};
+ghost use Rattle.std.specs.Prelude.{◌≡◌, ◌↔◌, ◌==◌, ◌++◌, [], length, IsTrue, IfOk, IsErrOf, OnOk, OnErr};
 ghost use Rattle.std.specs.Str.{IsUtf8};
 ghost use Rattle.std.specs.String.{string_bytes};
 
@@ -90,6 +90,15 @@ impl Text {
         ensures { string_bytes result ≡ self }
     {
         self.text
+    }
+
+    /// Adds a text at the end, in the time of what is added on the average.
+    pub fn push_str(&mut self, more: &str) -> Mem<()>
+        ensures ok { OnOk result (self.new ≡ self.old ++ more.now) }
+        ensures err { OnErr result (self.new ≡ self.old) }
+    {
+        self.text.push_str(more)?;
+        Ok(())
     }
 
     pub fn as_str(&self) -> &str

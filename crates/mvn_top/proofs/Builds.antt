@@ -2,7 +2,7 @@
 use Rattle.std.proofs.Common.{◌≡◌, ◌⊎◌, inl, inr, ℕ, ◌<◌, ◌≤◌, Bool, true, false, cond, length, List, Option, Some, None, Result, Ok, Err, IfOk, refl, sym, ap, subst, ◌∙◌, arith}
 use Rattle.mvn_shared.specs.Cause.{HasCause, HasRisen}
 use Rattle.mvn_shared.specs.Files.{Files}
-use Rattle.mvn_outside.specs.declared.goal.GoalAnswer.{GoalAnswer}
+use Rattle.goal_types.specs.declared.goal.GoalAnswer.{GoalAnswer}
 use Rattle.mvn_outside.specs.declared.shelf.ShelfTold.{ShelfTold}
 use Rattle.mvn_outside.specs.declared.fault.DeviceFault.{DeviceFault}
 use Rattle.mvn_outside.specs.declared.fault.DeviceFault.TheVariants as fault

@@ -5,8 +5,8 @@ use Rattle.std.proofs.lemmas.List.{append-nil}
 use Rattle.mvn_shared.specs.declared.memory.OutOfMemory.{OutOfMemory}
 use Rattle.mvn_shared.specs.Files.{Files}
 use Rattle.mvn_shared.specs.Told.{gains}
-use Rattle.mvn_outside.specs.declared.goal.GoalAnswer.{GoalAnswer}
-use Rattle.mvn_outside.specs.declared.goal.GoalAnswer.TheVariants.{Done}
+use Rattle.goal_types.specs.declared.goal.GoalAnswer.{GoalAnswer}
+use Rattle.goal_types.specs.declared.goal.GoalAnswer.TheVariants.{Done}
 use Rattle.mvn_outside.specs.declared.shelf.ShelfTold.{ShelfTold}
 use Rattle.build_core.specs.declared.plan.Plan.{Plan}
 use Rattle.build_core.specs.declared.event.Answered.{Answered}

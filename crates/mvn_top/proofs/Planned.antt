@@ -3,7 +3,7 @@ use Rattle.std.proofs.Common.{◌≡◌, inl, inr, ℕ, true, false, List, [], O
 use Rattle.mvn_shared.specs.Cause.{HasCause}
 use Rattle.mvn_shared.specs.Files.{Files}
 use Rattle.mvn_base.specs.declared.gav.Gav.{Gav}
-use Rattle.mvn_outside.specs.declared.goal.SourceFile.{SourceFile}
+use Rattle.goal_types.specs.declared.goal.SourceFile.{SourceFile}
 use Rattle.build_core.specs.declared.plan.Plan.{Plan}
 use Rattle.mvn_top.specs.declared.command.Command.{Command}
 use Rattle.mvn_top.specs.declared.command.Command.TheVariants.{Validate, Install}

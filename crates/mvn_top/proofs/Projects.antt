@@ -18,7 +18,8 @@ use Rattle.mvn_top.specs.declared.outcome.Outcome.{Outcome}
 use Rattle.mvn_top.specs.declared.reading.Reading.{Reading}
 use Rattle.mvn_top.specs.declared.reading.Reading.TheVariants.{Faulty, TooLong, Missing, Found}
 use Rattle.mvn_top.specs.Simple.{bare_gav}
-use Rattle.mvn_top.specs.Reading.{reading_of, pom_limit, pom_path, Agrees, is_faulty}
+use Rattle.mvn_top.specs.Reading.{reading_of, pom_path, Agrees, is_faulty}
+use Rattle.mvn_base.specs.Limits.{pom_limit}
 use Rattle.mvn_top.specs.Sources.{sources_of}
 use Rattle.mvn_top.specs.Outcome.{fault_tree, not_built, refused, refused_by, of_answer, of_bare, of_raw, of_text, of_pom, pom_bytes, sources_for, planned_of, planned_with}
 use Rattle.mvn_top.specs.Project.{GivesModule, GivesProject, plan_failed}

@@ -5,7 +5,8 @@ use Rattle.mvn_shared.specs.Cause.{HasCause, HasRisen}
 use Rattle.mvn_shared.specs.Files.{Files, file_at}
 use Rattle.mvn_top.specs.declared.reading.Reading.{Reading}
 use Rattle.mvn_top.specs.declared.reading.Reading.TheVariants.{Faulty, TooLong, Missing, Found}
-use Rattle.mvn_top.specs.Reading.{reading_of, reading_at, pom_path, pom_limit, Gave, Agrees, is_faulty}
+use Rattle.mvn_top.specs.Reading.{reading_of, reading_at, pom_path, Gave, Agrees, is_faulty}
+use Rattle.mvn_base.specs.Limits.{pom_limit}
 
 -- a file of at most the limit is found
 pub reading-found : (files : Files) (path bytes : List ℕ) → path ≡ pom_path → Some bytes ≡ file_at files path → length bytes ≤ pom_limit → Found bytes ≡ reading_of files

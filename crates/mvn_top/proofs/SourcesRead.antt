@@ -4,10 +4,11 @@ use Rattle.std.proofs.lemmas.List.{take_more, take-append-drop, length-append}
 use Rattle.std.proofs.lemmas.List.Elements.{filter_map-append}
 use Rattle.std.proofs.lemmas.Bool.{le-ltb, lt-ltb}
 use Rattle.mvn_shared.specs.Files.{Files}
-use Rattle.mvn_outside.specs.declared.goal.SourceFile.{SourceFile}
+use Rattle.goal_types.specs.declared.goal.SourceFile.{SourceFile}
 use Rattle.mvn_top.specs.declared.sources.SourcesFault.{SourcesFault}
 use Rattle.mvn_top.specs.declared.sources.SourcesFault.TheVariants.{Failed, TooMany, Memory}
-use Rattle.mvn_top.specs.Sources.{most_files, most_bytes, source_at, sources_at, sources_len, source_names, all_sources, sources_of, GivesSources, ListsNames, ReadsOne, ReadsSources}
+use Rattle.mvn_top.specs.Sources.{source_at, sources_at, sources_len, source_names, all_sources, sources_of, GivesSources, ListsNames, ReadsOne, ReadsSources}
+use Rattle.mvn_base.specs.Limits.{most_files, most_sources}
 
 pub if_some_map : {A : Type 0} (P Q : A → Type 0) (o : Option A) → ((a : A) → P a → Q a) → IfSome o P → IfSome o Q
 if_some_map P Q None h p = tt
@@ -38,7 +39,7 @@ sources_more files names i name lt here = ap (sources_at files) (take_more names
 
 -- one that has too many bytes for the room makes too many bytes of all
 pub one_too_many : (files : Files) (names : List (List ℕ)) (i : ℕ) (name : List ℕ) (room : ℕ) (sources : List SourceFile) (now : List SourceFile) (e : SourcesFault) → i < length names → name ≡ get_or names i name
-    → sources ≡ sources_at files (take i names) → room + sources_len sources ≡ most_bytes → ReadsOne room sources (sources_at files (name ∷ [])) now (Err e) → ReadsSources (sources_at files names) (Err e)
+    → sources ≡ sources_at files (take i names) → room + sources_len sources ≡ most_sources → ReadsOne room sources (sources_at files (name ∷ [])) now (Err e) → ReadsSources (sources_at files names) (Err e)
 one_too_many files names i name room sources now Failed lt here so_far left h = tt
 one_too_many files names i name room sources now Memory lt here so_far left h = tt
 one_too_many files names i name room sources now TooMany lt here so_far left h =
@@ -70,10 +71,10 @@ pub reads_give : (files : Files) (names : List (List ℕ)) (r : Result (List Sou
 unfolding sources_of
 reads_give files names (Ok sources) n h =
     let all = h.0 ∙ ap (sources_at files) n.0 in
-    tested _ _ (all_sources files) false false (few_names files names n.0 n.1) (ap (λ s. nat_lt most_bytes (sources_len s)) (sym all) ∙ le-ltb most_bytes (sources_len sources) h.1)
+    tested _ _ (all_sources files) false false (few_names files names n.0 n.1) (ap (λ s. nat_lt most_sources (sources_len s)) (sym all) ∙ le-ltb most_sources (sources_len sources) h.1)
     ∙ ap Some (sym all)
 reads_give files names (Err Failed) n h = tt
 reads_give files names (Err Memory) n h = tt
 reads_give files names (Err TooMany) n h =
-    tested _ _ (all_sources files) _ true refl (lt-ltb most_bytes (sources_len (all_sources files)) (subst (λ ns. most_bytes < sources_len (sources_at files ns)) n.0 h))
+    tested _ _ (all_sources files) _ true refl (lt-ltb most_sources (sources_len (all_sources files)) (subst (λ ns. most_sources < sources_len (sources_at files ns)) n.0 h))
     ∙ tested_second _ (all_sources files)

@@ -5,10 +5,10 @@ use Rattle.mvn_base.specs.declared.gav.Gav.{Gav}
 use Rattle.mvn_base.specs.declared.rule.Rule.{Rule}
 use Rattle.mvn_base.specs.declared.refusal.Place.{Place}
 use Rattle.mvn_base.specs.declared.refusal.Place.TheVariants.{Byte}
-use Rattle.mvn_outside.specs.declared.goal.SourceFile.{SourceFile}
-use Rattle.mvn_outside.specs.declared.goal.GoalAnswer.{GoalAnswer}
+use Rattle.goal_types.specs.declared.goal.SourceFile.{SourceFile}
+use Rattle.goal_types.specs.declared.goal.GoalAnswer.{GoalAnswer}
 use Rattle.mvn_outside.specs.declared.shelf.ShelfTold.{ShelfTold}
-use Rattle.mvn_outside.specs.GoalRules.{goal_rule, maven_goals}
+use Rattle.goal_types.specs.GoalRules.{goal_rule, maven_goals}
 use Rattle.build_core.specs.declared.plan.Plan.{Plan}
 use Rattle.one_hand.specs.Running.{HasNoPom}
 use Rattle.one_hand.specs.Built.{LeavesFiles}

@@ -42,8 +42,8 @@ bare_valid : (model : RawModel) (gav : Gav) → bare_gav model ≡ Some gav → 
 unfolding bare_gav
 bare_valid model gav e = by (is_bare model) e
   where
-    by : (b : Bool) → (if b then coordinates model.group model.artifact model.version else None) ≡ Some gav → IsValid gav
-    by true s = coordinates_valid model.group model.artifact model.version gav s
+    by : (b : Bool) → (if b then coordinates model.coordinates.group model.coordinates.artifact model.coordinates.version else None) ≡ Some gav → IsValid gav
+    by true s = coordinates_valid model.coordinates.group model.coordinates.artifact model.coordinates.version gav s
     by false s = cc
 
 result_in : Gav → Result Gav Outcome → Gav

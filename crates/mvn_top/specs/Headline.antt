@@ -1,10 +1,10 @@
 -- What a call answers and leaves, as a function of its words and of what stands outside. Own rules.
 use Rattle.std.specs.Prelude.{◌≡◌, ◌⊎◌, ℕ, suc, Bool, true, List, [], ◌∷◌, map, slice_get, Option, Some, None, Result, Ok, Err}
 use Rattle.mvn_shared.specs.Files.{Files}
-use Rattle.mvn_outside.specs.declared.goal.GoalAnswer.{GoalAnswer}
-use Rattle.mvn_outside.specs.declared.goal.GoalCall.{GoalCall}
-use Rattle.mvn_outside.specs.declared.goal.OwnBytes.{OwnBytes}
-use Rattle.mvn_outside.specs.declared.goal.GoalRequest.{GoalRequest}
+use Rattle.goal_types.specs.declared.goal.GoalAnswer.{GoalAnswer}
+use Rattle.goal_types.specs.declared.goal.GoalCall.{GoalCall}
+use Rattle.goal_types.specs.declared.goal.OwnBytes.{OwnBytes}
+use Rattle.goal_types.specs.declared.goal.GoalRequest.{GoalRequest}
 use Rattle.build_core.specs.declared.plan.Plan.{Plan}
 use Rattle.build_core.specs.declared.plan.PlanModule.{PlanModule}
 use Rattle.build_core.specs.declared.event.Answered.{Answered}

@@ -14,12 +14,13 @@ use Rattle.mvn_top.specs.declared.outcome.Outcome.{Outcome}
 use Rattle.model_types.specs.declared.model.RawModel.{RawModel}
 use Rattle.pom_model.specs.Raw.{raw}
 use Rattle.pom_text.specs.Answers.{Answer, answer}
-use Rattle.mvn_outside.specs.declared.goal.SourceFile.{SourceFile}
+use Rattle.goal_types.specs.declared.goal.SourceFile.{SourceFile}
 use Rattle.build_core.specs.declared.plan.Plan.{Plan}
 use Rattle.mvn_top.specs.declared.command.Command.{Command}
 use Rattle.mvn_top.specs.declared.command.Command.TheVariants.{Validate, Install}
 use Rattle.mvn_top.specs.Planning.{plan_for}
-use Rattle.mvn_top.specs.Reading.{pom_limit, pom_path}
+use Rattle.mvn_top.specs.Reading.{pom_path}
+use Rattle.mvn_base.specs.Limits.{pom_limit}
 use Rattle.mvn_top.specs.Simple.{bare_gav}
 
 -- a text with a line feed behind it

@@ -5,10 +5,11 @@ use Rattle.mvn_base.specs.declared.gav.Gav.{Gav}
 use Rattle.mvn_base.specs.declared.phase.Phase.TheVariants.{Validate}
 use Rattle.mvn_base.specs.Gav.{gav_text}
 use Rattle.mvn_base.specs.FileName.{file_name}
-use Rattle.mvn_outside.specs.declared.goal.Slot.TheVariants as slot
-use Rattle.mvn_outside.specs.declared.goal.GoalCall.{GoalCall}
-use Rattle.mvn_outside.specs.declared.goal.SourceFile.{SourceFile}
-use Rattle.mvn_outside.specs.GoalRules.{maven_plugins, goal_rule}
+use Rattle.goal_types.specs.declared.goal.Slot.TheVariants as slot
+use Rattle.goal_types.specs.declared.goal.GoalCall.{GoalCall}
+use Rattle.goal_types.specs.declared.goal.SourceFile.{SourceFile}
+use Rattle.goal_types.specs.GoalRules.{goal_rule}
+use Rattle.mvn_base.specs.Limits.{maven_plugins, most_output}
 use Rattle.build_core.specs.declared.plan.Plan.{Plan}
 use Rattle.build_core.specs.declared.plan.PlanModule.{PlanModule}
 use Rattle.build_core.specs.declared.plan.OwnFile.{OwnFile}
@@ -51,10 +52,6 @@ abbrev pub own_files : List OwnFile
 own_files =
     (record { slot = slot.Pom; file = 0 }) ∷ (record { slot = slot.Main; file = 1 }) ∷ (record { slot = slot.Tests; file = 2 })
     ∷ (record { slot = slot.Sources; file = 3 }) ∷ (record { slot = slot.Javadoc; file = 4 }) ∷ []
-
--- the most bytes of a module's kept outputs
-abbrev pub most_output : ℕ
-most_output = 67108864
 
 abbrev pub module_for : Command → Gav → (pom : List ℕ) → List SourceFile → PlanModule
 module_for c gav pom sources = record {

@@ -1,7 +1,7 @@
 -- What a build of a plan answers, and what it leaves of the repository. Own rules.
 use Rattle.std.specs.Prelude.{◌≡◌, ℕ, Bool, true, false, List, [], ◌∷◌, map, Result, Ok, Err}
 use Rattle.mvn_shared.specs.Files.{Files}
-use Rattle.mvn_outside.specs.declared.goal.GoalAnswer.{GoalAnswer}
+use Rattle.goal_types.specs.declared.goal.GoalAnswer.{GoalAnswer}
 use Rattle.mvn_outside.specs.declared.fault.DeviceFault.{DeviceFault}
 use Rattle.mvn_outside.specs.declared.fault.DeviceFault.TheVariants as fault
 use Rattle.build_core.specs.declared.plan.Plan.{Plan}

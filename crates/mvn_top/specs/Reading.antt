@@ -3,12 +3,9 @@ use Rattle.std.specs.Prelude.{◌≡◌, ℕ, Bool, true, false, nat_lt, List, l
 use Rattle.mvn_shared.specs.declared.memory.OutOfMemory.{OutOfMemory}
 use Rattle.mvn_shared.specs.Cause.{HasRisen}
 use Rattle.mvn_shared.specs.Files.{Files, file_at}
+use Rattle.mvn_base.specs.Limits.{pom_limit}
 use Rattle.mvn_top.specs.declared.reading.Reading.{Reading}
 use Rattle.mvn_top.specs.declared.reading.Reading.TheVariants.{Faulty, TooLong, Missing, Found}
-
--- the most bytes that a POM may have
-abbrev pub pom_limit : ℕ
-pom_limit = 1048576
 
 abbrev pub pom_path : List ℕ
 pom_path = codes "pom.xml"

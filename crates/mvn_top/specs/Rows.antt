@@ -1,9 +1,9 @@
 -- What the report says of a build's modules. Own format.
 use Rattle.std.specs.Prelude.{ℕ, suc, List, [], ◌∷◌, ◌++◌, slice_get, Option, Some, None, if◌then◌else◌}
 use Rattle.std.specs.List.{slice_index_or, list_all}
-use Rattle.mvn_outside.specs.declared.goal.GoalCall.{GoalCall}
-use Rattle.mvn_outside.specs.declared.goal.GoalAnswer.{GoalAnswer}
-use Rattle.mvn_outside.specs.declared.goal.GoalAnswer.TheVariants.{Done, Produced, Failed}
+use Rattle.goal_types.specs.declared.goal.GoalCall.{GoalCall}
+use Rattle.goal_types.specs.declared.goal.GoalAnswer.{GoalAnswer}
+use Rattle.goal_types.specs.declared.goal.GoalAnswer.TheVariants.{Done, Produced, Failed}
 use Rattle.build_core.specs.declared.plan.Plan.{Plan}
 use Rattle.build_core.specs.declared.plan.PlanModule.{PlanModule}
 use Rattle.build_core.specs.declared.ending.State.{State}

@@ -2,20 +2,14 @@
 use Rattle.std.specs.Prelude.{◌≡◌, ℕ, ◌+◌, ◌<◌, ◌≤◌, Bool, true, false, ◌||◌, nat_lt, List, [], ◌∷◌, ◌++◌, length, flat_map, codes, Option, Some, None, option_map, Result, Ok, Err, if◌then◌else◌}
 use Rattle.std.specs.List.{filter_map}
 use Rattle.mvn_shared.specs.Files.{Files, file_at, names_below}
-use Rattle.mvn_outside.specs.declared.goal.SourceFile.{SourceFile}
+use Rattle.mvn_base.specs.Limits.{most_files, most_sources}
+use Rattle.goal_types.specs.declared.goal.SourceFile.{SourceFile}
 use Rattle.mvn_top.specs.declared.sources.SourcesFault.{SourcesFault}
 use Rattle.mvn_top.specs.declared.sources.SourcesFault.TheVariants.{Failed, TooMany}
 
 -- the folders, in the order of their names
 abbrev pub source_folders : List (List ℕ)
 source_folders = codes "src/main/java" ∷ codes "src/main/resources" ∷ codes "src/test/java" ∷ codes "src/test/resources" ∷ []
-
--- the most files, and the most bytes that they may have together
-abbrev pub most_files : ℕ
-most_files = 65536
-
-abbrev pub most_bytes : ℕ
-most_bytes = 268435456
 
 -- the names of the files, ascending
 abbrev pub source_names : Files → List (List ℕ)
@@ -52,8 +46,8 @@ ReadsOne room before one now (Err other) = Unit {0}
 
 -- what reading the files gives: all of them, or too many bytes
 abbrev pub ReadsSources : List SourceFile → Result (List SourceFile) SourcesFault → Type 0
-ReadsSources all (Ok sources) = (sources ≡ all) × (sources_len sources ≤ most_bytes)
-ReadsSources all (Err TooMany) = most_bytes < sources_len all
+ReadsSources all (Ok sources) = (sources ≡ all) × (sources_len sources ≤ most_sources)
+ReadsSources all (Err TooMany) = most_sources < sources_len all
 ReadsSources all (Err other) = Unit {0}
 
 abbrev pub all_sources : Files → List SourceFile
@@ -61,7 +55,7 @@ all_sources files = sources_at files (source_names files)
 
 -- the sources; nothing where they are too many
 unfoldable pub sources_of : Files → Option (List SourceFile)
-sources_of files = if nat_lt most_files (length (source_names files)) || nat_lt most_bytes (sources_len (all_sources files)) then None else Some (all_sources files)
+sources_of files = if nat_lt most_files (length (source_names files)) || nat_lt most_sources (sources_len (all_sources files)) then None else Some (all_sources files)
 
 -- what reading them gives
 abbrev pub GivesSources : Files → Result (List SourceFile) SourcesFault → Type 0

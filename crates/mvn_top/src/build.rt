@@ -13,8 +13,9 @@ ghost use Rattle.build_core.specs.declared.ending.State.TheVariants.{Ended};
 use crate::outcome::{BUILT, FAILED, FAULT, Outcome};
 use crate::rows::module_report;
 use build_core::{Ending, Plan, PlanModule};
+use goal_types::GoalAnswer;
 use local_repo::{settle, sweep};
-use mvn_outside::{AreaFault, DeviceFault, Gate, GoalAnswer, Hand, Shelf};
+use mvn_outside::{DeviceFault, Gate, Hand, Shelf};
 use mvn_shared::{Bytes, List, Mem, OutOfMemory};
 use one_hand::build_module;
 use std::alloc::Global;
@@ -197,7 +198,7 @@ pub fn build_plan<R, S: Shelf, G: Gate>(
 {
     match sweep(&mut hand.area) {
         Ok(()) => build_swept(alloc, plan, shelf, hand),
-        Err(AreaFault::Failed) => nothing(alloc, fault_area(alloc)),
-        Err(AreaFault::Memory) => nothing(alloc, Err(OutOfMemory)),
+        Err(DeviceFault::Failed) => nothing(alloc, fault_area(alloc)),
+        Err(DeviceFault::Memory) => nothing(alloc, Err(OutOfMemory)),
     }
 }

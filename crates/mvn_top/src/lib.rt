@@ -10,8 +10,6 @@ mod reading;
 mod rows;
 mod simple;
 mod sources;
-#[cfg(test)]
-mod tests;
 mod top;
 
 pub use command::Command;

@@ -4,16 +4,17 @@ ghost use Rattle.std.specs.Prelude.{◌≡◌, IfOk};
 ghost use Rattle.mvn_base.specs.declared.refusal.Refusal as refusals;
 ghost use Rattle.model_types.specs.declared.model.RawModel as models;
 ghost use Rattle.std.specs.String.{string_bytes};
+ghost use Rattle.mvn_base.specs.Says.{Says};
 ghost use Rattle.mvn_base.specs.declared.refusal.PomId.TheVariants.{Path};
 ghost use Rattle.mvn_top.specs.Outcome.{line, not_built, fault_tree, refused, refused_by, too_many_sources, of_bare, of_raw, of_text, of_pom};
 ghost use Rattle.mvn_top.specs.Reading.{pom_path};
 ghost use Rattle.mvn_top.specs.Simple.{bare_gav};
-ghost use Rattle.pom_model.specs.Raw.{Answers, raw};
+ghost use Rattle.pom_model.specs.Raw.{raw};
 
-use crate::reading::{POM_LIMIT, POM_PATH, Reading};
+use crate::reading::{POM_PATH, Reading};
 use crate::simple::bare_gav;
-use model_types::{ModelError, RawModel};
-use mvn_base::{Gav, Place, PomId, Refusal, Rule};
+use model_types::RawModel;
+use mvn_base::{Gav, ModelError, POM_LIMIT, Place, PomId, Refusal, Rule};
 use mvn_shared::{Bytes, Mem, OutOfMemory, Text};
 use pom_model::read_model;
 use pom_text::{PomText, TextFault, read_text};
@@ -121,7 +122,7 @@ fn of_model(alloc: Global, model: &RawModel) -> Mem<Result<Gav, Outcome>>
 
 // The module of what a POM says, or its refusal.
 fn of_read(alloc: Global, read: &Result<RawModel, ModelError>) -> Mem<Result<Gav, Outcome>>
-    ensures { (said : logic.Result models.RawModel refusals.Refusal) → Answers said read.now → IfOk result (λ answer. answer ≡ of_raw said) }
+    ensures { (said : logic.Result models.RawModel refusals.Refusal) → Says said read.now → IfOk result (λ answer. answer ≡ of_raw said) }
 {
     match read {
         Ok(model) => of_model(alloc, model),

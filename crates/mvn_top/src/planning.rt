@@ -1,20 +1,15 @@
 // The plan of a project of one module without dependencies.
 ghost use Rattle.std.specs.Prelude.{◌≡◌, [], ◌∷◌, true, IfOk};
 ghost use Rattle.mvn_base.specs.FileName.{file_name, IsValid, is_classifier};
+ghost use Rattle.mvn_base.specs.Names.{is_name};
 ghost use Rattle.mvn_top.specs.Planning.{bound_call, jar_goals, goals_for, installs_for, file_names, own_files, module_for, plan_for};
 
 use crate::command::Command;
 use build_core::{OwnFile, Plan, PlanModule};
-use mvn_base::{FileName, Gav, Phase, file_of};
-use mvn_outside::{GoalCall, Slot, SourceFile, goal_rule};
+use goal_types::{GoalCall, Slot, SourceFile, goal_rule};
+use mvn_base::{FileName, Gav, MAVEN_PLUGINS, MOST_OUTPUT, Phase, file_of};
 use mvn_shared::{Bytes, List, Mem, Text};
 use std::alloc::Global;
-
-/// The most bytes of a module's kept outputs.
-const MOST_OUTPUT: u64 = 67_108_864;
-
-/// The group of Maven's own plugins.
-const MAVEN_PLUGINS: &str = "org.apache.maven.plugins";
 
 // A list of one item.
 fn one<T: Drop>(alloc: Global, item: T) -> Mem<List<T>>
@@ -85,6 +80,7 @@ fn installs_for(command: Command) -> bool
 fn name_of(alloc: Global, gav: &Gav, classifier: &str, extension: &str) -> Mem<FileName>
     requires names { IsValid gav.now }
     requires classifier { is_classifier classifier.now ≡ true }
+    requires extension { is_name extension.now ≡ true }
     ensures { IfOk result (λ name. name ≡ file_name gav.now classifier.now extension.now) }
 {
     let classifier = Text::from_str(alloc, classifier)?;

@@ -11,8 +11,9 @@ use crate::planning::plan_for;
 use crate::reading::{Reading, read_pom};
 use crate::sources::{SourcesFault, project_sources};
 use build_core::Plan;
+use goal_types::SourceFile;
 use mvn_base::Gav;
-use mvn_outside::{SourceFile, Tree};
+use mvn_outside::Tree;
 use mvn_shared::{Bytes, List, Mem, OutOfMemory};
 use std::alloc::Global;
 

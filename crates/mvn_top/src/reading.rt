@@ -2,12 +2,10 @@ ghost use Rattle.std.specs.Prelude.{◌≡◌, IfOk, IfSome};
 ghost use Rattle.mvn_shared.specs.Cause.{HasCause};
 ghost use Rattle.mvn_top.specs.Reading.{is_faulty, Agrees};
 
+use mvn_base::POM_LIMIT;
 use mvn_outside::{ReadFault, Tree};
 use mvn_shared::{Bytes, Mem, OutOfMemory, Text};
 use std::alloc::Global;
-
-/// The most bytes that a POM may have.
-pub const POM_LIMIT: u64 = 1_048_576;
 
 /// The path of the project's POM.
 pub const POM_PATH: &str = "pom.xml";

@@ -7,7 +7,7 @@ ghost use Rattle.one_hand.specs.Running.{nth_answer};
 ghost use Rattle.mvn_top.specs.Rows.{call_text, call_text_of, said, ending_row, bare_row};
 
 use build_core::{Ending, PlanModule};
-use mvn_outside::{GoalAnswer, GoalCall};
+use goal_types::{GoalAnswer, GoalCall};
 use mvn_shared::{Bytes, List, Mem, Text};
 use run_report::{ReportRow, RowEnd, report};
 use std::alloc::Global;

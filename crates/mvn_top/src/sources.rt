@@ -2,9 +2,12 @@
 ghost use Rattle.std.specs.Prelude.{◌≡◌, ◌+◌, ◌++◌, [], ◌∷◌, flat_map, IfSome, IfOk};
 ghost use Rattle.mvn_shared.specs.Cause.{HasCause};
 ghost use Rattle.mvn_shared.specs.Files.{names_below};
-ghost use Rattle.mvn_top.specs.Sources.{source_names, sources_at, most_files, sources_failed, sources_len, ListsNames, ReadsOne, ReadsSources, GivesSources};
+ghost use Rattle.mvn_top.specs.Sources.{source_names, sources_at, sources_failed, sources_len, ListsNames, ReadsOne, ReadsSources, GivesSources};
+ghost use Rattle.mvn_base.specs.Limits.{most_files};
 
-use mvn_outside::{ListFault, ReadFault, SourceFile, Tree};
+use goal_types::SourceFile;
+use mvn_base::{MOST_FILES, MOST_SOURCES};
+use mvn_outside::{ListFault, ReadFault, Tree};
 use mvn_shared::{List, Mem, Text};
 use std::alloc::Global;
 
@@ -15,12 +18,6 @@ const FOLDERS: [&str; 4] = [
     "src/test/java",
     "src/test/resources",
 ];
-
-/// The most files of a project's sources.
-const MOST_FILES: usize = 65536;
-
-/// The most bytes that they may have together.
-const MOST_BYTES: u64 = 268_435_456;
 
 /// Why the sources can't be read.
 #[derive(Clone, Copy, Debug, PartialEq, Eq)]
@@ -138,7 +135,7 @@ fn read_sources<T: Tree>(
     ensures cause { HasCause (T.faults tree.old) (T.faults tree.new) (sources_failed result) }
 {
     let mut sources = List::new(alloc);
-    let mut room = MOST_BYTES;
+    let mut room = MOST_SOURCES;
     for name in names {
         match push_source(tree, name, room, &mut sources) {
             Ok(left) => room = left,

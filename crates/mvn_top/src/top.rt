@@ -13,8 +13,9 @@ use crate::command::command_of;
 use crate::outcome::{FAULT, NO_MEMORY, Outcome, not_built};
 use crate::project::plan_project;
 use build_core::{Answered, Event};
+use goal_types::GoalAnswer;
 use mvn_base::Machine;
-use mvn_outside::{DeviceFault, Gate, GoalAnswer, Hand, Shelf, Sink, Tree, write_all};
+use mvn_outside::{DeviceFault, Gate, Hand, Shelf, Sink, Tree, write_all};
 use mvn_shared::{Bytes, List, Mem, OutOfMemory};
 use std::alloc::Global;
 

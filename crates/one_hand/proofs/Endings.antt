@@ -4,8 +4,8 @@ use Rattle.std.proofs.lemmas.List.{take_all, append-nil}
 use Rattle.std.specs.Option.{option_map}
 use Rattle.std.specs.FinMap as finite
 use Rattle.mvn_shared.specs.Files.{Files}
-use Rattle.mvn_outside.specs.declared.goal.OwnBytes.{OwnBytes}
-use Rattle.mvn_outside.specs.declared.goal.GoalAnswer.{GoalAnswer}
+use Rattle.goal_types.specs.declared.goal.OwnBytes.{OwnBytes}
+use Rattle.goal_types.specs.declared.goal.GoalAnswer.{GoalAnswer}
 use Rattle.mvn_outside.specs.declared.shelf.Published.{Published}
 use Rattle.mvn_outside.specs.declared.shelf.ShelfTold.{ShelfTold}
 use Rattle.mvn_outside.specs.Shelf.{with_publish, files_now}

@@ -3,16 +3,16 @@ use Rattle.std.proofs.Common.{◌≡◌, ℕ, suc, ◌+◌, ◌<◌, Bool, true,
 use Rattle.std.proofs.lemmas.List.{take_more, take-append-drop}
 use Rattle.std.proofs.lemmas.Option.{slice_get_read}
 use Rattle.mvn_base.specs.declared.gav.Gav.{Gav}
-use Rattle.mvn_outside.specs.declared.goal.OwnBytes.{OwnBytes}
-use Rattle.mvn_outside.specs.declared.goal.SourceFile.{SourceFile}
-use Rattle.mvn_outside.specs.declared.goal.PathEntry.{PathEntry}
-use Rattle.mvn_outside.specs.declared.goal.GoalCall.{GoalCall}
-use Rattle.mvn_outside.specs.declared.goal.GoalRequest.{GoalRequest}
-use Rattle.mvn_outside.specs.declared.goal.GoalAnswer.{GoalAnswer}
+use Rattle.goal_types.specs.declared.goal.OwnBytes.{OwnBytes}
+use Rattle.goal_types.specs.declared.goal.SourceFile.{SourceFile}
+use Rattle.goal_types.specs.declared.goal.PathEntry.{PathEntry}
+use Rattle.goal_types.specs.declared.goal.GoalCall.{GoalCall}
+use Rattle.goal_types.specs.declared.goal.GoalRequest.{GoalRequest}
+use Rattle.goal_types.specs.declared.goal.GoalAnswer.{GoalAnswer}
 use Rattle.build_core.specs.declared.plan.PlanModule.{PlanModule}
 use Rattle.build_core.specs.declared.ending.Ending.{Ending}
-use Rattle.mvn_outside.specs.declared.goal.Slot.{Slot}
-use Rattle.mvn_outside.specs.declared.goal.GoalAnswer.TheVariants.{Done, Produced, Failed}
+use Rattle.goal_types.specs.declared.goal.Slot.{Slot}
+use Rattle.goal_types.specs.declared.goal.GoalAnswer.TheVariants.{Done, Produced, Failed}
 use Rattle.build_core.specs.declared.ending.Ending.TheVariants as ending
 use Rattle.build_core.specs.Slots.{slot_number, put_slot, total_bytes, GoalsEnd, goal_failed, output_too_large, all_answered, one_goal, run_goals, slots_before, kept_of}
 use Rattle.one_hand.specs.Running.{is_no_pom, HasNoPom, nth_answer, goals_end, bare_request, AreAnswers, OneAnswer, NoAnswer, IsAskedSo, answered_by, HasAllAnswers}

@@ -1,12 +1,12 @@
 -- Which slots the kept outputs have.
 use Rattle.std.proofs.Common.{◌≡◌, ℕ, zero, suc, ◌<◌, length, get_or, Bool, true, false, not, ◌==◌, nat_le, List, [], ◌∷◌, ◌++◌, filter, cond, refl, ap, subst, arith}
 use Rattle.std.specs.List.{list_all}
-use Rattle.mvn_outside.specs.declared.goal.Slot.{Slot}
-use Rattle.mvn_outside.specs.declared.goal.Slot.TheVariants.{Nowhere, Pom, Classes, TestClasses, Main, Tests, Sources, Javadoc}
-use Rattle.mvn_outside.specs.declared.goal.OwnBytes.{OwnBytes}
-use Rattle.mvn_outside.specs.declared.goal.GoalAnswer.{GoalAnswer}
-use Rattle.mvn_outside.specs.declared.goal.GoalAnswer.TheVariants.{Done, Produced, Failed}
-use Rattle.mvn_outside.specs.Goals.{is_kept, HasOwnSlots}
+use Rattle.goal_types.specs.declared.goal.Slot.{Slot}
+use Rattle.goal_types.specs.declared.goal.Slot.TheVariants.{Nowhere, Pom, Classes, TestClasses, Main, Tests, Sources, Javadoc}
+use Rattle.goal_types.specs.declared.goal.OwnBytes.{OwnBytes}
+use Rattle.goal_types.specs.declared.goal.GoalAnswer.{GoalAnswer}
+use Rattle.goal_types.specs.declared.goal.GoalAnswer.TheVariants.{Done, Produced, Failed}
+use Rattle.goal_types.specs.Goals.{is_kept, HasOwnSlots}
 use Rattle.build_core.specs.Slots.{slot_number, is_below, is_above, put_slot, total_bytes, GoalsEnd, all_answered, goal_failed, output_too_large, one_goal}
 
 module _ {A : Type 0} (p : A → Bool) where

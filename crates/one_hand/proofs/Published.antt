@@ -4,7 +4,7 @@ use Rattle.std.proofs.lemmas.List.{take_more, append_assoc, append-nil, map-appe
 use Rattle.std.proofs.lemmas.Grind.{flat_map-append}
 use Rattle.std.specs.List.{list_all}
 use Rattle.std.specs.FinMap as finite
-use Rattle.mvn_outside.specs.declared.goal.OwnBytes.{OwnBytes}
+use Rattle.goal_types.specs.declared.goal.OwnBytes.{OwnBytes}
 use Rattle.mvn_outside.specs.declared.shelf.Published.{Published}
 use Rattle.mvn_outside.specs.declared.shelf.ShelfTold.{ShelfTold}
 use Rattle.mvn_outside.specs.Pieces.{Contents}
@@ -15,7 +15,7 @@ use Rattle.build_core.specs.declared.plan.Plan.{Plan}
 use Rattle.build_core.specs.declared.plan.PlanModule.{PlanModule}
 use Rattle.build_core.specs.declared.plan.OwnFile.{OwnFile}
 use Rattle.build_core.specs.OneThread.{name_of, own_bytes}
-use Rattle.mvn_outside.specs.declared.goal.Slot.TheVariants.{Nowhere}
+use Rattle.goal_types.specs.declared.goal.Slot.TheVariants.{Nowhere}
 use Rattle.one_hand.proofs.Kept.{all_at}
 use Rattle.one_hand.specs.Installing.{HasNames, publish_of, own_publishes, Adds}
 

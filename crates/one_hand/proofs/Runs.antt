@@ -1,11 +1,11 @@
 -- The goals of a module, run one after another: a run of two lists is a run of the one and then of the other, and it
 -- reads no answer but those of its goals.
 use Rattle.std.proofs.Common.{◌≡◌, ℕ, suc, ◌+◌, ◌<◌, Bool, true, false, nat_le, ◌==◌, List, [], ◌∷◌, ◌++◌, length, cond, refl, sym, ap, ◌∙◌, arith}
-use Rattle.mvn_outside.specs.declared.goal.Slot.{Slot}
-use Rattle.mvn_outside.specs.declared.goal.OwnBytes.{OwnBytes}
-use Rattle.mvn_outside.specs.declared.goal.GoalCall.{GoalCall}
-use Rattle.mvn_outside.specs.declared.goal.GoalAnswer.{GoalAnswer}
-use Rattle.mvn_outside.specs.declared.goal.GoalAnswer.TheVariants.{Done, Produced, Failed}
+use Rattle.goal_types.specs.declared.goal.Slot.{Slot}
+use Rattle.goal_types.specs.declared.goal.OwnBytes.{OwnBytes}
+use Rattle.goal_types.specs.declared.goal.GoalCall.{GoalCall}
+use Rattle.goal_types.specs.declared.goal.GoalAnswer.{GoalAnswer}
+use Rattle.goal_types.specs.declared.goal.GoalAnswer.TheVariants.{Done, Produced, Failed}
 use Rattle.build_core.specs.Slots.{slot_number, put_slot, total_bytes, GoalsEnd, all_answered, goal_failed, output_too_large, one_goal, run_goals}
 
 -- what follows where all goals were answered

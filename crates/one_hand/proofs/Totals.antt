@@ -1,7 +1,7 @@
 -- How many bytes the outputs have with one put in its slot.
 use Rattle.std.proofs.Common.{◌≡◌, ℕ, ◌+◌, ◌<◌, Bool, true, false, not, ◌==◌, nat_lt, nat_le, List, [], ◌∷◌, ◌++◌, length, filter, cond, refl, ap, ◌∙◌, arith}
-use Rattle.mvn_outside.specs.declared.goal.Slot.{Slot}
-use Rattle.mvn_outside.specs.declared.goal.OwnBytes.{OwnBytes}
+use Rattle.goal_types.specs.declared.goal.Slot.{Slot}
+use Rattle.goal_types.specs.declared.goal.OwnBytes.{OwnBytes}
 use Rattle.build_core.specs.Slots.{slot_number, is_below, is_above, is_other, put_slot, total_bytes}
 
 total_append : (xs ys : List OwnBytes) → total_bytes (xs ++ ys) ≡ total_bytes xs + total_bytes ys

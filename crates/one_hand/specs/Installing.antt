@@ -1,7 +1,7 @@
 -- What installing a module publishes, and what is told of it. Own rules.
 use Rattle.std.specs.Prelude.{◌≡◌, ℕ, Bool, true, false, List, [], ◌∷◌, ◌++◌, map, flat_map, nat_lt, length, Option, Some, None, Result, Err}
 use Rattle.std.specs.List.{list_all}
-use Rattle.mvn_outside.specs.declared.goal.OwnBytes.{OwnBytes}
+use Rattle.goal_types.specs.declared.goal.OwnBytes.{OwnBytes}
 use Rattle.mvn_outside.specs.declared.shelf.Published.{Published}
 use Rattle.mvn_outside.specs.declared.shelf.ShelfTold.{ShelfTold}
 use Rattle.build_core.specs.declared.plan.Plan.{Plan}

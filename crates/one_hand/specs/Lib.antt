@@ -1,4 +1,4 @@
-pub use Rattle.mvn_outside.specs.Goals
+pub use Rattle.goal_types.specs.Goals
 pub use Rattle.build_core.specs.Slots
 pub use Rattle.build_core.specs.OneThread
 pub mod Running

@@ -1,14 +1,15 @@
 // A module's goals, run in order. Introduction to the Build Lifecycle; own as a whole.
 ghost use Rattle.std.specs.Prelude.{◌≡◌, ◌<◌, ◌⊎◌, true, false, [], length, Some, None, IfSome, IfOk};
 ghost use Rattle.mvn_shared.specs.Cause.{HasCause};
-ghost use Rattle.mvn_outside.specs.Goals.{HasOwnSlots};
-ghost use Rattle.mvn_outside.specs.declared.goal.GoalRequest.{GoalRequest};
+ghost use Rattle.goal_types.specs.Goals.{HasOwnSlots};
+ghost use Rattle.goal_types.specs.declared.goal.GoalRequest.{GoalRequest};
 ghost use Rattle.build_core.specs.Slots.{all_answered, one_output, one_goal};
 ghost use Rattle.one_hand.specs.Running.{is_no_pom, HasNoPom, goals_end, gate_stopped, IsStop, OneAnswer, NoAnswer, IsAskedSo, IsBegun, EndsAsDefined, AreAnswers, HasAllAnswers};
 
 use crate::outputs::{fits, with_output};
 use build_core::{Device, Ending, PlanModule};
-use mvn_outside::{Gate, GateFault, GoalAnswer, GoalCall, GoalRequest, OwnBytes, Slot};
+use goal_types::{GoalAnswer, GoalCall, GoalRequest, OwnBytes, Slot};
+use mvn_outside::{DeviceFault, Gate};
 use mvn_shared::{Bytes, List, Mem};
 use std::alloc::Global;
 use std::mem;
@@ -113,8 +114,8 @@ fn answer_goal<G: Gate>(
     request.call = copy;
     let answer = match gate.call(request) {
         Ok(answer) => answer,
-        Err(GateFault::Failed) => return Some(Ending::Fault(Device::Gate)),
-        Err(GateFault::Memory) => return Some(Ending::Memory),
+        Err(DeviceFault::Failed) => return Some(Ending::Fault(Device::Gate)),
+        Err(DeviceFault::Memory) => return Some(Ending::Memory),
     };
     let Ok(kept) = copy_of_answer(&answer) else {
         return Some(Ending::Memory);

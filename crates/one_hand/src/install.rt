@@ -7,9 +7,10 @@ ghost use Rattle.one_hand.specs.Installing.{publish_of, own_publishes, HasNames,
 
 use crate::outputs::bytes_in;
 use build_core::{Plan, PlanModule};
+use goal_types::{OwnBytes, Slot};
 use local_repo::{put, stage};
 use mvn_base::FileName;
-use mvn_outside::{AreaFault, DeviceFault, OwnBytes, Shelf, Slot};
+use mvn_outside::{DeviceFault, Shelf};
 
 /// Why a file can't be put into the repository.
 #[derive(Clone, Copy, Debug, PartialEq, Eq)]
@@ -37,8 +38,8 @@ fn publish_bytes<S: Shelf>(
 {
     let piece = match stage(area, bytes) {
         Ok(piece) => piece,
-        Err(AreaFault::Failed) => return Err(InstallFault::Area),
-        Err(AreaFault::Memory) => return Err(InstallFault::Memory),
+        Err(DeviceFault::Failed) => return Err(InstallFault::Area),
+        Err(DeviceFault::Memory) => return Err(InstallFault::Memory),
     };
     match put(shelf, area, piece, name) {
         Ok(()) => Ok(()),

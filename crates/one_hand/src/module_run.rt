@@ -11,7 +11,8 @@ use crate::goals::{GoalsRun, run_goals};
 use crate::install::{InstallFault, install_files};
 use crate::outputs::bytes_in;
 use build_core::{Device, Ending, Plan, PlanModule};
-use mvn_outside::{Gate, GoalAnswer, Hand, OwnBytes, Shelf, Slot};
+use goal_types::{GoalAnswer, OwnBytes, Slot};
+use mvn_outside::{Gate, Hand, Shelf};
 use mvn_shared::List;
 use std::alloc::Global;
 

@@ -3,7 +3,7 @@ ghost use Rattle.std.specs.Prelude.{◌≡◌, nat_le, find, ◌==◌, IfOk};
 ghost use Rattle.std.specs.Option.{option_map};
 ghost use Rattle.build_core.specs.Slots.{slot_number, put_slot, slot_bytes, total_bytes};
 
-use mvn_outside::{OwnBytes, Slot};
+use goal_types::{OwnBytes, Slot};
 use mvn_shared::{Bytes, List, Mem};
 use std::alloc::Global;
 

@@ -2,7 +2,7 @@
 use Rattle.std.specs.Prelude.{List, fold}
 use Rattle.std.specs.FinMap as map
 use Rattle.mvn_shared.specs.Files.{Files}
-use Rattle.mvn_outside.specs.declared.goal.SourceFile.{SourceFile}
+use Rattle.goal_types.specs.declared.goal.SourceFile.{SourceFile}
 use Rattle.outside_mem.specs.declared.tree.MemTree.{MemTree}
 
 abbrev pub tree_files : {F : Type 0} → MemTree F → Files

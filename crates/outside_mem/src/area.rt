@@ -3,7 +3,7 @@ ghost use Rattle.std.specs.FinMap as map;
 
 use crate::calls::{Calls, Failures, NoFailures};
 use crate::pieces::{Piece, extend_at, seal_at};
-use mvn_outside::{Area, AreaFault};
+use mvn_outside::{Area, DeviceFault};
 use mvn_shared::{Bytes, List, Mem};
 use std::alloc::Global;
 use std::collections::BTreeMap;
@@ -98,13 +98,13 @@ impl<F: Failures> Area for MemArea<F> {
     ghost no_faults = { λ area. F.no_faults area.calls };
 
     // A number is given once; the last of them never.
-    fn begin(&mut self) -> Result<u64, AreaFault> {
+    fn begin(&mut self) -> Result<u64, DeviceFault> {
         if self.calls.next_fails() {
-            return Err(AreaFault::Failed);
+            return Err(DeviceFault::Failed);
         }
         let piece = self.next;
         if piece == u64::MAX || self.pieces.contains_key(&piece) {
-            return Err(AreaFault::Memory);
+            return Err(DeviceFault::Memory);
         }
         let empty = Piece {
             sealed: false,
@@ -115,37 +115,37 @@ impl<F: Failures> Area for MemArea<F> {
                 self.next = piece + 1;
                 Ok(piece)
             }
-            Err(_) => Err(AreaFault::Memory),
+            Err(_) => Err(DeviceFault::Memory),
         }
     }
 
-    fn append(&mut self, piece: u64, bytes: &[u8]) -> Result<usize, AreaFault> {
+    fn append(&mut self, piece: u64, bytes: &[u8]) -> Result<usize, DeviceFault> {
         if self.calls.next_fails() {
-            return Err(AreaFault::Failed);
+            return Err(DeviceFault::Failed);
         }
         extend_at(&mut self.pieces, piece, bytes)?;
         Ok(bytes.len())
     }
 
-    fn seal(&mut self, piece: u64) -> Result<(), AreaFault> {
+    fn seal(&mut self, piece: u64) -> Result<(), DeviceFault> {
         if self.calls.next_fails() {
-            return Err(AreaFault::Failed);
+            return Err(DeviceFault::Failed);
         }
         seal_at(&mut self.pieces, piece);
         Ok(())
     }
 
-    fn discard(&mut self, piece: u64) -> Result<(), AreaFault> {
+    fn discard(&mut self, piece: u64) -> Result<(), DeviceFault> {
         if self.calls.next_fails() {
-            return Err(AreaFault::Failed);
+            return Err(DeviceFault::Failed);
         }
         self.take(piece);
         Ok(())
     }
 
-    fn sweep(&mut self) -> Result<(), AreaFault> {
+    fn sweep(&mut self) -> Result<(), DeviceFault> {
         if self.calls.next_fails() {
-            return Err(AreaFault::Failed);
+            return Err(DeviceFault::Failed);
         }
         self.pieces.clear();
         Ok(())

@@ -1,7 +1,8 @@
 ghost use Rattle.std.specs.Prelude.{◌≡◌, IfOk, [], true};
 
 use crate::calls::{Calls, Failures, NoFailures};
-use mvn_outside::{Gate, GateFault, GoalAnswer, GoalRequest};
+use goal_types::{GoalAnswer, GoalRequest};
+use mvn_outside::{DeviceFault, Gate};
 use mvn_shared::{List, Mem};
 use std::alloc::Global;
 use std::vec::IntoIter;
@@ -58,9 +59,9 @@ impl<F: Failures> Gate for MemGate<F> {
 
     ghost one_answer = { λ _. tt };
 
-    fn call(&mut self, _request: &GoalRequest) -> Result<GoalAnswer, GateFault> {
+    fn call(&mut self, _request: &GoalRequest) -> Result<GoalAnswer, DeviceFault> {
         if self.calls.next_fails() {
-            return Err(GateFault::Failed);
+            return Err(DeviceFault::Failed);
         }
         match self.answers.next() {
             Some(answer) => Ok(answer),

@@ -121,6 +121,8 @@ impl<F: Failures> Shelf for MemShelf<F> {
 
     ghost no_faults = { λ shelf. F.no_faults shelf.calls };
 
+    ghost settled_within = { λ shelf. shelf.within };
+
     fn has(&mut self, name: &FileName) -> Result<bool, DeviceFault> {
         if self.calls.next_fails() {
             return Err(DeviceFault::Failed);

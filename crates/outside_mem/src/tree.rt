@@ -3,12 +3,11 @@ ghost use Rattle.outside_mem.specs.Tree.{files_of};
 
 use crate::calls::{Calls, Failures, NoFailures};
 use crate::reading::read_within;
-use mvn_outside::{DeviceFault, Files, ListFault, ReadFault, SourceFile, Tree};
+use goal_types::SourceFile;
+use mvn_base::MOST_FILES;
+use mvn_outside::{DeviceFault, Files, ListFault, ReadFault, Tree};
 use mvn_shared::{Bytes, FileMap, List, Mem, Text};
 use std::alloc::Global;
-
-/// The most files that a listing gives.
-const MOST_FILES: usize = 65536;
 
 /// A project's folder in memory. It tells its files.
 #[derive(Drop)]
@@ -66,11 +65,10 @@ impl MemTree<NoFailures> {
 }
 
 impl<F: Failures> Files for MemTree<F> {
-    ghost use Rattle.std.specs.Prelude.{◌≡◌, Some};
-    ghost use Rattle.std.proofs.Common.{ap};
+    ghost use Rattle.std.specs.Prelude.{◌≡◌, ℕ, List};
     ghost use Rattle.mvn_shared.specs.Files.{is_there};
 
-    ghost there = { λ tree. Some (is_there tree.files) };
+    ghost fits = { λ tree world. (path : List ℕ) → world path ≡ is_there tree.files path };
 
     ghost faults = { λ tree. F.count tree.calls };
 
@@ -79,8 +77,6 @@ impl<F: Failures> Files for MemTree<F> {
     ghost no_faults = { λ tree. F.no_faults tree.calls };
 
     ghost tells_same = { λ before now. now.files ≡ before.files };
-
-    ghost same_there = { λ before now same. ap (λ files. Some (is_there files)) same };
 
     fn has(&mut self, path: &Text) -> Result<bool, DeviceFault> {
         if self.calls.next_fails() {
@@ -98,7 +94,7 @@ impl<F: Failures> Tree for MemTree<F> {
 
     ghost same_files = { λ before now same. ap Some same };
 
-    ghost agrees = { λ tree. refl };
+    ghost agrees = { λ tree path. refl };
 
     fn read(&mut self, path: &Text, limit: u64) -> Result<Option<Bytes>, ReadFault> {
         if self.calls.next_fails() {

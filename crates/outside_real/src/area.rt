@@ -1,10 +1,10 @@
 ghost use Rattle.std.specs.Prelude.{◌≡◌, ◌<◌, ◌≤◌, length, IfOk};
 ghost use Rattle.std.specs.FinMap as map;
 
-use crate::count::raised;
+use crate::count::counted;
 use crate::fault::{fault_of, is_absent};
 use crate::folders::{make_folders, sync_folders};
-use mvn_outside::{Area, AreaFault};
+use mvn_outside::{Area, DeviceFault};
 use mvn_shared::{Mem, Text};
 use std::collections::{BTreeMap, BTreeSet};
 use std::fs::{OpenFile, OpenOptions};
@@ -23,7 +23,7 @@ pub struct RealArea<'a, R: rt::Files + AllocGlobal + Clone + Drop> {
 }
 
 // One write to a stream: at least one byte where there is one. A call that a signal cut off is made again.
-fn write_some<F: Write>(file: &mut F, bytes: &[u8]) -> Result<usize, AreaFault>
+fn write_some<F: Write>(file: &mut F, bytes: &[u8]) -> Result<usize, DeviceFault>
     ensures within { IfOk result (λ count. count ≤ length bytes.now) }
     ensures progress { IfOk result (λ count. 0 < length bytes.now → 0 < count) }
 {
@@ -33,14 +33,14 @@ fn write_some<F: Write>(file: &mut F, bytes: &[u8]) -> Result<usize, AreaFault>
                 if count > 0 || bytes.is_empty() {
                     return Ok(count);
                 }
-                return Err(AreaFault::Failed);
+                return Err(DeviceFault::Failed);
             }
             Err(e) => if e.kind() != ErrorKind::Interrupted {
-                return Err(AreaFault::from(fault_of(&e)));
+                return Err(fault_of(&e));
             },
         }
     }
-    Err(AreaFault::Failed)
+    Err(DeviceFault::Failed)
 }
 
 impl<'a, R: rt::Files + AllocGlobal + Clone + Drop> RealArea<'a, R> {
@@ -76,7 +76,7 @@ impl<'a, R: rt::Files + AllocGlobal + Clone + Drop> RealArea<'a, R> {
     }
 
     // Makes the folder, so that it stays where it is new, and an empty file.
-    fn create(&self, piece: u64) -> Result<(), AreaFault> {
+    fn create(&self, piece: u64) -> Result<(), DeviceFault> {
         let path = self.path_of(piece)?;
         let mut changed = BTreeSet::new(self.rt.alloc());
         make_folders(self.rt, self.folder.as_str(), &mut changed)?;
@@ -85,12 +85,12 @@ impl<'a, R: rt::Files + AllocGlobal + Clone + Drop> RealArea<'a, R> {
         how.write(true).create(true).truncate(true);
         self.rt
             .open_file(&how, path.as_str())
-            .map_err(|e| AreaFault::from(fault_of(&e)))?;
+            .map_err(|e| fault_of(&e))?;
         Ok(())
     }
 
     // Writes a part of the bytes at the end of a file.
-    fn write_part(&self, piece: u64, bytes: &[u8]) -> Result<usize, AreaFault>
+    fn write_part(&self, piece: u64, bytes: &[u8]) -> Result<usize, DeviceFault>
         ensures within { IfOk result (λ count. count ≤ length bytes.now) }
         ensures progress { IfOk result (λ count. 0 < length bytes.now → 0 < count) }
     {
@@ -98,35 +98,35 @@ impl<'a, R: rt::Files + AllocGlobal + Clone + Drop> RealArea<'a, R> {
         let mut file = self
             .rt
             .open_file(OpenOptions::new().append(true), path.as_str())
-            .map_err(|e| AreaFault::from(fault_of(&e)))?;
+            .map_err(|e| fault_of(&e))?;
         write_some(&mut file, bytes)
     }
 
     // Brings a file's bytes to the disk.
-    fn sync(&self, piece: u64) -> Result<(), AreaFault> {
+    fn sync(&self, piece: u64) -> Result<(), DeviceFault> {
         let path = self.path_of(piece)?;
         let file = self
             .rt
             .open_file(OpenOptions::new().append(true), path.as_str())
-            .map_err(|e| AreaFault::from(fault_of(&e)))?;
-        file.sync_all().map_err(|e| AreaFault::from(fault_of(&e)))
+            .map_err(|e| fault_of(&e))?;
+        file.sync_all().map_err(|e| fault_of(&e))
     }
 
     // Removes a file, if it is there.
-    fn remove(&self, piece: u64) -> Result<(), AreaFault> {
+    fn remove(&self, piece: u64) -> Result<(), DeviceFault> {
         let path = self.path_of(piece)?;
         match self.rt.remove_file(path.as_str()) {
             Ok(()) => Ok(()),
             Err(e) => if is_absent(&e) {
                 Ok(())
             } else {
-                Err(AreaFault::from(fault_of(&e)))
+                Err(fault_of(&e))
             },
         }
     }
 
     // Removes the folder with all that is in it.
-    fn remove_all(&self) -> Result<(), AreaFault> {
+    fn remove_all(&self) -> Result<(), DeviceFault> {
         match self
             .rt
             .remove_dir_all(self.rt.alloc(), self.folder.as_str())
@@ -135,7 +135,7 @@ impl<'a, R: rt::Files + AllocGlobal + Clone + Drop> RealArea<'a, R> {
             Err(e) => if is_absent(&e) {
                 Ok(())
             } else {
-                Err(AreaFault::from(fault_of(&e)))
+                Err(fault_of(&e))
             },
         }
     }
@@ -156,79 +156,47 @@ impl<'a, R: rt::Files + AllocGlobal + Clone + Drop> Area for RealArea<'a, R> {
     ghost no_faults = { λ _ e. cc };
 
     // A number is given once; the last of them never.
-    fn begin(&mut self) -> Result<u64, AreaFault> {
+    fn begin(&mut self) -> Result<u64, DeviceFault> {
         let piece = self.next;
         if piece == u64::MAX || self.pieces.contains_key(&piece) {
-            return Err(AreaFault::Memory);
+            return Err(DeviceFault::Memory);
         }
-        match self.create(piece) {
-            Ok(()) => {}
-            Err(AreaFault::Memory) => return Err(AreaFault::Memory),
-            Err(AreaFault::Failed) => {
-                self.faults = raised(self.faults);
-                return Err(AreaFault::Failed);
-            }
-        }
+        let answer = self.create(piece);
+        counted(&mut self.faults, answer)?;
         match self.pieces.insert(piece, false) {
             Ok(_) => {
                 self.next = piece + 1;
                 Ok(piece)
             }
-            Err(_) => Err(AreaFault::Memory),
+            Err(_) => Err(DeviceFault::Memory),
         }
     }
 
-    fn append(&mut self, piece: u64, bytes: &[u8]) -> Result<usize, AreaFault> {
-        match self.write_part(piece, bytes) {
-            Ok(count) => Ok(count),
-            Err(AreaFault::Memory) => Err(AreaFault::Memory),
-            Err(AreaFault::Failed) => {
-                self.faults = raised(self.faults);
-                Err(AreaFault::Failed)
-            }
-        }
+    fn append(&mut self, piece: u64, bytes: &[u8]) -> Result<usize, DeviceFault> {
+        let answer = self.write_part(piece, bytes);
+        counted(&mut self.faults, answer)
     }
 
-    fn seal(&mut self, piece: u64) -> Result<(), AreaFault> {
-        match self.sync(piece) {
-            Ok(()) => {}
-            Err(AreaFault::Memory) => return Err(AreaFault::Memory),
-            Err(AreaFault::Failed) => {
-                self.faults = raised(self.faults);
-                return Err(AreaFault::Failed);
-            }
-        }
+    fn seal(&mut self, piece: u64) -> Result<(), DeviceFault> {
+        let answer = self.sync(piece);
+        counted(&mut self.faults, answer)?;
         match self.pieces.insert(piece, true) {
             Ok(_) => Ok(()),
-            Err(_) => Err(AreaFault::Memory),
+            Err(_) => Err(DeviceFault::Memory),
         }
     }
 
-    fn discard(&mut self, piece: u64) -> Result<(), AreaFault> {
-        match self.remove(piece) {
-            Ok(()) => {
-                self.forget(piece);
-                Ok(())
-            }
-            Err(AreaFault::Memory) => Err(AreaFault::Memory),
-            Err(AreaFault::Failed) => {
-                self.faults = raised(self.faults);
-                Err(AreaFault::Failed)
-            }
-        }
+    fn discard(&mut self, piece: u64) -> Result<(), DeviceFault> {
+        let answer = self.remove(piece);
+        counted(&mut self.faults, answer)?;
+        self.forget(piece);
+        Ok(())
     }
 
-    fn sweep(&mut self) -> Result<(), AreaFault> {
-        match self.remove_all() {
-            Ok(()) => {
-                self.pieces.clear();
-                Ok(())
-            }
-            Err(AreaFault::Memory) => Err(AreaFault::Memory),
-            Err(AreaFault::Failed) => {
-                self.faults = raised(self.faults);
-                Err(AreaFault::Failed)
-            }
-        }
+    fn sweep(&mut self) -> Result<(), DeviceFault> {
+        let answer = self.remove_all();
+        counted(&mut self.faults, answer)?;
+        self.pieces.clear();
+        Ok(())
     }
 }

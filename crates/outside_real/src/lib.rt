@@ -19,8 +19,3 @@ pub use remote::RealRemote;
 pub use shelf::RealShelf;
 pub use sink::RealSink;
 pub use tree::RealTree;
-
-#[cfg(test)]
-mod store_tests;
-#[cfg(test)]
-mod tests;

@@ -1,7 +1,7 @@
 ghost use Rattle.std.specs.Prelude.{◌≡◌, ◌≤◌, true, IfOk, IfSome, length};
 ghost use Rattle.mvn_base.specs.Names.{is_group, is_name};
 
-use crate::count::raised;
+use crate::count::{counted_list, counted_read};
 use crate::folders::full_path;
 use crate::reading::read_file;
 use crate::versions::versions_below;
@@ -54,26 +54,12 @@ impl<'a, R: rt::Files + AllocGlobal + Clone + Drop> Remote for RealRemote<'a, R>
     ghost no_faults = { λ _ e. cc };
 
     fn fetch(&mut self, name: &FileName, limit: u64) -> Result<Option<Bytes>, ReadFault> {
-        match self.bytes_at(name, limit) {
-            Ok(found) => Ok(found),
-            Err(ReadFault::TooLarge) => Err(ReadFault::TooLarge),
-            Err(ReadFault::Memory) => Err(ReadFault::Memory),
-            Err(ReadFault::Failed) => {
-                self.faults = raised(self.faults);
-                Err(ReadFault::Failed)
-            }
-        }
+        let answer = self.bytes_at(name, limit);
+        counted_read(&mut self.faults, answer)
     }
 
     fn versions(&mut self, group: &Text, artifact: &Text) -> Result<List<Text>, ListFault> {
-        match versions_below(self.rt, self.root.as_str(), group, artifact) {
-            Ok(versions) => Ok(versions),
-            Err(ListFault::TooMany) => Err(ListFault::TooMany),
-            Err(ListFault::Memory) => Err(ListFault::Memory),
-            Err(ListFault::Failed) => {
-                self.faults = raised(self.faults);
-                Err(ListFault::Failed)
-            }
-        }
+        let answer = versions_below(self.rt, self.root.as_str(), group, artifact);
+        counted_list(&mut self.faults, answer)
     }
 }

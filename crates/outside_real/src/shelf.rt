@@ -2,7 +2,7 @@ ghost use Rattle.std.specs.Prelude.{◌≡◌, ◌≤◌, true, IfOk, IfSome, le
 ghost use Rattle.mvn_base.specs.Names.{is_group, is_name};
 
 use crate::area::RealArea;
-use crate::count::raised;
+use crate::count::{counted, counted_list, counted_read};
 use crate::fault::{fault_of, is_absent};
 use crate::folders::{full_path, is_inside, make_folders, parent_of, sync_folders};
 use crate::reading::read_file;
@@ -95,39 +95,21 @@ impl<'a, R: rt::Files + AllocGlobal + Clone + Drop> Shelf for RealShelf<'a, R> {
 
     ghost no_faults = { λ _ e. cc };
 
+    ghost settled_within = { λ _. tt };
+
     fn has(&mut self, name: &FileName) -> Result<bool, DeviceFault> {
-        match self.is_file(name) {
-            Ok(found) => Ok(found),
-            Err(DeviceFault::Memory) => Err(DeviceFault::Memory),
-            Err(DeviceFault::Failed) => {
-                self.faults = raised(self.faults);
-                Err(DeviceFault::Failed)
-            }
-        }
+        let answer = self.is_file(name);
+        counted(&mut self.faults, answer)
     }
 
     fn read(&mut self, name: &FileName, limit: u64) -> Result<Option<Bytes>, ReadFault> {
-        match self.bytes_at(name, limit) {
-            Ok(found) => Ok(found),
-            Err(ReadFault::TooLarge) => Err(ReadFault::TooLarge),
-            Err(ReadFault::Memory) => Err(ReadFault::Memory),
-            Err(ReadFault::Failed) => {
-                self.faults = raised(self.faults);
-                Err(ReadFault::Failed)
-            }
-        }
+        let answer = self.bytes_at(name, limit);
+        counted_read(&mut self.faults, answer)
     }
 
     fn versions(&mut self, group: &Text, artifact: &Text) -> Result<List<Text>, ListFault> {
-        match versions_below(self.rt, self.root.as_str(), group, artifact) {
-            Ok(versions) => Ok(versions),
-            Err(ListFault::TooMany) => Err(ListFault::TooMany),
-            Err(ListFault::Memory) => Err(ListFault::Memory),
-            Err(ListFault::Failed) => {
-                self.faults = raised(self.faults);
-                Err(ListFault::Failed)
-            }
-        }
+        let answer = versions_below(self.rt, self.root.as_str(), group, artifact);
+        counted_list(&mut self.faults, answer)
     }
 
     fn publish(
@@ -137,30 +119,16 @@ impl<'a, R: rt::Files + AllocGlobal + Clone + Drop> Shelf for RealShelf<'a, R> {
         name: &FileName,
     ) -> Result<(), DeviceFault> {
         let from = area.path_of(piece)?;
-        match self.rename(from.as_str(), name) {
-            Ok(()) => {
-                area.forget(piece);
-                Ok(())
-            }
-            Err(DeviceFault::Memory) => Err(DeviceFault::Memory),
-            Err(DeviceFault::Failed) => {
-                self.faults = raised(self.faults);
-                Err(DeviceFault::Failed)
-            }
-        }
+        let answer = self.rename(from.as_str(), name);
+        counted(&mut self.faults, answer)?;
+        area.forget(piece);
+        Ok(())
     }
 
     fn settle(&mut self) -> Result<(), DeviceFault> {
-        match sync_folders(self.rt, &self.changed) {
-            Ok(()) => {
-                self.changed.clear();
-                Ok(())
-            }
-            Err(DeviceFault::Memory) => Err(DeviceFault::Memory),
-            Err(DeviceFault::Failed) => {
-                self.faults = raised(self.faults);
-                Err(DeviceFault::Failed)
-            }
-        }
+        let answer = sync_folders(self.rt, &self.changed);
+        counted(&mut self.faults, answer)?;
+        self.changed.clear();
+        Ok(())
     }
 }

@@ -1,15 +1,13 @@
 ghost use Rattle.std.specs.Prelude.{◌≤◌, IfOk, IfSome, length};
 
-use crate::count::raised;
+use crate::count::{counted, counted_list, counted_read};
 use crate::folders::full_path;
 use crate::reading::read_file;
 use crate::walk::files_below;
+use mvn_base::MOST_FILES;
 use mvn_outside::{DeviceFault, Files, ListFault, ReadFault, Tree};
 use mvn_shared::{Bytes, List, Text};
 use std::rt;
-
-/// The most files that a listing gives.
-const MOST_FILES: usize = 65536;
 
 /// A project's folder on a disk. It tells nothing of what stands there.
 #[derive(Drop)]
@@ -60,9 +58,9 @@ impl<'a, R: rt::Files + AllocGlobal + Clone + Drop> RealTree<'a, R> {
 }
 
 impl<'a, R: rt::Files + AllocGlobal + Clone + Drop> Files for RealTree<'a, R> {
-    ghost use Rattle.std.specs.Prelude.{None, refl, false};
+    ghost use Rattle.std.specs.Prelude.{false};
 
-    ghost there = { λ _. None };
+    ghost fits = { λ _ _. ⊥ };
 
     ghost faults = { λ tree. tree.faults };
 
@@ -72,17 +70,9 @@ impl<'a, R: rt::Files + AllocGlobal + Clone + Drop> Files for RealTree<'a, R> {
 
     ghost tells_same = { λ _ _. Unit {0} };
 
-    ghost same_there = { λ _ _ _. refl };
-
     fn has(&mut self, path: &Text) -> Result<bool, DeviceFault> {
-        match self.is_there(path) {
-            Ok(found) => Ok(found),
-            Err(DeviceFault::Memory) => Err(DeviceFault::Memory),
-            Err(DeviceFault::Failed) => {
-                self.faults = raised(self.faults);
-                Err(DeviceFault::Failed)
-            }
-        }
+        let answer = self.is_there(path);
+        counted(&mut self.faults, answer)
     }
 }
 
@@ -96,26 +86,12 @@ impl<'a, R: rt::Files + AllocGlobal + Clone + Drop> Tree for RealTree<'a, R> {
     ghost agrees = { λ _. tt };
 
     fn read(&mut self, path: &Text, limit: u64) -> Result<Option<Bytes>, ReadFault> {
-        match self.bytes_at(path, limit) {
-            Ok(found) => Ok(found),
-            Err(ReadFault::TooLarge) => Err(ReadFault::TooLarge),
-            Err(ReadFault::Memory) => Err(ReadFault::Memory),
-            Err(ReadFault::Failed) => {
-                self.faults = raised(self.faults);
-                Err(ReadFault::Failed)
-            }
-        }
+        let answer = self.bytes_at(path, limit);
+        counted_read(&mut self.faults, answer)
     }
 
     fn list(&mut self, folder: &Text) -> Result<List<Text>, ListFault> {
-        match files_below(self.rt, self.root.as_str(), folder.as_str(), MOST_FILES) {
-            Ok(files) => Ok(List::of(files)),
-            Err(ListFault::TooMany) => Err(ListFault::TooMany),
-            Err(ListFault::Memory) => Err(ListFault::Memory),
-            Err(ListFault::Failed) => {
-                self.faults = raised(self.faults);
-                Err(ListFault::Failed)
-            }
-        }
+        let answer = files_below(self.rt, self.root.as_str(), folder.as_str(), MOST_FILES);
+        Ok(List::of(counted_list(&mut self.faults, answer)?))
     }
 }

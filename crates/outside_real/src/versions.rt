@@ -3,13 +3,10 @@ ghost use Rattle.std.specs.Prelude.{◌≡◌, true};
 ghost use Rattle.mvn_base.specs.Names.{is_group, is_name};
 
 use crate::walk::files_below;
-use mvn_base::artifact_folder;
+use mvn_base::{MOST_FILES, artifact_folder};
 use mvn_outside::{ListFault, list_versions};
 use mvn_shared::{List, Text};
 use std::rt;
-
-/// The most files that an artifact's folder may have, for its versions to be listed.
-const MOST_FILES: usize = 65536;
 
 /// The versions whose POMs stand below the artifact's folder, in the order of the POMs' names. Costs one look at each
 /// file of the artifact, and a sort.

@@ -1,3 +1,4 @@
 pub mod Walks
 pub mod Settings
 pub mod Pairs
+pub mod Lacking

@@ -6,9 +6,15 @@ use Rattle.mvn_base.specs.declared.machine.Pair.{Pair}
 use Rattle.mvn_base.specs.declared.refusal.PomId.{PomId}
 use Rattle.mvn_base.specs.declared.setting.Setting.{Setting}
 use Rattle.mvn_base.specs.declared.setting.Setting.TheViews.{roll-Setting}
+use Rattle.mvn_base.specs.Limits.{maven_plugins}
 use Rattle.model_types.specs.declared.build.Build.{Build}
+use Rattle.model_types.specs.declared.build.BuildBase.{BuildBase}
+use Rattle.model_types.specs.declared.build.Outputs.{Outputs}
+use Rattle.model_types.specs.declared.build.Sources.{Sources}
 use Rattle.model_types.specs.declared.dependency.Dependency.{Dependency}
 use Rattle.model_types.specs.declared.dependency.Exclusion.{Exclusion}
+use Rattle.model_types.specs.declared.model.Coordinates.{Coordinates}
+use Rattle.model_types.specs.declared.model.ModelBase.{ModelBase}
 use Rattle.model_types.specs.declared.model.Parent.{Parent}
 use Rattle.model_types.specs.declared.model.RawModel.{RawModel}
 use Rattle.model_types.specs.declared.plugin.Execution.{Execution}
@@ -85,7 +91,7 @@ execution nodes node = record {
 
 unfoldable pub plugin : List Node → Node → Plugin
 plugin nodes node = record {
-  group = text_or nodes (codes "groupId") (codes "org.apache.maven.plugins") (Some node);
+  group = text_or nodes (codes "groupId") maven_plugins (Some node);
   artifact = text_or nodes (codes "artifactId") [] (Some node);
   version = text_of nodes (codes "version") (Some node);
   inherited = not (text_is nodes (codes "inherited") (codes "false") (Some node));
@@ -118,18 +124,31 @@ directories_among nodes name ks = flat_map (λ k. listed (text_of nodes (codes "
 abbrev pub directories : List Node → List ℕ → List ℕ → Option Node → List (List ℕ)
 directories nodes outer name node = directories_among nodes name (children (child nodes outer node))
 
-unfoldable pub build : List Node → Option Node → Build
-build nodes node = record {
+-- the groups of a build
+unfoldable pub outputs : List Node → Option Node → Outputs
+outputs nodes node = record {
   directory = text_of nodes (codes "directory") node;
   output = text_of nodes (codes "outputDirectory") node;
   test_output = text_of nodes (codes "testOutputDirectory") node;
   final_name = text_of nodes (codes "finalName") node;
+}
+
+unfoldable pub sources : List Node → Option Node → Sources
+sources nodes node = record {
   source = text_of nodes (codes "sourceDirectory") node;
   test_source = text_of nodes (codes "testSourceDirectory") node;
   resources = directories nodes (codes "resources") (codes "resource") node;
   test_resources = directories nodes (codes "testResources") (codes "testResource") node;
-  plugins = plugins nodes node;
-  managed_plugins = managed_plugins nodes node;
+}
+
+unfoldable pub build_base : List Node → Option Node → BuildBase
+build_base nodes node = record { plugins = plugins nodes node; managed_plugins = managed_plugins nodes node }
+
+unfoldable pub build : List Node → Option Node → Build
+build nodes node = record {
+  outputs = outputs nodes node;
+  sources = sources nodes node;
+  base = build_base nodes node;
   extensions = list_in gav nodes (codes "extensions") (codes "extension") node;
 }
 
@@ -145,12 +164,15 @@ os nodes node = record {
   version = text_of nodes (codes "version") (Some node);
 }
 
+abbrev pub file_text : List Node → List ℕ → Node → Option (List ℕ)
+file_text nodes name node = text_of nodes name (child nodes (codes "file") (Some node))
+
 unfoldable pub activation : List Node → Node → Activation
 activation nodes node = record {
   by_default = text_is nodes (codes "activeByDefault") (codes "true") (Some node);
   property = property nodes (child nodes (codes "property") (Some node));
-  exists = text_of nodes (codes "exists") (child nodes (codes "file") (Some node));
-  missing = text_of nodes (codes "missing") (child nodes (codes "file") (Some node));
+  exists = file_text nodes (codes "exists") node;
+  missing = file_text nodes (codes "missing") node;
   jdk = text_of nodes (codes "jdk") (Some node);
   os = option_map (os nodes) (child nodes (codes "os") (Some node));
 }
@@ -158,16 +180,24 @@ activation nodes node = record {
 abbrev pub modules : List Node → Option Node → List (List ℕ)
 modules nodes node = list_in text_item nodes (codes "modules") (codes "module") node
 
+-- what a project and a profile may both state
+unfoldable pub model_base : List Node → Option Node → ModelBase
+model_base nodes node = record {
+  modules = modules nodes node;
+  properties = properties nodes node;
+  managed = managed nodes node;
+  dependencies = dependencies nodes node;
+}
+
+abbrev pub activation_in : List Node → Option Node → Option Activation
+activation_in nodes node = option_map (activation nodes) (child nodes (codes "activation") node)
+
 unfoldable pub profile : List Node → Node → Profile
 profile nodes node = record {
   id = text_or nodes (codes "id") (codes "default") (Some node);
-  activation = option_map (activation nodes) (child nodes (codes "activation") (Some node));
-  modules = modules nodes (Some node);
-  properties = properties nodes (Some node);
-  managed = managed nodes (Some node);
-  dependencies = dependencies nodes (Some node);
-  plugins = plugins nodes (child nodes (codes "build") (Some node));
-  managed_plugins = managed_plugins nodes (child nodes (codes "build") (Some node));
+  activation = activation_in nodes (Some node);
+  base = model_base nodes (Some node);
+  build = build_base nodes (child nodes (codes "build") (Some node));
 }
 
 -- where the parent is looked for first: an empty path is kept
@@ -178,18 +208,23 @@ path_text None = codes "../pom.xml"
 unfoldable pub parent : List Node → Node → Parent
 parent nodes node = record { gav = gav nodes node; relative_path = path_text (child nodes (codes "relativePath") (Some node)) }
 
-unfoldable pub model : List Node → PomId → Option Node → RawModel
-model nodes pom node = record {
-  pom = pom;
-  parent = option_map (parent nodes) (child nodes (codes "parent") node);
+abbrev pub parent_in : List Node → Option Node → Option Parent
+parent_in nodes node = option_map (parent nodes) (child nodes (codes "parent") node)
+
+unfoldable pub coordinates : List Node → Option Node → Coordinates
+coordinates nodes node = record {
   group = text_of nodes (codes "groupId") node;
   artifact = text_or nodes (codes "artifactId") [] node;
   version = text_of nodes (codes "version") node;
   packaging = text_or nodes (codes "packaging") (codes "jar") node;
-  modules = modules nodes node;
-  properties = properties nodes node;
-  managed = managed nodes node;
-  dependencies = dependencies nodes node;
+}
+
+unfoldable pub model : List Node → PomId → Option Node → RawModel
+model nodes pom node = record {
+  pom = pom;
+  parent = parent_in nodes node;
+  coordinates = coordinates nodes node;
+  base = model_base nodes node;
   build = build nodes (child nodes (codes "build") node);
   profiles = list_in profile nodes (codes "profiles") (codes "profile") node;
 }

@@ -1,10 +1,8 @@
 -- What a POM says, or the rule that it breaks first.
-use Rattle.std.specs.Prelude.{◌≡◌, ℕ, List, Option, Some, None, Result, Ok, Err, slice_get}
+use Rattle.std.specs.Prelude.{ℕ, List, Option, Some, None, Result, Ok, Err, slice_get}
 use Rattle.mvn_base.specs.declared.refusal.Place.TheVariants.{Name}
 use Rattle.mvn_base.specs.declared.refusal.PomId.{PomId}
 use Rattle.mvn_base.specs.declared.refusal.Refusal.{Refusal}
-use Rattle.model_types.specs.declared.fault.ModelError.{ModelError}
-use Rattle.model_types.specs.declared.fault.ModelError.TheVariants.{Refused, Memory}
 use Rattle.model_types.specs.declared.model.RawModel.{RawModel}
 use Rattle.pom_text.specs.declared.node.Node.{Node}
 use Rattle.pom_model.specs.declared.fault.Fault.{Fault}
@@ -26,9 +24,3 @@ unless None nodes pom = Ok (model nodes pom (slice_get nodes 0))
 
 unfoldable pub raw : List Node → PomId → Result RawModel Refusal
 raw nodes pom = unless (first_fault nodes) nodes pom
-
--- a result is this answer, unless memory ran out
-abbrev pub Answers : Result RawModel Refusal → Result RawModel ModelError → Type 0
-Answers answer (Ok model) = answer ≡ Ok model
-Answers answer (Err (Refused refusal)) = answer ≡ Err refusal
-Answers answer (Err Memory) = Unit {0}

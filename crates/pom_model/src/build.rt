@@ -1,12 +1,12 @@
 ghost use Rattle.std.specs.Prelude.{◌≡◌, flat_map, IfOk};
 ghost use Rattle.std.specs.Option.{option_copied};
-ghost use Rattle.pom_model.specs.Fields.{build, directories, directories_among};
+ghost use Rattle.pom_model.specs.Fields.{build, build_base, directories, directories_among, outputs, sources};
 
 use crate::element::{child, named, text_of};
 use crate::item::list_in;
 use crate::plugin::{managed_plugins, plugins};
-use model_types::Build;
-use mvn_shared::{List, Mem, Text};
+use model_types::{Build, BuildBase, Outputs, Sources};
+use mvn_shared::{List, Mem, Shared, Text};
 use pom_text::Node;
 use std::alloc::Global;
 
@@ -39,22 +39,66 @@ fn directories(
     }
 }
 
+// Where a build puts what it makes.
+#[tactic(auto, unfolding(crate::specs::Fields::outputs))]
+fn outputs(alloc: Global, nodes: &[Node], node: Option<&Node>) -> Mem<Outputs>
+    ensures { IfOk result (λ value. value ≡ outputs nodes.now (option_copied node.entry)) }
+{
+    let directory = text_of(alloc, nodes, node, "directory")?;
+    let output = text_of(alloc, nodes, node, "outputDirectory")?;
+    let test_output = text_of(alloc, nodes, node, "testOutputDirectory")?;
+    let final_name = text_of(alloc, nodes, node, "finalName")?;
+    Ok(Outputs {
+        directory,
+        output,
+        test_output,
+        final_name,
+    })
+}
+
+// Where it finds what it reads.
+#[tactic(auto, unfolding(crate::specs::Fields::sources))]
+fn sources(alloc: Global, nodes: &[Node], node: Option<&Node>) -> Mem<Sources>
+    ensures { IfOk result (λ value. value ≡ sources nodes.now (option_copied node.entry)) }
+{
+    let source = text_of(alloc, nodes, node, "sourceDirectory")?;
+    let test_source = text_of(alloc, nodes, node, "testSourceDirectory")?;
+    let resources = directories(alloc, nodes, node, "resources", "resource")?;
+    let test_resources = directories(alloc, nodes, node, "testResources", "testResource")?;
+    Ok(Sources {
+        source,
+        test_source,
+        resources,
+        test_resources,
+    })
+}
+
+/// The plugins of a `build`, or of an absent one.
+#[tactic(auto, unfolding(crate::specs::Fields::build_base))]
+pub(crate) fn build_base(alloc: Global, nodes: &[Node], node: Option<&Node>) -> Mem<BuildBase>
+    ensures { IfOk result (λ value. value ≡ build_base nodes.now (option_copied node.entry)) }
+{
+    let plugins = plugins(alloc, nodes, node)?;
+    let managed_plugins = managed_plugins(alloc, nodes, node)?;
+    Ok(BuildBase {
+        plugins,
+        managed_plugins,
+    })
+}
+
 /// What a `build` says, or an absent one.
 #[tactic(auto, unfolding(crate::specs::Fields::build))]
 pub(crate) fn build(alloc: Global, nodes: &[Node], node: Option<&Node>) -> Mem<Build>
     ensures { IfOk result (λ value. value ≡ build nodes.now (option_copied node.entry)) }
 {
+    let outputs = Shared::new(alloc, outputs(alloc, nodes, node)?)?;
+    let sources = Shared::new(alloc, sources(alloc, nodes, node)?)?;
+    let base = Shared::new(alloc, build_base(alloc, nodes, node)?)?;
+    let extensions = list_in(alloc, nodes, node, "extensions", "extension")?;
     Ok(Build {
-        directory: text_of(alloc, nodes, node, "directory")?,
-        output: text_of(alloc, nodes, node, "outputDirectory")?,
-        test_output: text_of(alloc, nodes, node, "testOutputDirectory")?,
-        final_name: text_of(alloc, nodes, node, "finalName")?,
-        source: text_of(alloc, nodes, node, "sourceDirectory")?,
-        test_source: text_of(alloc, nodes, node, "testSourceDirectory")?,
-        resources: directories(alloc, nodes, node, "resources", "resource")?,
-        test_resources: directories(alloc, nodes, node, "testResources", "testResource")?,
-        plugins: plugins(alloc, nodes, node)?,
-        managed_plugins: managed_plugins(alloc, nodes, node)?,
-        extensions: list_in(alloc, nodes, node, "extensions", "extension")?,
+        outputs,
+        sources,
+        base,
+        extensions,
     })
 }

@@ -24,15 +24,23 @@ impl Item for Dependency {
 
     #[tactic(auto, unfolding(crate::specs::Fields::dependency))]
     fn read(alloc: Global, nodes: &[Node], node: &Node) -> Mem<Dependency> {
+        let group = text_or(alloc, nodes, Some(node), "groupId", "")?;
+        let artifact = text_or(alloc, nodes, Some(node), "artifactId", "")?;
+        let version = text_of(alloc, nodes, Some(node), "version")?;
+        let kind = text_or(alloc, nodes, Some(node), "type", "jar")?;
+        let classifier = text_or(alloc, nodes, Some(node), "classifier", "")?;
+        let scope = text_of(alloc, nodes, Some(node), "scope")?;
+        let optional = text_or(alloc, nodes, Some(node), "optional", "")?;
+        let exclusions = list_in(alloc, nodes, Some(node), "exclusions", "exclusion")?;
         Ok(Dependency {
-            group: text_or(alloc, nodes, Some(node), "groupId", "")?,
-            artifact: text_or(alloc, nodes, Some(node), "artifactId", "")?,
-            version: text_of(alloc, nodes, Some(node), "version")?,
-            kind: text_or(alloc, nodes, Some(node), "type", "jar")?,
-            classifier: text_or(alloc, nodes, Some(node), "classifier", "")?,
-            scope: text_of(alloc, nodes, Some(node), "scope")?,
-            optional: text_or(alloc, nodes, Some(node), "optional", "")?,
-            exclusions: list_in(alloc, nodes, Some(node), "exclusions", "exclusion")?,
+            group,
+            artifact,
+            version,
+            kind,
+            classifier,
+            scope,
+            optional,
+            exclusions,
         })
     }
 }

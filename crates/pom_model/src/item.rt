@@ -4,7 +4,7 @@ ghost use Rattle.pom_model.specs.Elements.{items, named_among};
 ghost use Rattle.pom_model.specs.Fields.{list_in, text_item};
 
 use crate::element::{child, named, own_text};
-use mvn_shared::{List, Mem, Text};
+use mvn_shared::{List, Mem, Shared, Text};
 use pom_text::Node;
 use std::alloc::Global;
 
@@ -54,5 +54,14 @@ impl Item for Text {
 
     fn read(alloc: Global, _nodes: &[Node], node: &Node) -> Mem<Text> {
         own_text(alloc, node)
+    }
+}
+
+impl<T: Item> Item for Shared<T> {
+    ghost value = { T.value };
+
+    fn read(alloc: Global, nodes: &[Node], node: &Node) -> Mem<Shared<T>> {
+        let item = T::read(alloc, nodes, node)?;
+        Shared::new(alloc, item)
     }
 }

@@ -1,6 +1,7 @@
 //! What a POM says: its elements read by the table of the POM Reference, or its first refusal.
 #![tactic(auto)]
 
+mod base;
 mod build;
 mod dependency;
 mod element;
@@ -15,8 +16,3 @@ mod table;
 mod walk;
 
 pub use read::read_model;
-
-#[cfg(test)]
-mod shown;
-#[cfg(test)]
-mod tests;

@@ -6,8 +6,8 @@ use crate::element::{child, text_is, text_of, text_or};
 use crate::item::{Item, list_in};
 use crate::setting::configuration;
 use model_types::{Execution, Plugin};
-use mvn_base::Gav;
-use mvn_shared::{List, Mem};
+use mvn_base::{Gav, MAVEN_PLUGINS};
+use mvn_shared::{List, Mem, Shared};
 use pom_text::Node;
 use std::alloc::Global;
 
@@ -32,38 +32,51 @@ impl Item for Execution {
 
     #[tactic(auto, unfolding(crate::specs::Fields::execution))]
     fn read(alloc: Global, nodes: &[Node], node: &Node) -> Mem<Execution> {
+        let inherited = !text_is(nodes, Some(node), "inherited", "false");
+        let id = text_or(alloc, nodes, Some(node), "id", "default")?;
+        let phase = text_of(alloc, nodes, Some(node), "phase")?;
+        let goals = list_in(alloc, nodes, Some(node), "goals", "goal")?;
+        let configuration = configuration(alloc, nodes, Some(node))?;
         Ok(Execution {
-            id: text_or(alloc, nodes, Some(node), "id", "default")?,
-            phase: text_of(alloc, nodes, Some(node), "phase")?,
-            goals: list_in(alloc, nodes, Some(node), "goals", "goal")?,
-            inherited: !text_is(nodes, Some(node), "inherited", "false"),
-            configuration: configuration(alloc, nodes, Some(node))?,
+            id,
+            phase,
+            goals,
+            inherited,
+            configuration,
         })
     }
 }
-
-/// The group of Maven's own plugins, where none is stated.
-const MAVEN_PLUGINS: &str = "org.apache.maven.plugins";
 
 impl Item for Plugin {
     ghost value = { plugin };
 
     #[tactic(auto, unfolding(crate::specs::Fields::plugin))]
     fn read(alloc: Global, nodes: &[Node], node: &Node) -> Mem<Plugin> {
+        let inherited = !text_is(nodes, Some(node), "inherited", "false");
+        let group = text_or(alloc, nodes, Some(node), "groupId", MAVEN_PLUGINS)?;
+        let artifact = text_or(alloc, nodes, Some(node), "artifactId", "")?;
+        let version = text_of(alloc, nodes, Some(node), "version")?;
+        let dependencies = list_in(alloc, nodes, Some(node), "dependencies", "dependency")?;
+        let executions = list_in(alloc, nodes, Some(node), "executions", "execution")?;
+        let configuration = configuration(alloc, nodes, Some(node))?;
         Ok(Plugin {
-            group: text_or(alloc, nodes, Some(node), "groupId", MAVEN_PLUGINS)?,
-            artifact: text_or(alloc, nodes, Some(node), "artifactId", "")?,
-            version: text_of(alloc, nodes, Some(node), "version")?,
-            inherited: !text_is(nodes, Some(node), "inherited", "false"),
-            dependencies: list_in(alloc, nodes, Some(node), "dependencies", "dependency")?,
-            executions: list_in(alloc, nodes, Some(node), "executions", "execution")?,
-            configuration: configuration(alloc, nodes, Some(node))?,
+            group,
+            artifact,
+            version,
+            inherited,
+            dependencies,
+            executions,
+            configuration,
         })
     }
 }
 
 /// The plugins of a build, or of none.
-pub(crate) fn plugins(alloc: Global, nodes: &[Node], node: Option<&Node>) -> Mem<List<Plugin>>
+pub(crate) fn plugins(
+    alloc: Global,
+    nodes: &[Node],
+    node: Option<&Node>,
+) -> Mem<List<Shared<Plugin>>>
     ensures { IfOk result (λ list. list ≡ plugins nodes.now (option_copied node.entry)) }
 {
     list_in(alloc, nodes, node, "plugins", "plugin")
@@ -74,7 +87,7 @@ pub(crate) fn managed_plugins(
     alloc: Global,
     nodes: &[Node],
     node: Option<&Node>,
-) -> Mem<List<Plugin>>
+) -> Mem<List<Shared<Plugin>>>
     ensures { IfOk result (λ list. list ≡ managed_plugins nodes.now (option_copied node.entry)) }
 {
     plugins(alloc, nodes, child(nodes, node, "pluginManagement"))

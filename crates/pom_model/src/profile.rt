@@ -1,44 +1,15 @@
-ghost use Rattle.std.specs.Prelude.{◌≡◌, codes, option_map, Some, IfOk};
+ghost use Rattle.std.specs.Prelude.{◌≡◌, option_map, Some, IfOk};
 ghost use Rattle.std.specs.Option.{option_copied};
-ghost use Rattle.pom_model.specs.Elements.{child};
-ghost use Rattle.pom_model.specs.Fields.{activation, dependencies, managed, modules, os, profile, properties, property};
+ghost use Rattle.pom_model.specs.Fields.{activation, activation_in, file_text, os, profile, property};
 
+use crate::base::model_base;
+use crate::build::build_base;
 use crate::element::{child, text_is, text_of, text_or};
-use crate::item::{Item, list_in};
-use crate::plugin::{managed_plugins, plugins};
-use crate::property::properties;
-use model_types::{Activation, Dependency, Os, Profile, Property};
-use mvn_base::Pair;
-use mvn_shared::{List, Mem, Text};
+use crate::item::Item;
+use model_types::{Activation, Os, Profile, Property};
+use mvn_shared::{Mem, Shared, Text};
 use pom_text::Node;
 use std::alloc::Global;
-
-/// What a project and a profile both state.
-#[derive(Debug, Drop)]
-pub(crate) struct Stated {
-    pub(crate) modules: List<Text>,
-    pub(crate) properties: List<Pair>,
-    pub(crate) managed: List<Dependency>,
-    pub(crate) dependencies: List<Dependency>,
-}
-
-impl Stated {
-    /// What is stated in an element.
-    pub(crate) fn read(alloc: Global, nodes: &[Node], node: Option<&Node>) -> Mem<Stated>
-        ensures modules { IfOk result (λ stated. stated.modules ≡ modules nodes.now (option_copied node.entry)) }
-        ensures properties { IfOk result (λ stated. stated.properties ≡ properties nodes.now (option_copied node.entry)) }
-        ensures managed { IfOk result (λ stated. stated.managed ≡ managed nodes.now (option_copied node.entry)) }
-        ensures dependencies { IfOk result (λ stated. stated.dependencies ≡ dependencies nodes.now (option_copied node.entry)) }
-    {
-        let management = child(nodes, node, "dependencyManagement");
-        Ok(Stated {
-            modules: list_in(alloc, nodes, node, "modules", "module")?,
-            properties: properties(alloc, nodes, node)?,
-            managed: list_in(alloc, nodes, management, "dependencies", "dependency")?,
-            dependencies: list_in(alloc, nodes, node, "dependencies", "dependency")?,
-        })
-    }
-}
 
 // A property that has to be defined; one without a name is no criterion.
 fn property(alloc: Global, nodes: &[Node], node: Option<&Node>) -> Mem<Option<Property>>
@@ -57,12 +28,23 @@ fn os(alloc: Global, nodes: &[Node], node: Option<&Node>) -> Mem<Option<Os>>
     let Some(os) = node else {
         return Ok(None);
     };
+    let name = text_of(alloc, nodes, Some(os), "name")?;
+    let family = text_of(alloc, nodes, Some(os), "family")?;
+    let arch = text_of(alloc, nodes, Some(os), "arch")?;
+    let version = text_of(alloc, nodes, Some(os), "version")?;
     Ok(Some(Os {
-        name: text_of(alloc, nodes, Some(os), "name")?,
-        family: text_of(alloc, nodes, Some(os), "family")?,
-        arch: text_of(alloc, nodes, Some(os), "arch")?,
-        version: text_of(alloc, nodes, Some(os), "version")?,
+        name,
+        family,
+        arch,
+        version,
     }))
+}
+
+// The text of a file's element, where a profile goes by a file.
+fn file_text(alloc: Global, nodes: &[Node], node: &Node, name: &str) -> Mem<Option<Text>>
+    ensures { IfOk result (λ text. text ≡ file_text nodes.now name.now node.now) }
+{
+    text_of(alloc, nodes, child(nodes, Some(node), "file"), name)
 }
 
 // When a profile is active by itself.
@@ -70,22 +52,27 @@ fn os(alloc: Global, nodes: &[Node], node: Option<&Node>) -> Mem<Option<Os>>
 fn activation(alloc: Global, nodes: &[Node], node: &Node) -> Mem<Activation>
     ensures { IfOk result (λ value. value ≡ activation nodes.now node.now) }
 {
-    let file = child(nodes, Some(node), "file");
+    let by_default = text_is(nodes, Some(node), "activeByDefault", "true");
+    let exists = file_text(alloc, nodes, node, "exists")?;
+    let missing = file_text(alloc, nodes, node, "missing")?;
+    let jdk = text_of(alloc, nodes, Some(node), "jdk")?;
+    let property = property(alloc, nodes, child(nodes, Some(node), "property"))?;
+    let os = os(alloc, nodes, child(nodes, Some(node), "os"))?;
     Ok(Activation {
-        by_default: text_is(nodes, Some(node), "activeByDefault", "true"),
-        property: property(alloc, nodes, child(nodes, Some(node), "property"))?,
-        exists: text_of(alloc, nodes, file, "exists")?,
-        missing: text_of(alloc, nodes, file, "missing")?,
-        jdk: text_of(alloc, nodes, Some(node), "jdk")?,
-        os: os(alloc, nodes, child(nodes, Some(node), "os"))?,
+        by_default,
+        property,
+        exists,
+        missing,
+        jdk,
+        os,
     })
 }
 
-fn activation_in(alloc: Global, nodes: &[Node], node: &Node) -> Mem<Option<Activation>>
-    ensures { IfOk result (λ value. value ≡ option_map (activation nodes.now) (child nodes.now (codes "activation") (Some node.now))) }
+fn activation_in(alloc: Global, nodes: &[Node], node: &Node) -> Mem<Option<Shared<Activation>>>
+    ensures { IfOk result (λ value. value ≡ activation_in nodes.now (Some node.now)) }
 {
     match child(nodes, Some(node), "activation") {
-        Some(node) => Ok(Some(activation(alloc, nodes, node)?)),
+        Some(node) => Ok(Some(Shared::new(alloc, activation(alloc, nodes, node)?)?)),
         None => Ok(None),
     }
 }
@@ -98,18 +85,13 @@ impl Item for Profile {
         let build = child(nodes, Some(node), "build");
         let id = text_or(alloc, nodes, Some(node), "id", "default")?;
         let activation = activation_in(alloc, nodes, node)?;
-        let plugins = plugins(alloc, nodes, build)?;
-        let managed_plugins = managed_plugins(alloc, nodes, build)?;
-        let stated = Stated::read(alloc, nodes, Some(node))?;
+        let base = Shared::new(alloc, model_base(alloc, nodes, Some(node))?)?;
+        let build = Shared::new(alloc, build_base(alloc, nodes, build)?)?;
         Ok(Profile {
             id,
             activation,
-            modules: stated.modules,
-            properties: stated.properties,
-            managed: stated.managed,
-            dependencies: stated.dependencies,
-            plugins,
-            managed_plugins,
+            base,
+            build,
         })
     }
 }

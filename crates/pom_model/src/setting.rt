@@ -5,7 +5,7 @@ ghost use Rattle.pom_model.specs.Fields.{configuration, setting_of, settings_wit
 
 use crate::element::{at, child};
 use mvn_base::Setting;
-use mvn_shared::{List, Mem};
+use mvn_shared::{List, Mem, Shared};
 use pom_text::Node;
 use std::alloc::Global;
 
@@ -42,19 +42,25 @@ fn settings_within(alloc: Global, depth: u32, nodes: &[Node], ks: &[u32]) -> Mem
     Ok(settings)
 }
 
-/// The elements of a configuration, or of none. Costs all of them.
+// The elements of a configuration, or of none.
 #[tactic(auto, unfolding(crate::specs::Fields::configuration))]
+fn settings_in(alloc: Global, nodes: &[Node], node: Option<&Node>) -> Mem<List<Setting>>
+    ensures { IfOk result (λ value. value ≡ configuration nodes.now (option_copied node.entry)) }
+{
+    match child(nodes, node, "configuration") {
+        Some(node) => settings_within(alloc, DEPTH, nodes, node.children.as_slice()),
+        None => Ok(List::new(alloc)),
+    }
+}
+
+/// The elements of a configuration, or of none. Costs all of them.
 pub(crate) fn configuration(
     alloc: Global,
     nodes: &[Node],
     node: Option<&Node>,
-) -> Mem<List<Setting>>
-    ensures { IfOk result (λ settings. settings ≡ configuration nodes.now (option_copied node.entry)) }
+) -> Mem<Shared<List<Setting>>>
+    ensures { IfOk result (λ value. value ≡ configuration nodes.now (option_copied node.entry)) }
 {
-    match child(nodes, node, "configuration") {
-        Some(configuration) => {
-            settings_within(alloc, DEPTH, nodes, configuration.children.as_slice())
-        }
-        None => Ok(List::new(alloc)),
-    }
+    let settings = settings_in(alloc, nodes, node)?;
+    Shared::new(alloc, settings)
 }

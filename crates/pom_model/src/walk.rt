@@ -124,13 +124,24 @@ fn missing_name(
 
 // What an element lacks, first in the table's order.
 #[tactic(auto, unfolding(crate::specs::Faults::missing))]
-fn missing(alloc: Global, nodes: &[Node], kind: Kind, node: &Node) -> Mem<Option<Fault>>
+fn first_missing(alloc: Global, nodes: &[Node], kind: Kind, node: &Node) -> Mem<Option<Fault>>
     ensures { IfOk result (λ fault. fault ≡ missing nodes.now kind node.now) }
 {
     let alone = child(nodes, Some(node), "parent").is_none();
     match missing_name(rows(), nodes, kind, node, alone) {
         Some(name) => Ok(Some(Fault::at_path(alloc, Rule::MissingField, name)?)),
         None => Ok(None),
+    }
+}
+
+// The same. Nothing has to stand in a text or in a configuration, which most elements are.
+#[tactic(auto, using(crate::proofs::Lacking::in_leaf, crate::proofs::Lacking::in_configuration))]
+fn missing(alloc: Global, nodes: &[Node], kind: Kind, node: &Node) -> Mem<Option<Fault>>
+    ensures { IfOk result (λ fault. fault ≡ missing nodes.now kind node.now) }
+{
+    match kind {
+        Kind::Leaf | Kind::Configuration => Ok(None),
+        _ => first_missing(alloc, nodes, kind, node),
     }
 }
 

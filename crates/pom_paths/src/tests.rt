@@ -1,37 +1,12 @@
-// Paths joined by hand.
+// The public function once; the table of paths is rows of `text_rows`.
 use crate::joined;
-use mvn_shared::{Mem, Text};
-use std::alloc::Global;
+use mvn_shared::Text;
 use std::test::Fail;
 
-fn whole(alloc: Global, folder: &str, path: &str) -> Mem<Text> {
-    let folder = Text::from_str(alloc, folder)?;
-    let path = Text::from_str(alloc, path)?;
-    joined(alloc, &folder, &path)
-}
-
-const PATHS: [(&str, &str, &str); 14] = [
-    ("", "", ""),
-    ("", "a", "a"),
-    ("a", "", "a"),
-    ("a", "b/c", "a/b/c"),
-    ("a", "../b", "b"),
-    ("a/b", "../../c", "c"),
-    ("a", "../../b", "../b"),
-    ("", "../../b", "../../b"),
-    ("a", "./b/./", "a/b"),
-    ("a", "/b//c", "a/b/c"),
-    ("a\\b", "..\\c/d", "a/c/d"),
-    ("..", "a", "../a"),
-    ("a", "..", ""),
-    ("a", "b/../../../c", "../c"),
-];
-
 #[test]
-fn paths_are_joined_as_worked_out(rt: HostRuntime) -> Result<(), Fail> {
-    let alloc = rt.alloc();
-    for (folder, path, wanted) in PATHS {
-        assert_eq!(rt; whole(alloc, folder, path)?.as_str(), wanted);
-    }
+fn a_path_goes_on_from_its_folder(rt: HostRuntime) -> Result<(), Fail> {
+    let folder = Text::from_str(rt.alloc(), "a/b")?;
+    let path = Text::from_str(rt.alloc(), "../c/./d")?;
+    assert_eq!(rt; joined(rt.alloc(), &folder, &path)?.as_str(), "a/c/d");
     Ok(())
 }

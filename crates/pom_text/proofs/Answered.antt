@@ -2,6 +2,7 @@
 use Rattle.std.proofs.Common.{◌≡◌, ◌↔◌, ℕ, ◌+◌, ◌-◌, ◌<◌, ◌≤◌, Bool, true, false, nat_lt, List, [], ◌++◌, flat_map, length, take, drop, Option, Some, None, Result, Ok, Err, refl, sym, ap, subst, ◌∙◌, arith, append_assoc, length-append, if◌then◌else◌}
 use Rattle.std.proofs.lemmas.Bool.Decides.{nat_tests}
 use Rattle.std.specs.List.{list_all, prefix_len}
+use Rattle.mvn_base.specs.Limits.{pom_limit}
 use Rattle.mvn_base.specs.declared.rule.Rule.{Rule}
 use Rattle.mvn_base.specs.declared.rule.Rule.TheVariants.{TooLarge}
 use Rattle.pom_text.specs.declared.encoding.Encoding as encoding_type
@@ -73,7 +74,7 @@ placed_front text front left more here =
     ap (λ k. take k text) long ∙ ap (take (length front)) here ∙ take_front front (left ++ more)
 
 -- what is answered is right
-outcome_right : (bytes : List ℕ) (encoding : encoding_type.Encoding) (text body more : List ℕ) → length bytes ≤ 1048576 → IsDecoded bytes encoding text → Opens text (body ++ more) → (o : Outcome) → Sound nothing_yet (body ++ more) more o
+outcome_right : (bytes : List ℕ) (encoding : encoding_type.Encoding) (text body more : List ℕ) → length bytes ≤ pom_limit → IsDecoded bytes encoding text → Opens text (body ++ more) → (o : Outcome) → Sound nothing_yet (body ++ more) more o
     → Right bytes (placed (mark_len bytes) encoding text (length more) o)
 outcome_right bytes encoding text body more short decodes opens (read nodes) s =
     record { elements = record { encoding = encoding; text = text; body = body ++ more; decodes = decodes; opens = opens; spells = s.spells }; short = short; shallow = s.shallow }
@@ -84,7 +85,7 @@ outcome_right bytes encoding text body more short decodes opens (halted rule lef
     subst (λ l. Refuses bytes rule (mark_len bytes + length (encoded encoding l))) (sym (placed_front text (a.front ++ b.front) left more here))
     (stops encoding text (body ++ more) (a.front ++ b.front) (left ++ more) rule short decodes opens s here)
 
-opened_right : (bytes : List ℕ) (encoding : encoding_type.Encoding) (text : List ℕ) → length bytes ≤ 1048576 → IsDecoded bytes encoding text → (o : Option (List ℕ)) → opening (cut_of text) ≡ o
+opened_right : (bytes : List ℕ) (encoding : encoding_type.Encoding) (text : List ℕ) → length bytes ≤ pom_limit → IsDecoded bytes encoding text → (o : Option (List ℕ)) → opening (cut_of text) ≡ o
     → Right bytes (opened (mark_len bytes) encoding text (more_of text) o)
 opened_right bytes encoding text short decodes (Some body) e =
     let cut = cut_of text in
@@ -96,47 +97,47 @@ opened_right bytes encoding text short decodes None e =
     let u = subst IsUnopened (sym (cut_splits text)) (unopened_so (cut_of text) (more_of text) (cut_stops text) e) in
     bad_declaration encoding text short decodes u.announced u.never
 
-decoded_right : (bytes : List ℕ) (encoding : encoding_type.Encoding) → length bytes ≤ 1048576 → HasEncoding bytes (Ok encoding) → (r : Result (List ℕ) ℕ) → decoded encoding (behind_mark bytes) ≡ r → Right bytes (decoded_answer (mark_len bytes) encoding r)
+decoded_right : (bytes : List ℕ) (encoding : encoding_type.Encoding) → length bytes ≤ pom_limit → HasEncoding bytes (Ok encoding) → (r : Result (List ℕ) ℕ) → decoded encoding (behind_mark bytes) ≡ r → Right bytes (decoded_answer (mark_len bytes) encoding r)
 decoded_right bytes encoding short has (Ok text) e =
     subst (Right bytes) (sym (cut_answer (mark_len bytes) encoding text)) (opened_right bytes encoding text short (record { has = has; text_is = e }) (opening (cut_of text)) refl)
 decoded_right bytes encoding short has (Err place) e = not_encoded encoding place short has e
 
-encoding_right : (bytes : List ℕ) → length bytes ≤ 1048576 → (r : Result encoding_type.Encoding ℕ) → chosen (named_encoding (behind_mark bytes)) ≡ r → Right bytes (encoding_answer (mark_len bytes) (behind_mark bytes) r)
+encoding_right : (bytes : List ℕ) → length bytes ≤ pom_limit → (r : Result encoding_type.Encoding ℕ) → chosen (named_encoding (behind_mark bytes)) ≡ r → Right bytes (encoding_answer (mark_len bytes) (behind_mark bytes) r)
 encoding_right bytes short (Ok encoding) e =
     decoded_right bytes encoding short (record { named = named_encoding (behind_mark bytes); names = names_so (behind_mark bytes); answers = e }) (decoded encoding (behind_mark bytes)) refl
 encoding_right bytes short (Err place) e = unknown_encoding place short (record { named = named_encoding (behind_mark bytes); names = names_so (behind_mark bytes); answers = e })
 
 pub answer_right : (bytes : List ℕ) → Right bytes (answer bytes)
 unfolding answer
-answer_right bytes = by (nat_lt 1048576 (length bytes)) refl
+answer_right bytes = by (nat_lt pom_limit (length bytes)) refl
   where
     on : Bool → Answer
-    on b = if b then Err (TooLarge, 1048576) else encoding_answer (mark_len bytes) (behind_mark bytes) (chosen (named_encoding (behind_mark bytes)))
+    on b = if b then Err (TooLarge, pom_limit) else encoding_answer (mark_len bytes) (behind_mark bytes) (chosen (named_encoding (behind_mark bytes)))
 
-    by : (b : Bool) → nat_lt 1048576 (length bytes) ≡ b → Right bytes (on b)
+    by : (b : Bool) → nat_lt pom_limit (length bytes) ≡ b → Right bytes (on b)
     by true e = too_long (grind (arith, nat_tests, e))
     by false e = encoding_right bytes (grind (arith, nat_tests, e)) (chosen (named_encoding (behind_mark bytes))) refl
 
 -- what is right is answered
-long_answer : (bytes : List ℕ) → 1048576 < length bytes → answer bytes ≡ Err (TooLarge, 1048576)
+long_answer : (bytes : List ℕ) → pom_limit < length bytes → answer bytes ≡ Err (TooLarge, pom_limit)
 unfolding answer
 long_answer bytes long =
-    let test : nat_lt 1048576 (length bytes) ≡ true = grind (arith, nat_tests, long) in
-    ap (λ b. if b then Err (TooLarge, 1048576) else encoding_answer (mark_len bytes) (behind_mark bytes) (chosen (named_encoding (behind_mark bytes)))) test
+    let test : nat_lt pom_limit (length bytes) ≡ true = grind (arith, nat_tests, long) in
+    ap (λ b. if b then Err (TooLarge, pom_limit) else encoding_answer (mark_len bytes) (behind_mark bytes) (chosen (named_encoding (behind_mark bytes)))) test
 
-short_answer : (bytes : List ℕ) → length bytes ≤ 1048576 → answer bytes ≡ encoding_answer (mark_len bytes) (behind_mark bytes) (chosen (named_encoding (behind_mark bytes)))
+short_answer : (bytes : List ℕ) → length bytes ≤ pom_limit → answer bytes ≡ encoding_answer (mark_len bytes) (behind_mark bytes) (chosen (named_encoding (behind_mark bytes)))
 unfolding answer
 short_answer bytes short =
-    let test : nat_lt 1048576 (length bytes) ≡ false = grind (arith, nat_tests, short) in
-    ap (λ b. if b then Err (TooLarge, 1048576) else encoding_answer (mark_len bytes) (behind_mark bytes) (chosen (named_encoding (behind_mark bytes)))) test
+    let test : nat_lt pom_limit (length bytes) ≡ false = grind (arith, nat_tests, short) in
+    ap (λ b. if b then Err (TooLarge, pom_limit) else encoding_answer (mark_len bytes) (behind_mark bytes) (chosen (named_encoding (behind_mark bytes)))) test
 
 has_chosen : (bytes : List ℕ) (r : Result encoding_type.Encoding ℕ) → HasEncoding bytes r → chosen (named_encoding (behind_mark bytes)) ≡ r
 has_chosen bytes r has = ap chosen (names_once (behind_mark bytes) has.names) ∙ has.answers
 
-named_answer : (bytes : List ℕ) (r : Result encoding_type.Encoding ℕ) → length bytes ≤ 1048576 → HasEncoding bytes r → answer bytes ≡ encoding_answer (mark_len bytes) (behind_mark bytes) r
+named_answer : (bytes : List ℕ) (r : Result encoding_type.Encoding ℕ) → length bytes ≤ pom_limit → HasEncoding bytes r → answer bytes ≡ encoding_answer (mark_len bytes) (behind_mark bytes) r
 named_answer bytes r short has = short_answer bytes short ∙ ap (encoding_answer (mark_len bytes) (behind_mark bytes)) (has_chosen bytes r has)
 
-decodes_answer : (bytes : List ℕ) (encoding : encoding_type.Encoding) (text : List ℕ) → length bytes ≤ 1048576 → IsDecoded bytes encoding text → answer bytes ≡ opened (mark_len bytes) encoding text (more_of text) (opening (cut_of text))
+decodes_answer : (bytes : List ℕ) (encoding : encoding_type.Encoding) (text : List ℕ) → length bytes ≤ pom_limit → IsDecoded bytes encoding text → answer bytes ≡ opened (mark_len bytes) encoding text (more_of text) (opening (cut_of text))
 decodes_answer bytes encoding text short d =
     named_answer bytes (Ok encoding) short d.has ∙ ap (decoded_answer (mark_len bytes) encoding) d.text_is ∙ cut_answer (mark_len bytes) encoding text
 
@@ -161,7 +162,7 @@ text_answered bytes nodes t =
     decodes_answer bytes e.encoding e.text t.short e.decodes ∙ ap (opened (mark_len bytes) e.encoding e.text more) o.same
     ∙ ap (placed (mark_len bytes) e.encoding e.text (length more)) (spelled_run (is_empty more) more (cut_stops e.text) refl nothing_yet o.left nodes o.allowed spells t.shallow)
 
-stops_answer : (bytes : List ℕ) (encoding : encoding_type.Encoding) (text body front rest : List ℕ) (rule : Rule) → length bytes ≤ 1048576 → IsDecoded bytes encoding text → Opens text body → Stops nothing_yet body rule rest → text ≡ front ++ rest
+stops_answer : (bytes : List ℕ) (encoding : encoding_type.Encoding) (text body front rest : List ℕ) (rule : Rule) → length bytes ≤ pom_limit → IsDecoded bytes encoding text → Opens text body → Stops nothing_yet body rule rest → text ≡ front ++ rest
     → answer bytes ≡ Err (rule, mark_len bytes + length (encoded encoding front))
 stops_answer bytes encoding text body front rest rule short decodes opens s here =
     let o = opens_text text body opens in

@@ -1,6 +1,7 @@
 -- What the reader answers, step by step. That it is what the definitions say is proved beside it.
 use Rattle.std.specs.Prelude.{◌≡◌, ℕ, ◌+◌, ◌-◌, List, length, take, drop, nat_lt, Option, Some, None, Result, Ok, Err, if◌then◌else◌}
 use Rattle.std.specs.List.{prefix_len}
+use Rattle.mvn_base.specs.Limits.{pom_limit}
 use Rattle.mvn_base.specs.declared.rule.Rule.{Rule}
 use Rattle.mvn_base.specs.declared.rule.Rule.TheVariants.{TooLarge, Encoding, NotPomText}
 use Rattle.pom_text.specs.declared.encoding.Encoding as encoding_type
@@ -38,7 +39,7 @@ encoding_answer mark bytes (Ok encoding) = decoded_answer mark encoding (decoded
 encoding_answer mark bytes (Err place) = Err (Encoding, mark + place)
 
 unfoldable pub answer : List ℕ → Answer
-answer bytes = if nat_lt 1048576 (length bytes) then Err (TooLarge, 1048576) else encoding_answer (mark_len bytes) (behind_mark bytes) (chosen (named_encoding (behind_mark bytes)))
+answer bytes = if nat_lt pom_limit (length bytes) then Err (TooLarge, pom_limit) else encoding_answer (mark_len bytes) (behind_mark bytes) (chosen (named_encoding (behind_mark bytes)))
 
 -- a result is this answer, unless memory ran out
 abbrev pub Agrees : Answer → Result PomText TextFault → Type 0

@@ -1,3 +1,4 @@
+pub use Rattle.mvn_base.specs.Limits
 pub mod Characters
 pub mod References
 pub mod Numerals

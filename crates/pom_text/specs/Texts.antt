@@ -1,6 +1,7 @@
 -- Which bytes are the text of a POM, and where others stop to be one. XML 1.0, sections 2.8 and 4.3.3; own limits.
 use Rattle.std.specs.Prelude.{◌≡◌, ℕ, ◌+◌, ◌<◌, ◌≤◌, true, List, ◌++◌, length, Option, Result, Ok, Err}
 use Rattle.std.specs.List.{list_all}
+use Rattle.mvn_base.specs.Limits.{pom_limit}
 use Rattle.mvn_base.specs.declared.rule.Rule.{Rule}
 use Rattle.mvn_base.specs.declared.rule.Rule.TheVariants.{TooLarge, Encoding, NotPomText}
 use Rattle.pom_text.specs.declared.encoding.Encoding as encoding_type
@@ -37,17 +38,17 @@ pub record SpellsElements (bytes : List ℕ) (nodes : List Node) : Type 0 where
 -- and no limit is passed
 pub record IsText (bytes : List ℕ) (nodes : List Node) : Type 0 where
   pub elements : SpellsElements bytes nodes
-  pub short : length bytes ≤ 1048576
+  pub short : length bytes ≤ pom_limit
   pub shallow : is_shallow nothing_yet elements.spells.pieces ≡ true
 
 -- the rule by which bytes are refused, and the byte at which that shows
 pub data Refuses (bytes : List ℕ) : Rule → ℕ → Type 0 where
-  too_long : 1048576 < length bytes → Refuses bytes TooLarge 1048576
-  unknown_encoding : (place : ℕ) → length bytes ≤ 1048576 → HasEncoding bytes (Err place) → Refuses bytes Encoding (mark_len bytes + place)
-  not_encoded : (encoding : encoding_type.Encoding) (place : ℕ) → length bytes ≤ 1048576 → HasEncoding bytes (Ok encoding) → decoded encoding (behind_mark bytes) ≡ Err place → Refuses bytes Encoding (mark_len bytes + place)
-  bad_declaration : (encoding : encoding_type.Encoding) (text : List ℕ) → length bytes ≤ 1048576 → IsDecoded bytes encoding text → announces text ≡ true
+  too_long : pom_limit < length bytes → Refuses bytes TooLarge pom_limit
+  unknown_encoding : (place : ℕ) → length bytes ≤ pom_limit → HasEncoding bytes (Err place) → Refuses bytes Encoding (mark_len bytes + place)
+  not_encoded : (encoding : encoding_type.Encoding) (place : ℕ) → length bytes ≤ pom_limit → HasEncoding bytes (Ok encoding) → decoded encoding (behind_mark bytes) ≡ Err place → Refuses bytes Encoding (mark_len bytes + place)
+  bad_declaration : (encoding : encoding_type.Encoding) (text : List ℕ) → length bytes ≤ pom_limit → IsDecoded bytes encoding text → announces text ≡ true
       → ((attributes : List Attribute) (space body : List ℕ) → is_declaration attributes space ≡ true → list_all is_allowed (declaration attributes space) ≡ true → text ≡ declaration attributes space ++ body → ⊥) → Refuses bytes NotPomText (mark_len bytes)
-  stops : (encoding : encoding_type.Encoding) (text body front rest : List ℕ) (rule : Rule) → length bytes ≤ 1048576 → IsDecoded bytes encoding text → Opens text body → Stops nothing_yet body rule rest → text ≡ front ++ rest
+  stops : (encoding : encoding_type.Encoding) (text body front rest : List ℕ) (rule : Rule) → length bytes ≤ pom_limit → IsDecoded bytes encoding text → Opens text body → Stops nothing_yet body rule rest → text ≡ front ++ rest
       → Refuses bytes rule (mark_len bytes + length (encoded encoding front))
 
 -- what is answered is so, unless memory ran out

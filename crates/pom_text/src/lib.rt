@@ -20,7 +20,7 @@ mod words;
 pub use fault::TextFault;
 pub use law::one_reading;
 pub use node::{Node, PomText};
-pub use read::{TEXT_LIMIT, read_text};
+pub use read::read_text;
 
 #[cfg(test)]
 mod tests;

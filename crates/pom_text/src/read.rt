@@ -15,12 +15,9 @@ use crate::fault::TextFault;
 use crate::node::PomText;
 use crate::reader::{Reading, read_pieces};
 use crate::words::allowed_len;
-use mvn_base::Rule;
+use mvn_base::{POM_LIMIT, Rule};
 use mvn_shared::Mem;
 use std::alloc::Global;
-
-/// The most bytes that a POM may have.
-pub const TEXT_LIMIT: usize = 1_048_576;
 
 // A refusal, at a byte behind a mark of so many bytes.
 fn refused(rule: Rule, mark: usize, place: usize) -> TextFault
@@ -125,8 +122,8 @@ fn read_marked(alloc: Global, mark: usize, bytes: &[u8]) -> Result<PomText, Text
 fn read_bytes(alloc: Global, bytes: &[u8]) -> Result<PomText, TextFault>
     ensures { Agrees (answer bytes.now) result }
 {
-    if bytes.len() > TEXT_LIMIT {
-        return Err(refused(Rule::TooLarge, 0, TEXT_LIMIT));
+    if bytes.len() as u64 > POM_LIMIT {
+        return Err(refused(Rule::TooLarge, 0, POM_LIMIT as usize));
     }
     let mark = mark_len(bytes);
     let (_, body) = bytes.split_at(mark);
@@ -134,7 +131,7 @@ fn read_bytes(alloc: Global, bytes: &[u8]) -> Result<PomText, TextFault>
 }
 
 /// Reads the bytes of a POM: the elements that they spell, or the rule that they break and the byte at which that shows. The
-/// rules are asked one after another: at most `TEXT_LIMIT` bytes; an encoding that is UTF-8 or the one that the declaration names,
+/// rules are asked one after another: at most `POM_LIMIT` bytes; an encoding that is UTF-8 or the one that the declaration names,
 /// of which each byte is; then from the left no `<!DOCTYPE` before the root, no element in 64 others, and at last the grammar of
 /// XML 1.0 without DTDs, where the place is the end of the longest list of whole pieces each of which may stand. A
 /// byte order mark of UTF-8 is skipped, and counts in places. One pass for the encoding and one for the elements; time and memory

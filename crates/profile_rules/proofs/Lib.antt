@@ -1,3 +1,3 @@
 mod Gathering
-mod Prefixes
 mod Joins
+mod Prefixes

@@ -11,7 +11,7 @@ use Rattle.model_types.specs.declared.profile.Activation.{Activation}
 use Rattle.model_types.specs.declared.profile.Os.{Os}
 use Rattle.model_types.specs.declared.profile.Profile.{Profile}
 use Rattle.model_types.specs.declared.profile.Property.{Property}
-use Rattle.cli_words.specs.declared.command_line.Choice.{Choice}
+use Rattle.mvn_base.specs.declared.machine.Choice.{Choice}
 use Rattle.version_order.specs.Requirements.{admits, requirement}
 use Rattle.version_order.specs.declared.requirement.Requirement.{Requirement}
 use Rattle.pom_paths.specs.Paths.{joined}

@@ -3,6 +3,8 @@
 use Rattle.std.specs.Prelude.{ℕ, List, ◌++◌, flat_map, filter_map, slice_get}
 use Rattle.mvn_base.specs.declared.key.Key.{Key}
 use Rattle.model_types.specs.declared.build.Build.{Build}
+use Rattle.model_types.specs.declared.build.BuildBase.{BuildBase}
+use Rattle.model_types.specs.declared.model.ModelBase.{ModelBase}
 use Rattle.model_types.specs.declared.model.RawModel.{RawModel}
 use Rattle.model_types.specs.declared.plugin.Plugin.{Plugin}
 use Rattle.model_types.specs.declared.profile.Profile.{Profile}
@@ -23,20 +25,28 @@ settled_plugins plugins p = settled key_of_plugin (plugins p)
 
 -- the POM's plugins, and then those of each profile, merged as children with the ones of their names
 abbrev pub with_plugins : List Plugin → (Profile → List Plugin) → List Profile → List Plugin
-with_plugins own plugins profiles = absorbed key_of_plugin merged_plugin own (flat_map (settled_plugins plugins) profiles)
+with_plugins own plugins profiles =
+    absorbed key_of_plugin merged_plugin own (flat_map (settled_plugins plugins) profiles)
+
+unfoldable pub inject_base : ModelBase → List Profile → ModelBase
+inject_base own profiles = record {
+  modules = own.modules ++ flat_map (λ (p : Profile). p.base.modules) profiles;
+  properties = with_items key_of_pair own.properties (λ p. p.base.properties) profiles;
+  managed = with_items key_of_dependency own.managed (λ p. p.base.managed) profiles;
+  dependencies = with_items key_of_dependency own.dependencies (λ p. p.base.dependencies) profiles;
+}
+
+unfoldable pub inject_build_base : BuildBase → List Profile → BuildBase
+inject_build_base own profiles = record {
+  plugins = with_plugins own.plugins (λ p. p.build.plugins) profiles;
+  managed_plugins = with_plugins own.managed_plugins (λ p. p.build.managed_plugins) profiles;
+}
 
 unfoldable pub inject_build : Build → List Profile → Build
 inject_build own profiles = record {
-  directory = own.directory;
-  output = own.output;
-  test_output = own.test_output;
-  final_name = own.final_name;
-  source = own.source;
-  test_source = own.test_source;
-  resources = own.resources;
-  test_resources = own.test_resources;
-  plugins = with_plugins own.plugins (λ p. p.plugins) profiles;
-  managed_plugins = with_plugins own.managed_plugins (λ p. p.managed_plugins) profiles;
+  outputs = own.outputs;
+  sources = own.sources;
+  base = inject_build_base own.base profiles;
   extensions = own.extensions;
 }
 
@@ -44,14 +54,8 @@ abbrev pub inject_profiles : RawModel → List Profile → RawModel
 inject_profiles raw profiles = record {
   pom = raw.pom;
   parent = raw.parent;
-  group = raw.group;
-  artifact = raw.artifact;
-  version = raw.version;
-  packaging = raw.packaging;
-  modules = raw.modules ++ flat_map (λ (p : Profile). p.modules) profiles;
-  properties = with_items key_of_pair raw.properties (λ p. p.properties) profiles;
-  managed = with_items key_of_dependency raw.managed (λ p. p.managed) profiles;
-  dependencies = with_items key_of_dependency raw.dependencies (λ p. p.dependencies) profiles;
+  coordinates = raw.coordinates;
+  base = inject_base raw.base profiles;
   build = inject_build raw.build profiles;
   profiles = raw.profiles;
 }

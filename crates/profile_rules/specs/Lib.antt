@@ -1,7 +1,8 @@
 pub mod Activation
-pub mod Asked
 pub mod Contents
+pub mod Faults
 pub mod FileTexts
 pub mod Injection
+pub mod Judging
 pub mod Known
 pub mod Lookups

@@ -1,98 +1,143 @@
-ghost use Rattle.std.specs.Prelude.{◌≡◌, ◌++◌, fold, slice_get, IfOk};
-ghost use Rattle.profile_rules.specs.Contents.{contents_behind, own_contents, with_profile, with_profile_at};
+ghost use Rattle.std.specs.Prelude.{◌≡◌, ◌++◌, fold, slice_get, IfOk, OnOk};
 ghost use Rattle.model_merge.specs.Keyed as keyed;
 ghost use Rattle.model_merge.specs.Merging.{key_of_plugin};
+ghost use Rattle.profile_rules.specs.Contents.{all_behind, all_built, base_behind, base_behind_at, build_behind, build_behind_at, no_plugins};
 ghost use Rattle.profile_rules.specs.Injection.{profiles_at};
 
-use model_merge::{appended, copies, settled};
-use model_types::{Dependency, Plugin, Profile, RawModel};
-use mvn_base::Pair;
-use mvn_shared::{List, Mem, Text};
+use model_merge::{Item, copies, settled};
+use model_types::{BuildBase, ModelBase, Plugin, Profile};
+use mvn_shared::{List, Mem, Shared};
 use std::alloc::Global;
 
-/// What profiles have, one behind the other; before them a POM's own lists, but for its plugins.
-#[derive(Drop)]
-pub(crate) struct Contents {
-    pub(crate) modules: List<Text>,
-    pub(crate) properties: List<Pair>,
-    pub(crate) managed: List<Dependency>,
-    pub(crate) dependencies: List<Dependency>,
-    pub(crate) plugins: List<Plugin>,
-    pub(crate) managed_plugins: List<Plugin>,
-}
-
-// Plugins, and behind them those of a list, of equal names the last one.
-fn with_settled(alloc: Global, list: List<Plugin>, plugins: &List<Plugin>) -> Mem<List<Plugin>>
-    ensures { IfOk result (λ whole. whole ≡ list ++ keyed.settled key_of_plugin plugins.now) }
+// The items of a list, behind another.
+fn push_all<T: Item>(list: &mut List<T>, items: &List<T>) -> Mem<()>
+    ensures { OnOk result (list.new ≡ list.old ++ items.now) }
 {
-    appended(list, settled(alloc, plugins.as_slice())?)
+    for item in items.as_slice() {
+        list.push(item.copy()?)?;
+    }
+    Ok(())
 }
 
-impl Contents {
-    // What a POM has itself.
-    fn of(alloc: Global, raw: &RawModel) -> Mem<Contents>
-        ensures { IfOk result (λ contents. contents ≡ own_contents raw.now) }
-    {
-        let modules = raw.modules.clone()?;
-        let properties = copies(&raw.properties)?;
-        let managed = copies(&raw.managed)?;
-        let dependencies = copies(&raw.dependencies)?;
-        Ok(Contents {
-            modules,
-            properties,
-            managed,
-            dependencies,
-            plugins: List::new(alloc),
-            managed_plugins: List::new(alloc),
-        })
-    }
+// Plugins, of equal names the last one, behind others.
+fn push_plugins(
+    alloc: Global,
+    list: &mut List<Shared<Plugin>>,
+    plugins: &List<Shared<Plugin>>,
+) -> Mem<()>
+    ensures { OnOk result (list.new ≡ list.old ++ keyed.settled key_of_plugin plugins.now) }
+{
+    push_all(list, &settled(alloc, plugins.as_slice())?)
+}
 
-    // With what a profile has.
-    fn with(self, alloc: Global, profile: &Profile) -> Mem<Contents>
-        ensures { IfOk result (λ contents. contents ≡ with_profile self profile.now) }
-    {
-        let modules = appended(self.modules, profile.modules.clone()?)?;
-        let properties = appended(self.properties, copies(&profile.properties)?)?;
-        let managed = appended(self.managed, copies(&profile.managed)?)?;
-        let dependencies = appended(self.dependencies, copies(&profile.dependencies)?)?;
-        let plugins = with_settled(alloc, self.plugins, &profile.plugins)?;
-        let managed_plugins = with_settled(alloc, self.managed_plugins, &profile.managed_plugins)?;
-        Ok(Contents {
-            modules,
-            properties,
-            managed,
-            dependencies,
-            plugins,
-            managed_plugins,
-        })
-    }
+// What a profile has, behind what others have.
+fn push_base(base: &mut ModelBase, profile: &Profile) -> Mem<()>
+    ensures { OnOk result (base.new ≡ base_behind base.old profile.now) }
+{
+    push_all(&mut base.modules, &profile.base.modules)?;
+    push_all(&mut base.properties, &profile.base.properties)?;
+    push_all(&mut base.managed, &profile.base.managed)?;
+    push_all(&mut base.dependencies, &profile.base.dependencies)
+}
 
-    // With what the profile at a place has.
-    fn with_place(self, alloc: Global, profiles: &[Profile], place: u32) -> Mem<Contents>
-        ensures { IfOk result (λ contents. contents ≡ with_profile_at self (slice_get profiles.now place)) }
-    {
-        match profiles.get(place as usize) {
-            Some(profile) => self.with(alloc, profile),
-            None => Ok(self),
-        }
+// The plugins of a profile, behind those of others.
+fn push_build(alloc: Global, build: &mut BuildBase, profile: &Profile) -> Mem<()>
+    ensures { OnOk result (build.new ≡ build_behind build.old profile.now) }
+{
+    push_plugins(alloc, &mut build.plugins, &profile.build.plugins)?;
+    push_plugins(
+        alloc,
+        &mut build.managed_plugins,
+        &profile.build.managed_plugins,
+    )
+}
+
+// What the profile at a place has, behind what others have.
+fn push_base_at(base: &mut ModelBase, profiles: &[Profile], place: u32) -> Mem<()>
+    ensures { OnOk result (base.new ≡ base_behind_at base.old (slice_get profiles.now place)) }
+{
+    match profiles.get(place as usize) {
+        Some(profile) => push_base(base, profile),
+        None => Ok(()),
     }
+}
+
+// The plugins of the profile at a place, behind those of others.
+fn push_build_at(alloc: Global, build: &mut BuildBase, profiles: &[Profile], place: u32) -> Mem<()>
+    ensures { OnOk result (build.new ≡ build_behind_at build.old (slice_get profiles.now place)) }
+{
+    match profiles.get(place as usize) {
+        Some(profile) => push_build(alloc, build, profile),
+        None => Ok(()),
+    }
+}
+
+// The same lists.
+fn copy_of(own: &ModelBase) -> Mem<ModelBase>
+    ensures { IfOk result (λ base. base ≡ own.now) }
+{
+    let modules = copies(&own.modules)?;
+    let properties = copies(&own.properties)?;
+    let managed = copies(&own.managed)?;
+    let dependencies = copies(&own.dependencies)?;
+    Ok(ModelBase {
+        modules,
+        properties,
+        managed,
+        dependencies,
+    })
 }
 
 // What a POM has itself, and then what its profiles at some places have, one by one.
-fn gathered(alloc: Global, raw: &RawModel, places: &[u32]) -> Mem<Contents>
-    ensures { IfOk result (λ contents. contents ≡ fold with_profile (own_contents raw.now) (profiles_at raw.now.profiles places.now)) }
+fn base_of(own: &ModelBase, profiles: &[Profile], places: &[u32]) -> Mem<ModelBase>
+    ensures { IfOk result (λ base. base
+        ≡ fold base_behind own.now (profiles_at profiles.now places.now)) }
 {
-    let mut contents = Contents::of(alloc, raw)?;
+    let mut base = copy_of(own)?;
     for place in places {
-        contents = contents.with_place(alloc, raw.profiles.as_slice(), *place)?;
+        push_base_at(&mut base, profiles, *place)?;
     }
-    Ok(contents)
+    Ok(base)
 }
 
-/// What a POM has itself, and then what its profiles at some places have. Costs all of it, on the average.
-#[tactic(auto, using(crate::proofs::Gathering::gathered))]
-pub(crate) fn contents_of(alloc: Global, raw: &RawModel, places: &[u32]) -> Mem<Contents>
-    ensures { IfOk result (λ contents. contents ≡ contents_behind (own_contents raw.now) (profiles_at raw.now.profiles places.now)) }
+// No plugins.
+fn no_plugins(alloc: Global) -> BuildBase
+    ensures { result ≡ no_plugins }
 {
-    gathered(alloc, raw, places)
+    BuildBase {
+        plugins: List::new(alloc),
+        managed_plugins: List::new(alloc),
+    }
+}
+
+// The plugins of profiles at some places, one by one.
+fn build_of(alloc: Global, profiles: &[Profile], places: &[u32]) -> Mem<BuildBase>
+    ensures { IfOk result (λ build. build
+        ≡ fold build_behind no_plugins (profiles_at profiles.now places.now)) }
+{
+    let mut build = no_plugins(alloc);
+    for place in places {
+        push_build_at(alloc, &mut build, profiles, *place)?;
+    }
+    Ok(build)
+}
+
+/// What a POM has itself, and then what its profiles at some places have. Costs the lists; the items are
+/// shared.
+#[tactic(auto, using(crate::proofs::Gathering::bases_behind))]
+pub(crate) fn gathered_base(own: &ModelBase, profiles: &[Profile], places: &[u32]) -> Mem<ModelBase>
+    ensures { IfOk result (λ base. base
+        ≡ all_behind own.now (profiles_at profiles.now places.now)) }
+{
+    base_of(own, profiles, places)
+}
+
+/// The plugins of profiles at some places, of equal names in one profile the last one. Costs the lists,
+/// on the average; the items are shared.
+#[tactic(auto, using(crate::proofs::Gathering::builds_behind))]
+pub(crate) fn gathered_build(alloc: Global, profiles: &[Profile], places: &[u32]) -> Mem<BuildBase>
+    ensures { IfOk result (λ build. build
+        ≡ all_built no_plugins (profiles_at profiles.now places.now)) }
+{
+    build_of(alloc, profiles, places)
 }

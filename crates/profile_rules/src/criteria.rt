@@ -1,4 +1,4 @@
-ghost use Rattle.std.specs.Prelude.{◌≡◌, ℕ, List as Items, option_map, ◌++◌, IfOk, OnOk};
+ghost use Rattle.std.specs.Prelude.{◌≡◌, ℕ, List as Items, option_map, option_to_list, ◌++◌, IfOk, OnOk};
 ghost use Rattle.std.specs.List.{list_all};
 ghost use Rattle.std.specs.Str.{str_eq_ignore_ascii_case};
 ghost use Rattle.profile_rules.specs.Activation.{admitted_by, all_hold, given, is_jdk, is_system, is_value, os_criteria, property_criterion, property_holds, turn, turned};
@@ -78,6 +78,16 @@ fn jdk_holds(alloc: Global, machine: &Machine, text: &Text) -> Mem<bool>
     Ok(is_jdk(alloc, &machine.jdk, rest)? != is_turned)
 }
 
+/// An answer more, where there is one.
+pub(crate) fn push_given(list: &mut Vec<bool>, holds: Option<bool>) -> Mem<()>
+    ensures { OnOk result (list.new.items ≡ list.old.items ++ option_to_list holds) }
+{
+    if let Some(holds) = holds {
+        list.push(holds)?;
+    }
+    Ok(())
+}
+
 /// What is asked of a property, behind a list.
 pub(crate) fn push_property(
     alloc: Global,
@@ -85,7 +95,8 @@ pub(crate) fn push_property(
     known: &Known,
     property: &Option<Property>,
 ) -> Mem<()>
-    ensures { OnOk result (list.new.items ≡ list.old.items ++ property_criterion (known_value known.now) property.now) }
+    ensures { OnOk result (list.new.items
+        ≡ list.old.items ++ property_criterion (known_value known.now) property.now) }
 {
     let Some(property) = property else {
         return Ok(());
@@ -101,7 +112,8 @@ pub(crate) fn push_jdk(
     machine: &Machine,
     text: &Option<Text>,
 ) -> Mem<()>
-    ensures { OnOk result (list.new.items ≡ list.old.items ++ given (turned (is_jdk machine.now.jdk)) text.now) }
+    ensures { OnOk result (list.new.items
+        ≡ list.old.items ++ given (turned (is_jdk machine.now.jdk)) text.now) }
 {
     let Some(text) = text else {
         return Ok(());
@@ -112,7 +124,8 @@ pub(crate) fn push_jdk(
 
 // Whether a field of the system is what is asked for, where anything is.
 fn push_field(list: &mut Vec<bool>, own: &Text, wanted: &Option<Text>) -> Mem<()>
-    ensures { OnOk result (list.new.items ≡ list.old.items ++ given (turned (is_system own.now)) wanted.now) }
+    ensures { OnOk result (list.new.items
+        ≡ list.old.items ++ given (turned (is_system own.now)) wanted.now) }
 {
     let Some(wanted) = wanted else {
         return Ok(());

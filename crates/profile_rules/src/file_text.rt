@@ -25,7 +25,8 @@ pub(crate) fn basedir_of(alloc: Global, root: &Text, folder: &Text) -> Mem<Text>
 
 // An expression as it is written, behind a text.
 fn push_written(text: &mut String, name: &str) -> Mem<()>
-    ensures { OnOk result (string_bytes text.new ≡ string_bytes text.old ++ codes "${" ++ name.now ++ codes "}") }
+    ensures { OnOk result (string_bytes text.new
+        ≡ string_bytes text.old ++ codes "${" ++ name.now ++ codes "}") }
 {
     text.push_str("${")?;
     text.push_str(name)?;
@@ -41,7 +42,8 @@ fn push_name(
     known: &Known,
     name: &Text,
 ) -> Mem<()>
-    ensures { OnOk result (string_bytes text.new ≡ string_bytes text.old ++ filled_part basedir.now (known_value known.now) (variants.Name name.now)) }
+    ensures { OnOk result (string_bytes text.new ≡ string_bytes text.old
+        ++ filled_part basedir.now (known_value known.now) (variants.Name name.now)) }
 {
     if name.as_str() == "basedir" {
         text.push_str(basedir.as_str())?;
@@ -64,7 +66,8 @@ fn push_part(
     known: &Known,
     part: &Part,
 ) -> Mem<()>
-    ensures { OnOk result (string_bytes text.new ≡ string_bytes text.old ++ filled_part basedir.now (known_value known.now) part.now) }
+    ensures { OnOk result (string_bytes text.new ≡ string_bytes text.old
+        ++ filled_part basedir.now (known_value known.now) part.now) }
 {
     match part {
         Part::Plain(plain) => {
@@ -77,7 +80,8 @@ fn push_part(
 
 // All parts.
 fn filled_parts(alloc: Global, basedir: &Text, known: &Known, list: &[Part]) -> Mem<Text>
-    ensures { IfOk result (λ text. text ≡ flat_map (filled_part basedir.now (known_value known.now)) list.now) }
+    ensures { IfOk result (λ text. text
+        ≡ flat_map (filled_part basedir.now (known_value known.now)) list.now) }
 {
     let mut text = String::new(alloc);
     for part in list {

@@ -4,14 +4,12 @@
 mod activation;
 mod contents;
 mod criteria;
+mod fault;
 mod file_text;
 mod injection;
+mod judge;
 mod lookup;
 
-pub use activation::{ActiveFault, active};
+pub use activation::active;
+pub use fault::ActiveFault;
 pub use injection::inject;
-
-#[cfg(test)]
-mod inject_tests;
-#[cfg(test)]
-mod tests;

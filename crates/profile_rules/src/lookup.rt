@@ -26,7 +26,8 @@ pub(crate) struct Known {
 impl Known {
     /// Costs the lists, on the average.
     pub(crate) fn of(alloc: Global, defines: &[Pair], machine: &Machine) -> Mem<Known>
-        ensures { IfOk result (λ known. (name : Items ℕ) → known_value known name ≡ property_of defines.now machine.now.system machine.now.env name) }
+        ensures { IfOk result (λ known. (name : Items ℕ) → known_value known name
+            ≡ property_of defines.now machine.now.system machine.now.env name) }
     {
         let defines = Values::of(alloc, defines)?;
         let system = Values::of(alloc, machine.system.as_slice())?;

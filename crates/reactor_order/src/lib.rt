@@ -22,6 +22,4 @@ pub use ordered::order;
 pub use selected::select;
 
 #[cfg(test)]
-mod plain;
-#[cfg(test)]
 mod tests;

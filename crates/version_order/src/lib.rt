@@ -23,6 +23,4 @@ pub use requirement::Requirement;
 pub use version::Version;
 
 #[cfg(test)]
-mod plain;
-#[cfg(test)]
 mod tests;

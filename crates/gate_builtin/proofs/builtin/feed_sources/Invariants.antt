@@ -1,5 +1,5 @@
 use Rattle.std.proofs.Common.{◌++◌, ℕ, List, flat_map, take}
-use Rattle.mvn_outside.specs.Requests.{entry_bytes}
+use Rattle.goal_types.specs.Requests.{entry_bytes}
 use Rattle.gate_builtin.proofs.builtin.feed_sources.Given as goal
 
 -- the hasher was fed with the bytes so far

@@ -1,6 +1,6 @@
 use Rattle.std.proofs.Common.{◌≡◌, ◌++◌, filter, drop, nat_eq}
 use Rattle.mvn_base.specs.Phase.{phase_number}
-use Rattle.mvn_outside.specs.declared.goal.GoalCall.{GoalCall}
+use Rattle.goal_types.specs.declared.goal.GoalCall.{GoalCall}
 use Rattle.lifecycle.proofs.goal_list.push_phase.Given as goal
 
 abbrev pub invariant-loop-call : goal.invariant-loop-call

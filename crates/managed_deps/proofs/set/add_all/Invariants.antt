@@ -1,8 +1,6 @@
-use Rattle.std.proofs.Common.{◌≡◌, drop}
-use Rattle.std.specs.Option.{option_or}
-use Rattle.mvn_base.specs.declared.key.Key.{Key}
-use Rattle.managed_deps.specs.Managed.{find_entry, find_pair}
+use Rattle.std.proofs.Common.{◌≡◌, fold, drop}
+use Rattle.managed_deps.specs.Managed.{add}
 use Rattle.managed_deps.proofs.set.add_all.Given as goal
 
 abbrev pub invariant-loop-dependency : goal.invariant-loop-dependency
-invariant-loop-dependency l = (key : Key) → option_or (find_pair l.set key) (find_entry (drop l.dependency-index l.entries) key) ≡ option_or (find_pair l.initial.set key) (find_entry l.entries key)
+invariant-loop-dependency l = fold add l.set (drop l.dependency-index l.entries) ≡ fold add l.initial.set l.entries

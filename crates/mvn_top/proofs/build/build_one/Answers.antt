@@ -1,6 +1,6 @@
 use Rattle.std.proofs.Common.{◌≡◌, ◌<◌, ◌⊎◌, List, true, false, IfOk, OnOk, is_some, refl, subst}
 use Rattle.mvn_shared.specs.Cause.{HasRisen}
-use Rattle.mvn_outside.specs.declared.goal.GoalAnswer.{GoalAnswer}
+use Rattle.goal_types.specs.declared.goal.GoalAnswer.{GoalAnswer}
 use Rattle.mvn_outside.specs.Shelf.{settled_all}
 use Rattle.one_hand.specs.Running.{AreAnswers, HasAllAnswers}
 use Rattle.one_hand.specs.Built.{LeavesFiles}

@@ -1,6 +1,6 @@
 use Rattle.std.proofs.Common.{◌≡◌, ◌≤◌, ◌++◌, drop, length, flat_map, IfSome}
 use Rattle.mvn_shared.specs.Files.{names_below}
-use Rattle.mvn_top.specs.Sources.{most_files}
+use Rattle.mvn_base.specs.Limits.{most_files}
 use Rattle.mvn_top.proofs.sources.names_below.Given as goal
 
 -- the names so far, and those of the folders that are left

@@ -1,6 +1,6 @@
 use Rattle.std.proofs.Common.{◌≡◌, ◌+◌, List, [], ◌∷◌, ◌++◌, take, Option, Err, IfSome, ap, subst, sym, ◌∙◌}
 use Rattle.mvn_shared.specs.Files.{Files}
-use Rattle.mvn_outside.specs.declared.goal.SourceFile.{SourceFile}
+use Rattle.goal_types.specs.declared.goal.SourceFile.{SourceFile}
 use Rattle.mvn_top.specs.Sources.{sources_at, ReadsOne, ReadsSources}
 use Rattle.mvn_top.proofs.SourcesRead.{if_some_both, one_too_many, sources_more}
 use Rattle.mvn_top.proofs.sources.read_sources.Goals as goal

@@ -1,5 +1,5 @@
 use Rattle.std.proofs.Common.{◌≡◌, List, Ok, IfSome, is_some, refl, ap, sym, subst, ◌∙◌, arith}
-use Rattle.mvn_outside.specs.declared.goal.GoalAnswer.{GoalAnswer}
+use Rattle.goal_types.specs.declared.goal.GoalAnswer.{GoalAnswer}
 use Rattle.build_core.specs.declared.plan.Plan.{Plan}
 use Rattle.mvn_top.specs.Outcome.{not_built}
 use Rattle.mvn_top.specs.Headline.{kept_answers, plan_of, AnswersFit}

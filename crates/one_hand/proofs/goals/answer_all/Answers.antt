@@ -1,8 +1,8 @@
 use Rattle.std.proofs.Common.{ℕ, ◌+◌, ◌≤◌, Bool, List, [], length, None, Some, Option, ◌⊎◌, refl, sym, ap, subst, ◌∙◌, arith}
 use Rattle.std.proofs.lemmas.List.{take_all}
-use Rattle.mvn_outside.specs.declared.goal.GoalCall.{GoalCall}
-use Rattle.mvn_outside.specs.declared.goal.GoalRequest.{GoalRequest}
-use Rattle.mvn_outside.specs.declared.goal.GoalAnswer.{GoalAnswer}
+use Rattle.goal_types.specs.declared.goal.GoalCall.{GoalCall}
+use Rattle.goal_types.specs.declared.goal.GoalRequest.{GoalRequest}
+use Rattle.goal_types.specs.declared.goal.GoalAnswer.{GoalAnswer}
 use Rattle.build_core.specs.Slots.{run_goals}
 use Rattle.one_hand.specs.Running.{nth_answer, NoAnswer, OneAnswer}
 use Rattle.one_hand.proofs.Going.{Stands, IsNext, next_of, no_pom_at, answers_go_on, stop_ends, goes_further, stop_counts, end_counts}

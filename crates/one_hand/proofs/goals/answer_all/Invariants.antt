@@ -1,5 +1,5 @@
 use Rattle.std.proofs.Common.{◌≡◌, [], length, take, IfSome}
-use Rattle.mvn_outside.specs.Goals.{HasOwnSlots}
+use Rattle.goal_types.specs.Goals.{HasOwnSlots}
 use Rattle.build_core.specs.Slots.{all_answered, run_goals}
 use Rattle.one_hand.specs.Running.{IsAskedSo, nth_answer, AreAnswers}
 use Rattle.one_hand.proofs.goals.answer_all.Given as goal

@@ -1,6 +1,6 @@
 use Rattle.std.proofs.Common.{◌≡◌, true, [], ◌∷◌, ◌++◌, IfSome, inr, ap, subst, ◌∙◌}
-use Rattle.mvn_outside.specs.declared.goal.GoalCall.{GoalCall}
-use Rattle.mvn_outside.specs.declared.goal.GoalAnswer.{GoalAnswer}
+use Rattle.goal_types.specs.declared.goal.GoalCall.{GoalCall}
+use Rattle.goal_types.specs.declared.goal.GoalAnswer.{GoalAnswer}
 use Rattle.build_core.specs.Slots.{one_goal, all_answered}
 use Rattle.one_hand.specs.Running.{goals_end}
 use Rattle.one_hand.proofs.Kept.{still_kept}

@@ -1,6 +1,6 @@
 use Rattle.std.proofs.Common.{◌≡◌, List, [], IfSome, is_some, subst}
 use Rattle.mvn_shared.specs.Files.{Files}
-use Rattle.mvn_outside.specs.declared.goal.OwnBytes.{OwnBytes}
+use Rattle.goal_types.specs.declared.goal.OwnBytes.{OwnBytes}
 use Rattle.build_core.specs.Slots.{run_goals}
 use Rattle.one_hand.specs.Running.{nth_answer, goals_end, IsStop, HasAllAnswers}
 use Rattle.one_hand.specs.Built.{LeavesFiles, EndsAfterGoals, EndsAfterFetch}

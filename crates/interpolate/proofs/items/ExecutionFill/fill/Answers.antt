@@ -31,7 +31,7 @@ returns-in_err-configuration c = λ known table.
     let s2 = c.in_ok-goals.ensures known s1.1 in
     let fault = c.in_err-configuration.field-0.0 in
     let p = err_from_is_err_and c.from_residual-in_err-configuration.result c.from_residual-in_err-configuration.ensures.1 in
-    exit_gives _ known c.fill_settings.new.filler fault p.0 c.from_residual-in_err-configuration.result p.1 p.2 (chain_fails fault _ s0.0 (chain_fails fault _ s1.0 (chain_fails fault _ s2.0 (stop_fails _ fault _ (c.in_err-configuration.ensures known s2.1)))))
+    exit_gives _ known c.fill_configuration.new.filler fault p.0 c.from_residual-in_err-configuration.result p.1 p.2 (chain_fails fault _ s0.0 (chain_fails fault _ s1.0 (chain_fails fault _ s2.0 (stop_fails _ fault _ (c.in_err-configuration.ensures known s2.1)))))
 
 pub returns : goal.returns
 returns c = λ known table.

@@ -52,7 +52,7 @@ returns-in_err-configuration c = λ known table.
     let s4 = c.in_ok-executions.ensures known s3.1 in
     let fault = c.in_err-configuration.field-0.0 in
     let p = err_from_is_err_and c.from_residual-in_err-configuration.result c.from_residual-in_err-configuration.ensures.1 in
-    exit_gives _ known c.fill_settings.new.filler fault p.0 c.from_residual-in_err-configuration.result p.1 p.2 (chain_fails fault _ s0.0 (chain_fails fault _ s1.0 (chain_fails fault _ s2.0 (chain_fails fault _ s3.0 (chain_fails fault _ s4.0 (stop_fails _ fault _ (c.in_err-configuration.ensures known s4.1)))))))
+    exit_gives _ known c.fill_configuration.new.filler fault p.0 c.from_residual-in_err-configuration.result p.1 p.2 (chain_fails fault _ s0.0 (chain_fails fault _ s1.0 (chain_fails fault _ s2.0 (chain_fails fault _ s3.0 (chain_fails fault _ s4.0 (stop_fails _ fault _ (c.in_err-configuration.ensures known s4.1)))))))
 
 pub returns : goal.returns
 returns c = λ known table.

@@ -6,11 +6,11 @@ no_value : (o : Option Bool) → is_some o ≡ false → o ≡ None
 no_value None e = refl
 no_value (Some v) e = cc
 
-pub returns-in-Ok-insert-clause-fresh : goal.returns-in-Ok-insert-clause-fresh
-returns-in-Ok-insert-clause-fresh g c =
+pub returns-in-Ok-clause-fresh : goal.returns-in-Ok-clause-fresh
+returns-in-Ok-clause-fresh g c =
     let es = c.args.self.now.pieces.entries in
     get_value es c.args.self.now.next ∙ no_value (value_of es c.args.self.now.next) (sym c.contains_key.ensures ∙ c.if-contains_key.false)
 
-pub returns-in-Ok-insert-clause-open : goal.returns-in-Ok-insert-clause-open
-returns-in-Ok-insert-clause-open g c =
-    one_put c.args.self.now.pieces.entries c.insert.new.self.entries c.args.self.now.next false c.in-Ok-insert.ensures.updates.0
+pub returns-in-Ok-clause-open : goal.returns-in-Ok-clause-open
+returns-in-Ok-clause-open g c =
+    one_put c.args.self.now.pieces.entries c.insert.new.self.entries c.args.self.now.next false c.in-Ok.ensures.updates.0

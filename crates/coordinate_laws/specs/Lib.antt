@@ -1,0 +1,3 @@
+pub use Rattle.mvn_base.specs.FileName
+pub use Rattle.mvn_base.specs.Gav
+pub mod Apart

@@ -1,0 +1,5 @@
+pub mod Answers
+pub mod GoalRules
+pub mod Goals
+pub mod Lines
+pub mod Requests

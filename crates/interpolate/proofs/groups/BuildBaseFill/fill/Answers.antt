@@ -1,0 +1,9 @@
+use Rattle.std.proofs.Common.{refl}
+use Rattle.interpolate.proofs.Lists.{chain}
+use Rattle.interpolate.proofs.groups.BuildBaseFill.fill.Goals as goal
+
+pub returns : goal.returns
+returns c = λ known table.
+    let s0 = c.in_ok-managed_plugins.ensures known table in
+    let s1 = c.in_ok-plugins.ensures known s0.1 in
+    (chain _ s0.0 (chain _ s1.0 refl), s1.1)

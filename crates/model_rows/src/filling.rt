@@ -1,0 +1,66 @@
+// Expressions in a POM.
+use crate::fields::{field, pairs};
+use crate::machine::machine;
+use crate::poms::project;
+use crate::shown::push_texts;
+use interpolate::fill;
+use model_types::RawModel;
+use mvn_base::{ModelError, Pair};
+use mvn_shared::{List, Mem, Text};
+use std::alloc::Global;
+
+// The POM of the folder `/w/app` with what its expressions come to.
+fn filled(alloc: Global, raw: &RawModel, defines: &[Pair]) -> Result<RawModel, ModelError> {
+    let machine = machine(alloc)?;
+    let basedir = Text::from_str(alloc, "/w/app")?;
+    fill(alloc, raw, Some(&basedir), &machine, defines)
+}
+
+// The packaging and the modules.
+fn shown(alloc: Global, model: &RawModel) -> Mem<String> {
+    let mut shown = String::from_str(alloc, model.coordinates.packaging.as_str())?;
+    push_texts(&mut shown, " module=", &model.base.modules)?;
+    Ok(shown)
+}
+
+/// The packaging of a POM and its modules, filled with these properties of the command line too.
+pub(crate) fn told(alloc: Global, fields: &[&str]) -> Result<String, ModelError> {
+    let raw = project(alloc, field(fields, 0))?;
+    let defines = pairs(alloc, field(fields, 1))?;
+    let model = filled(alloc, &raw, defines.as_slice())?;
+    Ok(shown(alloc, &model)?)
+}
+
+// The property of a number, which names the one before it twice.
+fn twice(alloc: Global, number: u32, before: u32) -> Mem<Pair> {
+    let name = Text::of(format!(in alloc; "p{number}")?);
+    let value = Text::of(format!(in alloc; "${{p{before}}}${{p{before}}}")?);
+    Ok(Pair { name, value })
+}
+
+// So many properties from p0 on, which is this text; each further one names the one before it twice.
+fn doubled(alloc: Global, count: u32, first: &str) -> Mem<List<Pair>> {
+    let name = Text::from_str(alloc, "p0")?;
+    let value = Text::from_str(alloc, first)?;
+    let mut list = List::new(alloc);
+    list.push(Pair { name, value })?;
+    for before in 0..count.saturating_sub(1) {
+        list.push(twice(alloc, before + 1, before)?)?;
+    }
+    Ok(list)
+}
+
+// The length of a filled POM's packaging.
+fn length(alloc: Global, model: &RawModel) -> Mem<String> {
+    let bytes = model.coordinates.packaging.len();
+    Ok(format!(in alloc; "{bytes} bytes")?)
+}
+
+/// The length of a POM's packaging, filled with so many properties of the command line, each of which names the one before it twice.
+pub(crate) fn told_doubled(alloc: Global, fields: &[&str]) -> Result<String, ModelError> {
+    let raw = project(alloc, field(fields, 0))?;
+    let count = field(fields, 1).parse::<u32>().unwrap_or(0);
+    let defines = doubled(alloc, count, field(fields, 2))?;
+    let model = filled(alloc, &raw, defines.as_slice())?;
+    Ok(length(alloc, &model)?)
+}

@@ -1,0 +1,61 @@
+// What is managed, and what declarations take from it.
+use crate::fields::field;
+use crate::poms::behind;
+use crate::shown::{push_dependencies, push_plugins};
+use managed_deps::{apply, apply_plugins, managed};
+use model_merge::copies;
+use model_types::{Dependency, RawModel};
+use mvn_base::ModelError;
+use mvn_shared::{List, Mem, Shared};
+use std::alloc::Global;
+
+// What a POM manages.
+fn managed_in(alloc: Global, inside: &str) -> Result<List<Shared<Dependency>>, ModelError> {
+    let model = behind(alloc, inside)?;
+    Ok(copies(&model.base.managed)?)
+}
+
+// What each of these POMs manages.
+fn imports(alloc: Global, fields: &[&str]) -> Result<Vec<List<Shared<Dependency>>>, ModelError> {
+    let mut imports = Vec::new(alloc);
+    for inside in fields {
+        let list = managed_in(alloc, *inside)?;
+        if imports.push(list).is_err() {
+            return Err(ModelError::Memory);
+        }
+    }
+    Ok(imports)
+}
+
+// The dependencies of a POM with what it manages, and what these imports do.
+fn needs(alloc: Global, model: &RawModel, imports: &[List<Shared<Dependency>>]) -> Mem<String> {
+    let set = managed(alloc, model.base.managed.as_slice(), imports)?;
+    let applied = apply(alloc, model.base.dependencies.as_slice(), &set)?;
+    let mut shown = String::new(alloc);
+    push_dependencies(&mut shown, " needs[", &applied)?;
+    Ok(shown)
+}
+
+// The plugins of a POM with what it manages.
+fn plugins(alloc: Global, model: &RawModel) -> Mem<String> {
+    let base = &model.build.base;
+    let managed = base.managed_plugins.as_slice();
+    let applied = apply_plugins(alloc, base.plugins.as_slice(), managed)?;
+    let mut shown = String::new(alloc);
+    push_plugins(&mut shown, " plugin[", &applied)?;
+    Ok(shown)
+}
+
+/// The dependencies of a POM with what it manages, and what the POMs in the further fields do.
+pub(crate) fn told(alloc: Global, fields: &[&str]) -> Result<String, ModelError> {
+    let model = behind(alloc, field(fields, 0))?;
+    let further = fields.get(1..).unwrap_or(&[]);
+    let imports = imports(alloc, further)?;
+    Ok(needs(alloc, &model, imports.as_slice())?)
+}
+
+/// The plugins of a POM with what it manages.
+pub(crate) fn told_plugins(alloc: Global, inside: &str) -> Result<String, ModelError> {
+    let model = behind(alloc, inside)?;
+    Ok(plugins(alloc, &model)?)
+}

@@ -1,8 +1,0 @@
-use Rattle.std.proofs.Common.{◌≡◌, ◌++◌, map, drop}
-use Rattle.serde_json.specs.View.{view}
-use Rattle.mvn_outside.specs.Requests.{setting_data}
-use Rattle.mvn_outside.proofs.request.+setting.Given as goal
-
--- the values so far, and those of what is left
-abbrev pub invariant-setting_values-loop-setting : goal.invariant-setting_values-loop-setting
-invariant-setting_values-loop-setting l = map view l.values.items ++ map setting_data (drop l.setting-index l.settings) ≡ map setting_data l.settings

@@ -1,8 +1,0 @@
-use Rattle.std.proofs.Common.{◌≡◌, ◌++◌, map, drop}
-use Rattle.serde_json.specs.View.{view}
-use Rattle.mvn_outside.specs.Requests.{source_data}
-use Rattle.mvn_outside.proofs.request.source_values.Given as goal
-
--- the values so far, and those of what is left
-abbrev pub invariant-loop-source : goal.invariant-loop-source
-invariant-loop-source l = map view l.values.items ++ map source_data (drop l.source-index l.sources) ≡ map source_data l.sources

@@ -1,0 +1,54 @@
+// Numbers and edges as they are spelled in a row.
+use mvn_shared::Mem;
+use std::alloc::Global;
+
+/// The sections of a row, with a slash between two of them.
+pub(crate) fn sections<'a>(alloc: Global, row: &'a str) -> Mem<Vec<&'a str>> {
+    let mut sections = Vec::new(alloc);
+    for section in row.split('/') {
+        sections.push(section.trim())?;
+    }
+    Ok(sections)
+}
+
+/// A section, empty where there is none.
+pub(crate) fn section<'a>(sections: &[&'a str], at: usize) -> &'a str {
+    match sections.get(at) {
+        Some(section) => *section,
+        None => "",
+    }
+}
+
+/// A number, or 0.
+pub(crate) fn number(text: &str) -> u32 {
+    text.parse::<u32>().unwrap_or(0)
+}
+
+/// The numbers of a section.
+pub(crate) fn numbers(alloc: Global, section: &str) -> Mem<Vec<u32>> {
+    let mut numbers = Vec::new(alloc);
+    for word in section.split_whitespace() {
+        numbers.push(number(word))?;
+    }
+    Ok(numbers)
+}
+
+/// The edges of a section, each a module and its upstream with `-` between.
+pub(crate) fn edges(alloc: Global, section: &str) -> Mem<Vec<(u32, u32)>> {
+    let mut edges = Vec::new(alloc);
+    for word in section.split_whitespace() {
+        let (module, upstream) = word.split_once('-').unwrap_or(("", ""));
+        edges.push((number(module), number(upstream)))?;
+    }
+    Ok(edges)
+}
+
+/// Whether a section has a word.
+pub(crate) fn has_word(section: &str, wanted: &str) -> bool {
+    for word in section.split_whitespace() {
+        if word == wanted {
+            return true;
+        }
+    }
+    false
+}

@@ -1,0 +1,77 @@
+//! Rows about texts, each with its answer. A line of standard input is a word, which says what is asked for, and fields with a space
+//! between two of them; the answer is printed as one line. In a field `\xNN` is a byte by its hexadecimal digits, `\(N)TEXT` the text
+//! up to the next backslash N times, and `\.` nothing; in an answer all bytes but the printed ones of ASCII are spelled `\xNN`. A line
+//! that begins with `#` is printed as it stands.
+//!
+//! - `pom TEXT`: the elements of a POM text, each as `name[attribute,](text){child,}`, or why it is none; `count TEXT`: how many
+//!   elements and attributes it has, and how many bytes their names and texts
+//! - `sorted VERSION ..`: the versions in order, with how each compares with the next; `order A B`: how they compare; `among-short A`:
+//!   how it compares with each of all texts of four bytes of `01a.-`
+//! - `admits REQUIREMENT VERSION ..`: whether it is hard, and which versions it admits; `highest REQUIREMENT VERSION ..`: the place of
+//!   the highest
+//! - `words HANDS WORD ..`: what a command line asks for
+//! - `parts TEXT`: the parts of a text with expressions; `value NAME NAME=VALUE ..`; `path FOLDER PATH`: the path in the folder
+//! - `name TEXT`, `version TEXT`: whether it is a valid one; `phase WORD`; `type TYPE`; `setting NAME CHILD ..`: a copy of it
+//! - `file GROUP ARTIFACT VERSION CLASSIFIER EXTENSION`, `version-in GROUP ARTIFACT PATH`, `key GROUP ARTIFACT TYPE CLASSIFIER`, `lock
+//!   GROUP ARTIFACT VERSION`, and the refusals `at-name RULE PATH NAME` and `at-byte RULE GROUP ARTIFACT VERSION BYTE`
+#![tactic(auto)]
+
+mod lines;
+mod names;
+mod poms;
+mod values;
+mod versions;
+
+use mvn_shared::{Bytes, Mem, Text};
+use row_fields::{escaped, fields, texts, unescaped};
+use std::alloc::Global;
+
+// What is told of a row whose fields are texts.
+fn told_of_texts(alloc: Global, kind: &str, texts: &[Text]) -> Mem<String> {
+    match kind {
+        "sorted" | "order" | "among-short" | "admits" | "highest" => {
+            versions::told(alloc, kind, texts)
+        }
+        "parts" | "value" | "path" => values::told(alloc, kind, texts),
+        "name" | "version" | "phase" | "type" | "setting" => names::words(alloc, kind, texts),
+        _ => names::files(alloc, kind, texts),
+    }
+}
+
+// What is told of a row whose fields are bytes.
+fn told_of_bytes(alloc: Global, kind: &str, rest: &str) -> Mem<String> {
+    match kind {
+        "pom" => poms::outline(alloc, unescaped(alloc, rest)?.as_slice()),
+        "count" => poms::count(alloc, unescaped(alloc, rest)?.as_slice()),
+        _ => lines::told(alloc, fields(alloc, rest)?.as_slice()),
+    }
+}
+
+// What is told of a row.
+fn told(alloc: Global, kind: &str, rest: &str) -> anyhow::Result<Bytes> {
+    let answer = match kind {
+        "pom" | "count" | "words" => told_of_bytes(alloc, kind, rest)?,
+        _ => told_of_texts(alloc, kind, texts(alloc, rest)?.as_slice())?,
+    };
+    Ok(Bytes::of(answer.into_bytes()))
+}
+
+fn print_told(rt: &HostRuntime, line: &str) -> anyhow::Result<()> {
+    let (kind, rest) = line.split_once(' ').unwrap_or((line, ""));
+    let answer = told(rt.alloc(), kind, rest)?;
+    let shown = escaped(rt.alloc(), answer.as_slice())?;
+    println!(rt; "{shown}")?;
+    Ok(())
+}
+
+fn main(rt: HostRuntime) -> anyhow::Result<()> {
+    for line in rt.lines(rt.alloc()) {
+        let line = line?;
+        if line.as_str().starts_with('#') {
+            println!(rt; "{line}")?;
+        } else {
+            print_told(&rt, line.as_str())?;
+        }
+    }
+    Ok(())
+}

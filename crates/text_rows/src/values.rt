@@ -1,0 +1,63 @@
+// Expressions, values by name, and paths.
+use expressions::{Part, Values, parts};
+use mvn_base::Pair;
+use mvn_shared::{List, Mem, Text};
+use pom_paths::joined;
+use std::alloc::Global;
+
+fn push_part(shown: &mut String, part: &Part) -> Mem<()> {
+    match part {
+        Part::Plain(text) => shown.push_str(text.as_str())?,
+        Part::Name(name) => {
+            shown.push('<')?;
+            shown.push_str(name.as_str())?;
+            shown.push('>')?;
+        }
+    }
+    shown.push('|')?;
+    Ok(())
+}
+
+// The parts of a text, an expression in angle brackets, each with a bar behind it.
+fn split(alloc: Global, text: &Text) -> Mem<String> {
+    let mut shown = String::new(alloc);
+    for part in parts(alloc, text)?.as_slice() {
+        push_part(&mut shown, part)?;
+    }
+    Ok(shown)
+}
+
+// A name and a value with `=` between.
+fn pair(alloc: Global, text: &Text) -> Mem<Pair> {
+    let (name, value) = text.as_str().split_once('=').unwrap_or(("", ""));
+    let name = Text::from_str(alloc, name)?;
+    let value = Text::from_str(alloc, value)?;
+    Ok(Pair { name, value })
+}
+
+fn values(alloc: Global, texts: &[Text]) -> Mem<Values> {
+    let mut pairs = List::new(alloc);
+    for text in texts {
+        pairs.push(pair(alloc, text)?)?;
+    }
+    Values::of(alloc, pairs.as_slice())
+}
+
+// The value of a name among such pairs.
+fn value(alloc: Global, name: &Text, texts: &[Text]) -> Mem<String> {
+    let values = values(alloc, texts)?;
+    match values.get(name) {
+        Some(value) => Ok(String::from_str(alloc, value.as_str())?),
+        None => Ok(String::from_str(alloc, "none")?),
+    }
+}
+
+/// What is told of a row of expressions or paths.
+pub(crate) fn told(alloc: Global, kind: &str, texts: &[Text]) -> Mem<String> {
+    match (kind, texts) {
+        ("parts", [text]) => split(alloc, text),
+        ("value", [name, texts @ ..]) => value(alloc, name, texts),
+        ("path", [folder, path]) => Ok(joined(alloc, folder, path)?.into_string()),
+        _ => Ok(String::from_str(alloc, "no such row")?),
+    }
+}

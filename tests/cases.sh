@@ -1,0 +1,25 @@
+# What each script of tests/ begins with: a folder of its own in `work`, gone when it ends, and how its cases are told and counted.
+set -u
+. "$(dirname "${BASH_SOURCE[0]}")/program.sh"
+work=$(mktemp -d)
+trap 'rm -rf "$work"' EXIT
+passed=0
+failed=0
+
+# CASE
+pass() {
+  passed=$((passed + 1))
+  echo "ok      $1"
+}
+
+# CASE, WHAT CAME
+fail() {
+  failed=$((failed + 1))
+  echo "FAILED  $1: $2"
+}
+
+# The last line of a script, and its status
+tell() {
+  echo "$(basename "$0" .sh): $passed passed, $failed failed"
+  [ "$failed" = 0 ] && [ "$passed" != 0 ]
+}

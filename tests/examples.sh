@@ -1,0 +1,40 @@
+#!/usr/bin/env bash
+# Runs the session of each folder of examples/ in a copy of it, and compares what each command writes. In the file `session` a line
+# `$ COMMAND` is a command, the lines below it are what it writes, and `status N` is the last of them where its status isn't 0. `mvn` is the
+# program that MVN names, or bin/mvn.
+. "$(dirname "$0")/cases.sh"
+find_program
+mkdir "$work/path"
+ln -s "$mvn" "$work/path/mvn"
+PATH=$work/path:$PATH
+
+# EXAMPLE, COMMAND, WHAT IT WRITES
+run() {
+  local got
+  got=$(cd "$work/$1" && bash -c "$2" 2>&1 || echo "status $?"; echo .)
+  got=${got%.}
+  if [ "$got" = "$3" ]; then pass "$1: $2"; else fail "$1: $2" "$(printf 'wanted %q, got %q' "$3" "$got")"; fi
+}
+
+for session in examples/*/session; do
+  [ -f "$session" ] || stop "no example has a session"
+done
+for folder in examples/*/; do
+  name=$(basename "$folder")
+  [ -f "$folder/session" ] || { fail "$name" "it has no session"; continue; }
+  cp -R "$folder" "$work/$name"
+  rm -rf "$work/$name/.m2"
+  command=
+  wanted=
+  while IFS= read -r line || [ -n "$line" ]; do
+    if [ "${line:0:2}" = '$ ' ]; then
+      [ -z "$command" ] || run "$name" "$command" "$wanted"
+      command=${line:2}
+      wanted=
+    else
+      wanted+=$line$'\n'
+    fi
+  done < "$folder/session"
+  run "$name" "$command" "$wanted"
+done
+tell

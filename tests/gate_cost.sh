@@ -1,0 +1,116 @@
+#!/usr/bin/env bash
+# What a run of the gate costs, by crate: processor minutes of its proofs, its tests and its wrong bodies.
+#
+#     tests/gate_cost.sh --run LOG [--anew] [NAME..]     runs `rt ci` with these words, keeps what it says in LOG, and ends with its status
+#     tests/gate_cost.sh LOG                             prints the table of such a log
+#
+# `rt ci` prints no times. So --run looks once a second at the processes that it started, and adds to LOG, behind all that
+# `rt ci` says, a line `cost CRATE STEP SECONDS` for each crate and step, and a line `cost all all SECONDS`. The figures are
+# processor seconds (user and system), whatever else runs on the machine; what a process used after the last look at it, less
+# than a second, is missing in its step and counted in `rest`. The steps:
+#
+#     proofs   the crate from nothing
+#     tests    the crate from nothing once more, with its tests
+#     seeds    the crate from nothing a third time, for its wrong bodies to begin with, and one check behind them
+#     edits    each wrong body
+#     runs     the compilations of a program
+#
+# What an earlier run kept isn't done again: only with --anew are these the figures of a gate from nothing.
+set -u
+usage() {
+  echo "usage: tests/gate_cost.sh LOG, for a log that was written by: tests/gate_cost.sh --run LOG [--anew] [NAME..]" >&2
+  exit 2
+}
+[ $# -ge 1 ] || usage
+
+if [ "$1" = --run ]; then
+  [ $# -ge 2 ] || usage
+  log=$(realpath -m "$2")
+  shift 2
+  cd "$(dirname "$0")/.." || exit 2
+  : > "$log" || usage
+  exec python3 - "$log" "$@" <<'PYTHON'
+import collections, os, resource, subprocess, sys, time
+
+log, words = sys.argv[1], sys.argv[2:]
+TICKS = os.sysconf("SC_CLK_TCK")
+seen = {}  # by process number and start: its step, and its seconds so far
+
+
+def processes():
+    for number in filter(str.isdigit, os.listdir("/proc")):
+        try:
+            with open(f"/proc/{number}/stat") as it:
+                fields = it.read().rpartition(")")[2].split()
+            yield int(number), int(fields[1]), fields[19], sum(map(int, fields[11:13])) / TICKS
+        except (OSError, IndexError):
+            pass
+
+
+def step_of(number):
+    try:
+        with open(f"/proc/{number}/cmdline") as it:
+            argv = it.read().split("\0")
+    except OSError:
+        return None
+    if "--crate-name" not in argv[:-1] or not os.path.basename(argv[0]).startswith("rattle"):
+        return None
+    crate = argv[argv.index("--crate-name") + 1]
+    over = argv[argv.index("--incremental") + 1] if "--incremental" in argv[:-1] else ""
+    if "/rt-edit" in over:
+        return crate, "seeds" if over.endswith("/seed") else "edits"
+    if "--crate-checked" in argv:
+        return crate, "runs"
+    return crate, "tests" if any(it.endswith("_tests.o") for it in argv) else "proofs"
+
+
+def look(root):
+    found = list(processes())
+    below = {root}
+    while True:
+        more = {it[0] for it in found if it[1] in below} - below
+        if not more:
+            break
+        below |= more
+    for number, _, start, seconds in found:
+        if number in below:
+            step = step_of(number)
+            if step:
+                seen[number, start] = step, seconds
+
+
+with open(log, "w") as out:
+    gate = subprocess.Popen(["rt", "ci", *words], stdout=out, stderr=subprocess.STDOUT, stdin=subprocess.DEVNULL)
+    while gate.poll() is None:
+        look(gate.pid)
+        time.sleep(1)
+used = resource.getrusage(resource.RUSAGE_CHILDREN)
+costs = collections.Counter()
+for step, seconds in seen.values():
+    costs[step] += seconds
+with open(log, "a") as out:
+    for (crate, step), seconds in sorted(costs.items()):
+        out.write(f"cost {crate} {step} {seconds:.1f}\n")
+    out.write(f"cost all all {used.ru_utime + used.ru_stime:.1f}\n")
+sys.exit(gate.returncode)
+PYTHON
+fi
+
+[ $# = 1 ] || usage
+log=$1
+[ -f "$log" ] && [ -r "$log" ] || { echo "gate_cost: there is no log $log" >&2; usage; }
+grep -qE '^cost all all [0-9.]+$' "$log" || { echo "gate_cost: $log has no figures: its run did not end, or was no --run" >&2; usage; }
+awk '
+  /^cost all all / { total = $4 / 60; next }
+  /^cost [a-z0-9_]+ [a-z]+ [0-9.]+$/ { spent[$2, $3] += $4 / 60; crates[$2] += $4 / 60; all[$3] += $4 / 60; sum += $4 / 60 }
+  /^rt: must-fail [a-z0-9_]+\// { name = $3; sub(/\/.*/, "", name); tried[name]++; number++ }
+  END {
+    printf "%-16s %7s %7s %7s %7s %7s %7s %7s\n", "minutes", "proofs", "tests", "seeds", "edits", "runs", "all", "number"
+    form = "%-16s %7.1f %7.1f %7.1f %7.1f %7.1f %7.1f %7d\n"
+    for (name in crates)
+      printf "%s\t" form, crates[name], name, spent[name, "proofs"], spent[name, "tests"], spent[name, "seeds"],
+        spent[name, "edits"], spent[name, "runs"], crates[name], tried[name] | "sort -rn | cut -f2-"
+    close("sort -rn | cut -f2-")
+    printf "%-16s %55.1f\n", "rest", total - sum
+    printf form, "whole", all["proofs"], all["tests"], all["seeds"], all["edits"], all["runs"], total, number
+  }' "$log"

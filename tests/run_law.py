@@ -124,6 +124,7 @@ def entry_bytes(entry, files, slots):
 
 
 def request(number, m, goal, own, files, slots):
+    """What a goal is asked: its module and call, what the module keeps, and the classpath that the call needs."""
     call = m.goals[goal]
     classpath = tuple((place, entry_bytes(e, files, slots)) for place, e in enumerate(m.entries) if call.need in e.needs)
     return (number, goal, call.slot, tuple(sorted(own.items())), classpath)
@@ -162,6 +163,7 @@ def run_goals(number, m, files, slots, answer_of):
 
 
 def install(m, kept, files):
+    """Writes the POM, and what is kept of each slot that has a file."""
     files[m.own[0][1]] = m.pom
     for slot, f in m.own[1:]:
         if slot in kept:
@@ -264,6 +266,7 @@ def running(now, w):
 
 
 def is_lost(state):
+    """Whether a module was skipped, or ended otherwise than built."""
     return state == 'skipped' or state[0] == 'ended' and state[1] != BUILT
 
 
@@ -399,6 +402,7 @@ def may_end(plan, now, w, ending):
 
 
 def may_take(plan, now, w, name, mode):
+    """Whether no other worker's hold excludes the take, and the name is above all that the worker holds."""
     others = [now.held[v][name] for v in range(plan.workers) if v != w and name in now.held[v]]
     if any(EXCLUSIVE in (mode, other) for other in others):
         return False

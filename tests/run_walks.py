@@ -89,8 +89,9 @@ def make_module(draws, modules, cover, shared, first_file):
     kept = draws.shuffled([slot for slot in SLOTS + (NOWHERE,) if draws.below(4) > (0 if slot in filled else 2)])
     own = [(slot, first_file + at) for at, slot in enumerate([POM] + kept)]
     own_name = draws.below(shared) if draws.one_in(8) else shared + number
-    return Module(tuple(upstream), tuple(batch), tuple(fetch), own_name, tuple(own), ('bytes', 'pom %d' % number, draws.below(9)), tuple(goals),
-                  tuple(entries), draws.one_of(BUDGETS), not draws.one_in(4), draws.one_in(3))
+    pom = ('bytes', 'pom %d' % number, draws.below(9))
+    return Module(tuple(upstream), tuple(batch), tuple(fetch), own_name, tuple(own), pom, tuple(goals), tuple(entries),
+                  draws.one_of(BUDGETS), not draws.one_in(4), draws.one_in(3))
 
 
 def make_plan(draws, most):

@@ -29,10 +29,12 @@ WRONG = [
     ('build_behind_failures', 'm.upstream if ends[u] != BUILT]', "m.upstream if ends[u][0] == 'skipped']"),
     ('fold_installs_the_pom_alone', '    for slot, f in m.own[1:]:\n', '    for slot, f in ():\n'),
     ('fold_installs_what_failed', '    if bad:\n', '    if bad:\n        install(m, kept, files)\n'),
-    ('fold_installs_without_artifact', "        return ('no_artifact',), kept\n    if", "        install(m, kept, files)\n        return ('no_artifact',), kept\n    if"),
+    ('fold_installs_without_artifact', "        return ('no_artifact',), kept\n    if",
+     "        install(m, kept, files)\n        return ('no_artifact',), kept\n    if"),
     ('no_artifact_before_bad_goal', '    if bad:\n', "    if bad and not (m.installs and m.needs_artifact and 'main' not in kept):\n"),
     ('fold_requests_without_own', 'request(number, m, goal, kept, files, slots))', 'request(number, m, goal, {}, files, slots))'),
-    ('fold_keeps_too_large_output', "                return ('output', goal), kept\n", "                return ('output', goal), {**kept, call.slot: answer[2]}\n"),
+    ('fold_keeps_too_large_output', "                return ('output', goal), kept\n",
+     "                return ('output', goal), {**kept, call.slot: answer[2]}\n"),
     ('fold_adds_all_outputs', ' for slot in kept if slot != call.slot)', ' for slot in kept)'),
     ('fold_counts_fetched_files_alone', 'for e in m.entries) > LIMIT:', "for e in m.entries if e.origin[0] == 'file') > LIMIT:"),
     # which events may come
@@ -52,7 +54,8 @@ WRONG = [
 """, """    if first_absent(m, there) is not None:
         return 'fetch', {('publish', first_absent(m, there))}
 """),
-    ('exclusive_beside_shared', '    if any(EXCLUSIVE in (mode, other) for other in others):\n', '    if EXCLUSIVE in others and mode == EXCLUSIVE:\n'),
+    ('exclusive_beside_shared', '    if any(EXCLUSIVE in (mode, other) for other in others):\n',
+     '    if EXCLUSIVE in others and mode == EXCLUSIVE:\n'),
     ('publish_without_second_look', """    if first_absent(m, there) is not None:
         return 'fetch', {('publish', first_absent(m, there))}
     done = done[b:]
@@ -86,7 +89,8 @@ WRONG = [
     ('end_with_names_held', "        return not now.held[w] and may_end(", '        return may_end('),
     ('publishes_any_own_file_first', "        return {('publish', files[0])}\n", "        return {('publish', f) for f in files}\n"),
     # which entries fit
-    ('answer_not_carried', "        return carried is not None and carried[0] == 'answer'\n", "        return carried is None or carried[0] == 'answer'\n",
+    ('answer_not_carried', "        return carried is not None and carried[0] == 'answer'\n",
+     "        return carried is None or carried[0] == 'answer'\n",
      '    return gate is None or carried == gate(', '    return gate is None or carried is None or carried == gate(',
      "        elif deed[0] == 'answer':\n", "        elif deed[0] == 'answer' and carried is not None:\n"),
     ('fetched_bytes_of_other_origin', '        return carried == remote_bytes(world, file)\n', '        return True\n'),
@@ -98,9 +102,11 @@ WRONG = [
 """, """            if remote_bytes(world, f) is None or size(remote_bytes(world, f)) > LIMIT:
 """),
     ('own_bytes_of_other_origin', '    return carried == own_bytes(m, slots[number], slot) and', '    return'),
-    ('invented_answer', '    return gate is None or carried == gate(request(number, m, goal, slots[number], now.files, slots))\n', '    return True\n'),
+    ('invented_answer', '    return gate is None or carried == gate(request(number, m, goal, slots[number], now.files, slots))\n',
+     '    return True\n'),
     ('answer_beyond_classpath', "    if not is_within(m, now.files, slots) or first_bad(", '    if first_bad('),
-    ('answer_after_failed_goal', " or first_bad(m, now.answers[number]):\n        return False\n    gate", ':\n        return False\n    gate'),
+    ('answer_after_failed_goal', " or first_bad(m, now.answers[number]):\n        return False\n    gate",
+     ':\n        return False\n    gate'),
     ('missing_though_remote_has_it', '        return remote_bytes(world, ending[1]) is None\n', '        return True\n'),
     ('classpath_though_within', '        return not is_within(m, now.files, slots)\n', '        return True\n'),
     ('goal_though_done', '        return bad == ending\n', '        return True\n'),

@@ -394,5 +394,6 @@ def walk(seed):
     return total, len(events)
 
 
-for seed in range(int(sys.argv[1]), int(sys.argv[2]) + 1):
-    print('walk %d: %d %d' % ((seed,) + walk(seed)))
+if __name__ == '__main__':
+    for seed in range(int(sys.argv[1]), int(sys.argv[2]) + 1):
+        print('walk %d: %d %d' % ((seed,) + walk(seed)))

@@ -1,8 +1,8 @@
 #!/usr/bin/env bash
 # How the time of turns under a turn lock grows with their number, and how it grows with the threads that want them, as ratios in one run of
-# the built program `turn_runs`. A ratio of the numbers is a constant time a turn; with more threads the number of turns stays the same.
+# the built program `bench_turns`. A ratio of the numbers is a constant time a turn; with more threads the number of turns stays the same.
 . "$(dirname "$0")/common.sh"
-want crates/turn_runs/out/turn_runs '(cd crates/turn_runs && rt run < stdin)'
+want crates/bench_turns/out/bench_turns '(cd crates/bench_turns && rt run < stdin)'
 once() { "$program" < in > out; }
 
 printf '1 0\n' > in

@@ -31,7 +31,7 @@ use Rattle.event_core.specs.Standing.{Now, first_not_built, is_done, progress_of
 use Rattle.event_core.specs.Worlds.{AllFit, HandTold, is_good}
 use Rattle.run_law.proofs.AllAnswered.{all_answered_in}
 use Rattle.run_law.proofs.Carried.{same_name}
-use Rattle.run_law.proofs.Confluence.{IsFitPlan, built_is as state_built, ended_judged, real}
+use Rattle.run_law.proofs.JudgedRuns.{IsFitPlan, built_is as state_built, ended_judged, real}
 use Rattle.run_law.proofs.Contents.{module_or_not, name_or_not}
 use Rattle.run_law.proofs.Ended.{Behind, find_gone}
 use Rattle.run_law.proofs.Extending.{goals_extend}

@@ -28,7 +28,7 @@ use Rattle.event_core.specs.Scripts.{Script, wanted}
 use Rattle.event_core.specs.SoundPlans.{IsSoundPlan}
 use Rattle.event_core.specs.Standing.{course_of, on_course}
 use Rattle.event_core.specs.Worlds.{AllFit, HandTold, is_good, publishes}
-use Rattle.run_law.proofs.Confluence.{IsFitPlan}
+use Rattle.run_law.proofs.JudgedRuns.{IsFitPlan}
 use Rattle.run_law.proofs.Lates.{IsLateAt}
 use Rattle.run_law.proofs.Stored.{AllTell}
 use Rattle.build_core.specs.Slots.{kept_of}

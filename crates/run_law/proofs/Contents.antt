@@ -22,7 +22,7 @@ use Rattle.event_core.specs.SoundPlans.{IsSoundPlan}
 use Rattle.event_core.specs.Standing.{state_of}
 use Rattle.event_core.specs.Worlds.{AllFit, HandTold}
 use Rattle.run_law.proofs.Carried.{same_name}
-use Rattle.run_law.proofs.Confluence.{core_ends}
+use Rattle.run_law.proofs.JudgedRuns.{core_ends}
 use Rattle.run_law.proofs.Ended.{lt_is}
 use Rattle.run_law.proofs.HandFiles.{hand_left}
 use Rattle.run_law.proofs.Left.{left_so}

@@ -27,7 +27,7 @@ use Rattle.event_core.specs.Scripts.{Script, answers_left, is_there, is_to_insta
 use Rattle.event_core.specs.Standing.{Course, Now, after, at_first, course_of, ended, goals_of, idle, module_of, now_of, off_course, on_course, progress_of}
 use Rattle.event_core.specs.Worlds.{AllFit, Fits, FitsEnd, HandTold, stood}
 use Rattle.run_law.proofs.Complete.{by_entries, events_more}
-use Rattle.run_law.proofs.Confluence.{IsFitPlan, behind_first, behind_more, ended_or, ending_of, waits_on}
+use Rattle.run_law.proofs.JudgedRuns.{IsFitPlan, behind_first, behind_more, ended_or, ending_of, waits_on}
 use Rattle.run_law.proofs.Courses.{due_file, there_grows}
 use Rattle.run_law.proofs.Ended.{Behind, begun_stays, end_none, install_late, listed_front, lt_is, set_cases, this_is}
 use Rattle.event_core.proofs.Fits.{one_more}

@@ -20,7 +20,7 @@ use Rattle.run_law.specs.Closed.{Verdict, available, had_prefix, judge, missing_
 use Rattle.run_law.proofs.Invariants.{FilesDiffer, IsFetchFile, IsOwnFile}
 use Rattle.event_core.specs.Outlines.{is_listed}
 use Rattle.run_law.proofs.Carried.{IsFetched, Puts, at_insert, fetch_all, had, name_itself, put}
-use Rattle.run_law.proofs.Confluence.{IsFitPlan}
+use Rattle.run_law.proofs.JudgedRuns.{IsFitPlan}
 use Rattle.run_law.proofs.Fetches.{prefix_listed}
 use Rattle.event_core.proofs.Fits.{same_or_not}
 use Rattle.run_law.proofs.Fold.{IsSoFar, at_middle, fold_judged, in_list, one_further}

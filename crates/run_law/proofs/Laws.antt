@@ -27,7 +27,7 @@ use Rattle.event_core.specs.Runs.{IsComplete, answers_in, contents, now_after, o
 use Rattle.event_core.specs.SoundPlans.{IsSoundPlan}
 use Rattle.event_core.specs.Standing.{first_lost, progress_of, state_of, upstream_of}
 use Rattle.run_law.proofs.Betweens.{lies}
-use Rattle.run_law.proofs.Confluence.{IsFitPlan, behind_all, core_ends, isolation, run_judged}
+use Rattle.run_law.proofs.JudgedRuns.{IsFitPlan, behind_all, core_ends, isolation, run_judged}
 use Rattle.run_law.proofs.Contents.{core, sound_owns}
 use Rattle.run_law.proofs.Fold.{IsSoFar, fold_judged, hand_judged, in_list}
 use Rattle.run_law.proofs.Kept.{outputs_are}

@@ -38,7 +38,7 @@ use Rattle.event_core.specs.Worlds as worlds
 use Rattle.event_core.specs.Worlds.{AllFit, Fits, FitsEnd, HandTold, stood}
 use Rattle.run_law.proofs.Carried.{at_insert}
 use Rattle.run_law.proofs.Complete.{all_over, by_entries, events_more}
-use Rattle.run_law.proofs.Confluence.{IsFitPlan, behind_first, behind_more, built_is, ended_or, quiet_all, waits_on}
+use Rattle.run_law.proofs.JudgedRuns.{IsFitPlan, behind_first, behind_more, built_is, ended_or, quiet_all, waits_on}
 use Rattle.run_law.proofs.Courses.{due_file}
 use Rattle.run_law.proofs.Ended.{Behind, set_cases}
 use Rattle.run_law.proofs.Fetches.{fetched_so, is_end, prefix_listed}

@@ -6,7 +6,6 @@ pub mod Carried
 pub mod Checks
 pub mod ClosedFiles
 pub mod Complete
-pub mod Confluence
 pub mod Contents
 pub mod Courses
 pub mod Ended
@@ -18,12 +17,13 @@ pub mod Gathering
 pub mod Hand
 pub mod HandFiles
 pub mod Invariants
+pub mod JudgedRuns
 pub mod Kept
+pub mod LaterMoments
 pub mod Lates
 pub mod Laws
 pub mod Left
 pub mod Lengths
-pub mod Moments
 pub mod Once
 pub mod Ordered
 pub mod Owed

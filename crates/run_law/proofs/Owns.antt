@@ -32,7 +32,7 @@ use Rattle.event_core.specs.Worlds as worlds
 use Rattle.event_core.specs.Worlds.{AllFit, Fits, FitsBehind, FitsBytes, HandTold, is_answered, is_good, stood}
 use Rattle.run_law.proofs.Carried.{at_insert, name_itself}
 use Rattle.run_law.proofs.Complete.{by_entries, events_more}
-use Rattle.run_law.proofs.Confluence.{IsFitPlan, behind_first, behind_more}
+use Rattle.run_law.proofs.JudgedRuns.{IsFitPlan, behind_first, behind_more}
 use Rattle.run_law.proofs.Courses.{due_file}
 use Rattle.run_law.proofs.Ended.{Behind, len_stays}
 use Rattle.event_core.proofs.Fits.{fold_more, one_more, same_or_not}

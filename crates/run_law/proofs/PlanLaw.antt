@@ -15,7 +15,7 @@ use Rattle.event_core.specs.Runs.{answers_in, now_after}
 use Rattle.event_core.specs.Scripts.{is_there}
 use Rattle.event_core.specs.Standing.{after, state_of}
 use Rattle.event_core.specs.Worlds.{HandTold}
-use Rattle.run_law.proofs.Confluence.{core_ends}
+use Rattle.run_law.proofs.JudgedRuns.{core_ends}
 use Rattle.run_law.proofs.PlanRuns.{whole, whole_ends, whole_fits, whole_quiet, whole_runs}
 use Rattle.run_law.proofs.Sounds.{sound_fit}
 use Rattle.run_law.proofs.Extending.{extends_itself}

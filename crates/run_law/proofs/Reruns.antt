@@ -25,7 +25,7 @@ use Rattle.event_core.specs.Outlines.{is_listed}
 use Rattle.build_core.specs.Slots.{run_goals}
 use Rattle.event_core.specs.SoundPlans.{is_backed}
 use Rattle.run_law.proofs.Betweens.{option_or_some}
-use Rattle.run_law.proofs.Confluence.{IsFitPlan}
+use Rattle.run_law.proofs.JudgedRuns.{IsFitPlan}
 use Rattle.run_law.proofs.Contents.{left_once}
 use Rattle.run_law.proofs.Fold.{hand_judged, in_list}
 use Rattle.run_law.proofs.HandFiles.{hand_left}

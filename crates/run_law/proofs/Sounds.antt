@@ -12,7 +12,7 @@ use Rattle.build_core.specs.OneThread.{name_of}
 use Rattle.event_core.specs.Outlines.{module_outline}
 use Rattle.event_core.specs.SoundPlans.{IsSoundPlan, same_text}
 use Rattle.run_law.proofs.Carried.{same_name}
-use Rattle.run_law.proofs.Confluence.{IsFitPlan}
+use Rattle.run_law.proofs.JudgedRuns.{IsFitPlan}
 use Rattle.run_law.proofs.Ended.{lt_is}
 use Rattle.run_law.proofs.Ready.{all_listed}
 use Rattle.run_law.proofs.Stored.{get_map}

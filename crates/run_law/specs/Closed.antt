@@ -72,6 +72,10 @@ judge plan supply states outputs number m = verdict_of_upstream plan supply numb
 abbrev pub AreJudged : Plan → Supply → (P : ℕ → Type 0) → (ℕ → State) → (ℕ → List OwnBytes) → Type 0
 AreJudged plan supply P states outputs = (number : ℕ) (m : PlanModule) → slice_get plan.modules number ≡ Some m → P number → (record { state = states number; outputs = outputs number }) ≡ judge plan supply states outputs number m
 
+-- all modules do
+abbrev pub AllJudged : Plan → Supply → (ℕ → State) → (ℕ → List OwnBytes) → Type 0
+AllJudged plan supply states outputs = AreJudged plan supply (λ number. Unit {0}) states outputs
+
 abbrev pub state_at : Progress → ℕ → State
 state_at progress number = slice_index_or progress.states number Waiting
 

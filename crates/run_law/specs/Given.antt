@@ -94,6 +94,10 @@ is_kept kept number goal = is_some (find (is_answer number goal) kept)
 
 -- ---- locks and files
 
+-- some module fetches the file
+abbrev pub IsFetched : Plan → (file : ℕ) → Type 0
+IsFetched plan file = (number : ℕ) × (m : PlanModule) × (slice_get plan.modules number ≡ Some m) × (is_listed file m.fetch ≡ true)
+
 -- a name stands in the batch of each module that fetches a file
 abbrev pub IsCover : Plan → (name file : ℕ) → Type 0
 IsCover plan name file = (number : ℕ) (m : PlanModule) → slice_get plan.modules number ≡ Some m → is_listed file m.fetch ≡ true → is_listed name m.batch ≡ true

@@ -49,7 +49,7 @@ use Rattle.run_law.proofs.Sounds.{sound_fit}
 use Rattle.run_law.proofs.Stored.{due_on, get_map}
 use Rattle.run_law.proofs.Telling.{all_told, fits_all, told}
 use Rattle.goal_types.specs.declared.goal.GoalAnswer.{GoalAnswer}
-use Rattle.run_law.proofs.Confluence.{IsFitPlan}
+use Rattle.run_law.proofs.JudgedRuns.{IsFitPlan}
 use Rattle.run_law.proofs.ClosedFiles.{AreOwnsFit}
 
 -- ---- a run in two parts

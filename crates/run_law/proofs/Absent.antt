@@ -1,5 +1,5 @@
 -- What a worker found absent stays absent until it fetches it itself.
-use Rattle.std.proofs.Common.{◌≡◌, ℕ, ◌<◌, ◌⊎◌, inl, inr, Bool, true, false, ◌&&◌, List, [], ◌∷◌, ◌++◌, length, map, get_or, set, slice_get, Option, Some, None, is_some, refl, arith, sym, ap, subst, ◌∙◌}
+use Rattle.std.proofs.Common.{◌≡◌, ℕ, ◌<◌, ◌⊎◌, inl, inr, Bool, true, false, List, [], ◌∷◌, ◌++◌, map, get_or, set, slice_get, Option, Some, None, is_some, refl, arith, sym, ap, subst, ◌∙◌}
 use Rattle.std.specs.Option.{option_map_or}
 use Rattle.std.proofs.lemmas.Bool.{false≢true}
 use Rattle.std.proofs.lemmas.List.{get_or-set_other, get_or-set_same}
@@ -19,7 +19,7 @@ use Rattle.run_law.proofs.Invariants.{AreCoursesFit, IsCourseFit, files_fit}
 use Rattle.name_locks.specs.Locks.{hold}
 use Rattle.event_core.specs.Outlines.{is_listed, module_outline, outline_of}
 use Rattle.event_core.specs.Runs.{IsRunOf, events_of, now_after}
-use Rattle.event_core.specs.Scripts.{Script, Step, absent, answers, done, fetches, frees, is_gathered, is_there, may_publish, publishes, reads, settled, step, takes, wanted, whole}
+use Rattle.event_core.specs.Scripts.{Script, absent, answers, done, fetches, frees, is_gathered, is_there, may_publish, publishes, reads, settled, step, takes, wanted, whole}
 use Rattle.event_core.specs.SoundPlans.{IsSoundPlan}
 use Rattle.event_core.specs.Standing.{Course, Now, after, after_deed, after_free, at_first, course_of, goals_of, held_by, idle, is_empty, module_of, now_of, off_course, on_course, start_of}
 use Rattle.run_law.proofs.Alone.{AreGuarded, guarded, guarded_after, guarded_first, holds_now}
@@ -123,8 +123,8 @@ module _ (plan : Plan) (sound : IsSoundPlan plan) where
             which : ((wanted x.1 ≡ Some f) × (is_listed f m.0.fetch ≡ true)) ⊎ (is_listed f (map (λ (x : OwnFile). x.file) m.0.own) ≡ true) → v ≡ w
             which (inl fetch) =
                 s.excluding cover.0 w v (inside w x.0 x.1 x.2 x.3) (inside v number script last on)
-                  (holds_now o now s.guarded w x.0 f cover.0 (module_outline m.0) x.1 x.2 (get_map module_outline plan.modules x.0 m.0 m.1) x.3 fetch.0 (cover.1 x.0 m.0 m.1 fetch.1))
-                  (ap is_some (holds_now o now s.guarded v number f cover.0 (module_outline his.0) script last (get_map module_outline plan.modules number his.0 his.1) on wants (cover.1 number his.0 his.1 listed)))
+                (holds_now o now s.guarded w x.0 f cover.0 (module_outline m.0) x.1 x.2 (get_map module_outline plan.modules x.0 m.0 m.1) x.3 fetch.0 (cover.1 x.0 m.0 m.1 fetch.1))
+                (ap is_some (holds_now o now s.guarded v number f cover.0 (module_outline his.0) script last (get_map module_outline plan.modules number his.0 his.1) on wants (cover.1 number his.0 his.1 listed)))
             which (inr own) = absurd (false≢true (sym (sound.not_fetched f x.0 number m.0 his.0 m.1 his.1 own) ∙ listed))
 
     absent_publish : (w f : ℕ) → w < o.workers → is_due (course_of now w) (deed.Publish f) ≡ true → (v : ℕ) → IsAbsentAt (set now.there f true) (get_or (set now.courses w (after_deed (set now.there f true) (held_by now w) (deed.Publish f) None (course_of now w))) v idle)

@@ -1,5 +1,5 @@
 -- Each goal that a module's ending stands for is answered in the run.
-use Rattle.std.proofs.Common.{◌≡◌, ℕ, ◌<◌, Bool, true, false, ◌&&◌, nat_eq, List, [], ◌∷◌, ◌++◌, length, find, slice_get, Option, Some, None, is_some, refl, sym, ap, subst, ◌∙◌, if◌then◌else◌}
+use Rattle.std.proofs.Common.{◌≡◌, ℕ, ◌<◌, Bool, true, false, ◌&&◌, nat_eq, List, [], ◌∷◌, ◌++◌, length, find, slice_get, Some, None, is_some, refl, sym, ap, subst, ◌∙◌, if◌then◌else◌}
 use Rattle.std.specs.Option.{option_map_or}
 use Rattle.std.proofs.lemmas.Bool.{false≢true}
 use Rattle.std.proofs.lemmas.Cmp.{nat_eq_equiv}
@@ -8,7 +8,6 @@ use Rattle.build_core.specs.declared.event.Answered.{Answered}
 use Rattle.event_core.specs.declared.entry.Carried.{Carried}
 use Rattle.event_core.specs.declared.entry.Carried.TheVariants as carried
 use Rattle.build_core.specs.declared.ending.Ending.{Ending}
-use Rattle.build_core.specs.declared.event.Event.{Event}
 use Rattle.build_core.specs.declared.event.Event.TheVariants as event
 use Rattle.build_core.specs.declared.plan.Plan.{Plan}
 use Rattle.build_core.specs.declared.plan.PlanModule.{PlanModule}
@@ -17,7 +16,7 @@ use Rattle.event_core.specs.declared.entry.RunEntry.{RunEntry}
 use Rattle.event_core.specs.Enabled.{Enabled}
 use Rattle.event_core.specs.Outlines.{module_outline, outline_of}
 use Rattle.event_core.specs.Runs.{IsRunOf, answers_in, events_of, kept_by, module_by, now_after}
-use Rattle.event_core.specs.Standing.{after, now_of, progress_of}
+use Rattle.event_core.specs.Standing.{now_of, progress_of}
 use Rattle.event_core.specs.Worlds.{AllFit, Fits, HandTold, is_told, is_told_by}
 use Rattle.run_law.proofs.Complete.{by_entries, events_more}
 use Rattle.event_core.proofs.Fits.{one_more}
@@ -62,7 +61,7 @@ pub step_paid : (plan : Plan) (start : Files) (hands : ℕ → HandTold) (past :
 unfolding Enabled
 step_paid plan start hands past e paid is fits =
     subst (ArePaid (outline_of plan) (is_kept (answers_in plan (past ++ e ∷ [])))) (sym (ap (now_of (outline_of plan)) (events_more past e) ∙ one_more (outline_of plan) (events_of past) e.event))
-      (paid_after (outline_of plan) (is_kept (answers_in plan past)) (is_kept (answers_in plan (past ++ e ∷ []))) grows (now_after plan past) paid e.event is new)
+    (paid_after (outline_of plan) (is_kept (answers_in plan past)) (is_kept (answers_in plan (past ++ e ∷ []))) grows (now_after plan past) paid e.event is new)
   where
     more : answers_in plan (past ++ e ∷ []) ≡ answers_in plan past ++ kept_by plan past e.event e.carried
     more = answers_more plan past e
@@ -74,8 +73,8 @@ step_paid plan start hands past e paid is fits =
     new w goal number same whose =
         ap (λ kept. is_kept kept number goal) more
         ∙ find_back (is_answer number goal) (answers_in plan past) (kept_by plan past e.event e.carried)
-          (subst (λ x. is_kept (kept_by plan past x e.carried) number goal ≡ true) (sym same)
-            (kept_new plan past (is_told_by (Some start) hands e.event) w goal number e.carried whose (subst (λ x. is_told (is_told_by (Some start) hands e.event) x e.carried ≡ true) same fits.0)))
+        (subst (λ x. is_kept (kept_by plan past x e.carried) number goal ≡ true) (sym same)
+        (kept_new plan past (is_told_by (Some start) hands e.event) w goal number e.carried whose (subst (λ x. is_told (is_told_by (Some start) hands e.event) x e.carried ≡ true) same fits.0)))
 
 pub all_answered_in : (plan : Plan) (start : Files) (hands : ℕ → HandTold) (entries : List RunEntry) → IsRunOf plan entries → AllFit plan (Some start) hands [] entries → (number goal : ℕ) (m : PlanModule) (e : Ending) → slice_get plan.modules number ≡ Some m
     → progress_of (now_after plan entries).progress number ≡ Ended e → goal < length m.goals → reaches e goal ≡ true → is_kept (answers_in plan entries) number goal ≡ true

@@ -1,5 +1,5 @@
 -- Who is to fetch a file holds its module's batch alone.
-use Rattle.std.proofs.Common.{◌≡◌, ℕ, zero, suc, ◌<◌, ◌⊎◌, inl, inr, Bool, true, false, ◌||◌, nat_eq, nat_lt, List, [], ◌∷◌, ◌++◌, length, replicate, get_or, set, slice_get, Option, Some, None, is_some, unwrap_or, refl, arith, sym, ap, subst, ◌∙◌, if◌then◌else◌}
+use Rattle.std.proofs.Common.{◌≡◌, ℕ, ◌<◌, ◌⊎◌, inl, inr, Bool, true, false, ◌||◌, nat_eq, nat_lt, List, [], ◌∷◌, ◌++◌, get_or, set, slice_get, Option, Some, None, is_some, unwrap_or, refl, arith, sym, ap, subst, ◌∙◌, if◌then◌else◌}
 use Rattle.std.specs.List.{list_all}
 use Rattle.std.specs.Option.{option_map_or}
 use Rattle.std.proofs.lemmas.Bool.{eqb-true, false≢true}
@@ -16,7 +16,7 @@ use Rattle.event_core.specs.Climbing.{but}
 use Rattle.event_core.specs.Enabled.{IsEnabled, IsRun, is_due}
 use Rattle.name_locks.specs.Locks.{Holds, below, hold, with_hold}
 use Rattle.event_core.specs.Outlines.{is_listed}
-use Rattle.event_core.specs.Scripts.{Script, Step, absent, answer_script, answers, choice_script, done, fetches, frees, install_script, is_there, is_gathered, is_wanted, lock_script, may_publish, own_script, publishes, read_script, reads, release_script, script_of, settled, step, steps, takes, wanted, whole}
+use Rattle.event_core.specs.Scripts.{Script, Step, absent, answers, choice_script, done, fetches, frees, install_script, is_there, is_gathered, is_wanted, may_publish, own_script, publishes, read_script, reads, release_script, script_of, settled, step, steps, takes, wanted, whole}
 use Rattle.event_core.specs.Standing.{Course, Now, after, after_deed, after_free, at_first, course_of, goals_of, held_by, idle, is_empty, now_of, off_course, on_course, start_of}
 use Rattle.run_law.proofs.Complete.{IsStanding, by_events, standing_after, standing_first}
 use Rattle.event_core.proofs.Fits.{same_or_not}
@@ -179,9 +179,10 @@ module _ (batch : List ℕ) where
 
 start_guards : (m : ModuleOutline) → Guards m.batch [] (script_of m)
 start_guards m =
-    plain_guards m.batch 2 (takes Shared) (choice_script m) [] (λ x more g. g) m.batch
-      (alone_guards m.batch m.batch [] (steps 3 fetches m.fetch (read_script m)) (λ t a b. plain_guards m.batch 3 fetches (read_script m) t (λ x more g. (b, g)) m.fetch (read_guards m.batch t m)),
-       read_guards m.batch [] m)
+    plain_guards m.batch 2 (takes Shared) (choice_script m) [] (λ x more g. g) m.batch (
+      alone_guards m.batch m.batch [] (steps 3 fetches m.fetch (read_script m)) (λ t a b. plain_guards m.batch 3 fetches (read_script m) t (λ x more g. (b, g)) m.fetch (read_guards m.batch t m)),
+      read_guards m.batch [] m,
+    )
 
 -- ---- courses
 
@@ -269,20 +270,20 @@ guarded_after o now (event.Take w n mode) s old is =
     let held = get_or (set now.held w (held_by now w ++ n ∷ [])) w [] in
     let later = with_hold now.locks n w (Some mode) in
     turned o now s old w is.0 later (after_deed now.there held (deed.Take mode n) None (course_of now w)) (others o now s old w is.0 n (Some mode))
-      (guard_deed o now.locks later w now.there held (deed.Take mode n) None (course_of now w) is.4 (taken_alone o now s old w is.0 n mode is.1 is.3) (old w))
+    (guard_deed o now.locks later w now.there held (deed.Take mode n) None (course_of now w) is.4 (taken_alone o now s old w is.0 n mode is.1 is.3) (old w))
 guarded_after o now (event.Free w n) s old is =
     let held = get_or (set now.held w (but n (held_by now w))) w [] in
     let later = with_hold now.locks n w None in
     turned o now s old w is.0 later (after_free o now.there held (course_of now w)) (others o now s old w is.0 n None) (guard_free o now.locks later w now.there held (course_of now w) (old w))
 guarded_after o now (event.Read w f) s old is =
     turned o now s old w is.0 now.locks (after_deed now.there (held_by now w) (deed.Read f) None (course_of now w)) (λ v other n. refl)
-      (guard_deed o now.locks now.locks w now.there (held_by now w) (deed.Read f) None (course_of now w) is.2 (λ taken alone. alone) (old w))
+    (guard_deed o now.locks now.locks w now.there (held_by now w) (deed.Read f) None (course_of now w) is.2 (λ taken alone. alone) (old w))
 guarded_after o now (event.Publish w f) s old is =
     turned o now s old w is.0 now.locks (after_deed (set now.there f true) (held_by now w) (deed.Publish f) None (course_of now w)) (λ v other n. refl)
-      (guard_deed o now.locks now.locks w (set now.there f true) (held_by now w) (deed.Publish f) None (course_of now w) is.2 (λ taken alone. alone) (old w))
+    (guard_deed o now.locks now.locks w (set now.there f true) (held_by now w) (deed.Publish f) None (course_of now w) is.2 (λ taken alone. alone) (old w))
 guarded_after o now (event.Answer w g) s old is =
     turned o now s old w is.0 now.locks (after_deed now.there (held_by now w) (deed.Answer g) (Some g) (course_of now w)) (λ v other n. refl)
-      (guard_deed o now.locks now.locks w now.there (held_by now w) (deed.Answer g) (Some g) (course_of now w) is.2 (λ taken alone. alone) (old w))
+    (guard_deed o now.locks now.locks w now.there (held_by now w) (deed.Answer g) (Some g) (course_of now w) is.2 (λ taken alone. alone) (old w))
 guarded_after o now (event.End w e) s old is = turned o now s old w is.0 now.locks idle (λ v other n. refl) tt
 
 pub guarded_first : (o : Outline) → AreGuarded o (at_first o)

@@ -1,5 +1,5 @@
 -- The files behind any fitting run lie between the start and the end of the build by one hand.
-use Rattle.std.proofs.Common.{◌≡◌, ℕ, ◌<◌, ◌⊎◌, inl, inr, Bool, true, false, not, ◌&&◌, nat_lt, List, [], find, get_or, length, map, slice_get, Option, Some, None, is_some, refl, arith, sym, ap, subst, ◌∙◌, if◌then◌else◌}
+use Rattle.std.proofs.Common.{◌≡◌, ℕ, ◌<◌, ◌⊎◌, inl, inr, Bool, true, false, not, ◌&&◌, nat_lt, List, [], find, length, map, slice_get, Option, Some, None, is_some, refl, sym, ap, subst, ◌∙◌, if◌then◌else◌}
 use Rattle.std.specs.Option.{option_map_or, option_or}
 use Rattle.std.specs.Ordering.{eq_by_cmp, nat_cmp}
 use Rattle.std.specs.Cmp.Lexicographic.{slice_cmp}
@@ -19,15 +19,15 @@ use Rattle.event_core.specs.declared.progress.Progress.TheVariants.{Waiting, Run
 use Rattle.event_core.specs.declared.entry.RunEntry.{RunEntry}
 use Rattle.build_core.specs.declared.ending.State.{State}
 use Rattle.build_core.specs.declared.ending.State.TheVariants as state
-use Rattle.run_law.specs.Closed.{Verdict, available, had_prefix, judge, missing_of, outputs_at, state_at, total_len, verdict_of_entries, verdict_of_fetch, verdict_of_goals, verdict_of_install, verdict_of_upstream}
+use Rattle.run_law.specs.Closed.{Verdict, available, had_prefix, judge, missing_of, outputs_at, state_at, total_len, verdict_of_fetch, verdict_of_goals, verdict_of_install, verdict_of_upstream}
 use Rattle.run_law.proofs.Invariants.{IsFetchFile, IsOwnFile, is_begun, outs, supply_of}
 use Rattle.run_law.specs.Given.{Extends, IsPresent, supply_by}
-use Rattle.build_core.specs.OneThread.{Supply, answer_at, is_built, lacks_artifact, most_classpath, name_of, one_thread, remote_bytes}
+use Rattle.build_core.specs.OneThread.{Supply, is_built, lacks_artifact, most_classpath, name_of, one_thread, remote_bytes}
 use Rattle.event_core.specs.Outlines.{is_listed, module_outline, outline_of}
 use Rattle.event_core.specs.Runs.{IsRunOf, answers_in, contents, goals_in, now_after}
 use Rattle.event_core.specs.Scripts.{is_there}
 use Rattle.build_core.specs.Slots.{GoalsEnd, all_answered, goal_failed, kept_of, output_too_large, run_goals}
-use Rattle.event_core.specs.Standing.{Now, first_not_built, is_done, progress_of, state_of, upstream_of}
+use Rattle.event_core.specs.Standing.{Now, is_done, progress_of, state_of, upstream_of}
 use Rattle.event_core.specs.Worlds.{AllFit, HandTold, is_good}
 use Rattle.run_law.proofs.AllAnswered.{all_answered_in}
 use Rattle.run_law.proofs.Carried.{same_name}
@@ -43,7 +43,7 @@ use Rattle.run_law.proofs.Left.{installed_all}
 use Rattle.run_law.proofs.Once.{judged_once, len_same}
 use Rattle.run_law.proofs.Owns.{late_begun, own_so}
 use Rattle.run_law.proofs.Ready.{find_nothing}
-use Rattle.run_law.proofs.ClosedFiles.{AreOwnsFit, IsLeft, IsOwnSo, IsSettled, is_skipped_state, own_at, published}
+use Rattle.run_law.proofs.ClosedFiles.{AreOwnsFit, IsLeft, IsOwnSo, is_skipped_state, own_at, published}
 use Rattle.run_law.proofs.Stored.{AllTell, get_map, none_is}
 
 -- ---- verdicts

@@ -1,16 +1,15 @@
 -- Runs that the checker computes: a list of events is a run where no event has a cause against it.
-use Rattle.std.proofs.Common.{◌≡◌, ℕ, ◌≤◌, ◌+◌, Bool, true, false, ◌&&◌, List, [], ◌∷◌, ◌++◌, length, Option, Some, None, is_none, refl, arith, sym, subst, ◌∙◌}
+use Rattle.std.proofs.Common.{◌≡◌, Bool, true, ◌&&◌, List, [], ◌∷◌, ◌++◌, Option, Some, None, is_none, refl, sym, subst}
 use Rattle.std.proofs.lemmas.Bool.{false≢true}
 use Rattle.build_core.specs.declared.event.Event.{Event}
 use Rattle.event_core.specs.declared.refused.NotEnabled.{NotEnabled}
 use Rattle.event_core.specs.declared.outline.Outline.{Outline}
-use Rattle.event_core.specs.Bounds.{events_left, most_events}
 use Rattle.event_core.specs.Causes.{cause_now}
-use Rattle.event_core.specs.Enabled.{Enabled, IsEnabled, IsRun}
+use Rattle.event_core.specs.Enabled.{Enabled, IsRun}
 use Rattle.event_core.specs.Fitting.{IsFit}
 use Rattle.event_core.specs.Standing.{Now, after, at_first, now_of}
 use Rattle.event_core.proofs.Climbs.{both}
-use Rattle.event_core.proofs.Fits.{fewer_after, fit_after, fit_first, most_first, one_more}
+use Rattle.event_core.proofs.Fits.{fit_after, fit_first, one_more}
 use Rattle.event_core.proofs.Law.{no_cause}
 
 abbrev pub no_causes : Outline → Now → List Event → Bool

@@ -114,4 +114,3 @@ abbrev HoldsAlone : Type 0
 HoldsAlone = (plan : Plan) (past : List RunEntry) (w number f n : ℕ) (m : PlanModule) (script : Script) (last : Option ℕ) → IsRunOf plan past → slice_get plan.modules number ≡ Some m
     → course_of (now_after plan past) w ≡ on_course number script last → wanted script ≡ Some f
     → is_listed n m.batch ≡ true → hold (now_after plan past).locks n w ≡ Some Exclusive
-

@@ -39,7 +39,7 @@ unfolding Enabled
 by_events o P step past [] holds run = subst (λ es. P (now_of o es)) (sym (append-nil past)) holds
 by_events o P step past (e ∷ events) holds run =
     subst (λ es. P (now_of o es)) (append_assoc past (e ∷ []) events)
-      (by_events o P step (past ++ e ∷ []) events (subst P (sym (one_more o past e)) (step (now_of o past) e holds run.0)) run.1)
+    (by_events o P step (past ++ e ∷ []) events (subst P (sym (one_more o past e)) (step (now_of o past) e holds run.0)) run.1)
 
 pub events_more : (past : List RunEntry) (e : RunEntry) → events_of (past ++ e ∷ []) ≡ events_of past ++ e.event ∷ []
 events_more [] e = refl
@@ -52,7 +52,7 @@ pub by_entries : (plan : Plan) (start : Files) (hands : ℕ → HandTold) (Q : L
 by_entries plan start hands Q step past [] holds run fits = subst Q (sym (append-nil past)) holds
 by_entries plan start hands Q step past (e ∷ rest) holds run fits =
     subst Q (append_assoc past (e ∷ []) rest)
-      (by_entries plan start hands Q step (past ++ e ∷ []) rest (step past e holds run.0 fits.0) (subst (λ es. IsRun (outline_of plan) es (events_of rest)) (sym (events_more past e)) run.1) fits.1)
+    (by_entries plan start hands Q step (past ++ e ∷ []) rest (step past e holds run.0 fits.0) (subst (λ es. IsRun (outline_of plan) es (events_of rest)) (sym (events_more past e)) run.1) fits.1)
 
 -- ---- idle workers hold nothing
 
@@ -109,10 +109,10 @@ free_after o now (event.Start w m) fit free is = λ v none. by v none (same_or_n
 free_after o now (event.Skip m) fit free is = free
 free_after o now (event.Take w n mode) fit free is =
     moved_free o now w free (after_deed now.there (get_or (set now.held w (held_by now w ++ n ∷ [])) w []) (deed.Take mode n) None (course_of now w)) (held_by now w ++ n ∷ [])
-      (deed_module now.there (get_or (set now.held w (held_by now w ++ n ∷ [])) w []) (deed.Take mode n) None (course_of now w)) (at_work (course_of now w) (deed.Take mode n) is.4)
+    (deed_module now.there (get_or (set now.held w (held_by now w ++ n ∷ [])) w []) (deed.Take mode n) None (course_of now w)) (at_work (course_of now w) (deed.Take mode n) is.4)
 free_after o now (event.Free w n) fit free is =
     moved_free o now w free (after_free o now.there (get_or (set now.held w (but n (held_by now w))) w []) (course_of now w)) (but n (held_by now w))
-      (free_module o now.there (get_or (set now.held w (but n (held_by now w))) w []) (course_of now w)) (not_held now o w n fit free is.0 is.2)
+    (free_module o now.there (get_or (set now.held w (but n (held_by now w))) w []) (course_of now w)) (not_held now o w n fit free is.0 is.2)
 free_after o now (event.Read w f) fit free is = kept_free o now w free (after_deed now.there (held_by now w) (deed.Read f) None (course_of now w)) (deed_module now.there (held_by now w) (deed.Read f) None (course_of now w))
 free_after o now (event.Publish w f) fit free is = kept_free o now w free (after_deed (set now.there f true) (held_by now w) (deed.Publish f) None (course_of now w)) (deed_module (set now.there f true) (held_by now w) (deed.Publish f) None (course_of now w))
 free_after o now (event.Answer w g) fit free is = kept_free o now w free (after_deed now.there (held_by now w) (deed.Answer g) (Some g) (course_of now w)) (deed_module now.there (held_by now w) (deed.Answer g) (Some g) (course_of now w))

@@ -124,8 +124,8 @@ pub core : Core
 core plan start remote fit present owns hands tell entries run fits complete quiet said extends =
     let supply = supply_by start remote said in
     left_once plan supply (λ number. state_of (outline_of plan) (now_after plan entries).progress number) (state_at (one_thread plan supply)) (outs plan (answers_in plan entries)) (outputs_at (one_thread plan supply)) (contents plan start entries) (one_thread plan supply).files
-      (left_by plan start remote (answers_in plan entries) said (λ number. state_of (outline_of plan) (now_after plan entries).progress number) (outs plan (answers_in plan entries)) (contents plan start entries) (left_so plan start remote fit present owns hands tell entries run fits complete quiet))
-      (hand_left plan supply fit owns) (core_ends plan start remote fit present hands tell entries run fits complete quiet said extends)
+    (left_by plan start remote (answers_in plan entries) said (λ number. state_of (outline_of plan) (now_after plan entries).progress number) (outs plan (answers_in plan entries)) (contents plan start entries) (left_so plan start remote fit present owns hands tell entries run fits complete quiet))
+    (hand_left plan supply fit owns) (core_ends plan start remote fit present hands tell entries run fits complete quiet said extends)
 
 -- and a sound plan is as it asks
 pub sound_owns : (plan : Plan) → IsSoundPlan plan → AreOwnsFit plan
@@ -133,13 +133,13 @@ sound_owns plan sound = record {
   owner = λ f a b m n at here mine own. sound.one_owner f a b m n at here mine own;
   distinct = λ number m at. (sound.modules number m at).own_files;
   low = λ f x.
-    let places = sound.places x.0 (module_outline x.1) (get_map module_outline plan.modules x.0 x.1 x.2) in
-    let low = lt_is f (length plan.present) (all_listed (λ y. nat_lt y (length plan.present)) (module_outline x.1).own places.own f x.3) in
-    let sized = sound.present in omega (arith, low, sized);
+      let places = sound.places x.0 (module_outline x.1) (get_map module_outline plan.modules x.0 x.1 x.2) in
+      let low = lt_is f (length plan.present) (all_listed (λ y. nat_lt y (length plan.present)) (module_outline x.1).own places.own f x.3) in
+      let sized = sound.present in omega (arith, low, sized);
   fetched = λ f x.
-    let places = sound.places x.0 (module_outline x.1) (get_map module_outline plan.modules x.0 x.1 x.2) in
-    let low = lt_is f (length plan.present) (all_listed (λ y. nat_lt y (length plan.present)) x.1.fetch places.fetch f x.3) in
-    let sized = sound.present in omega (arith, low, sized);
+      let places = sound.places x.0 (module_outline x.1) (get_map module_outline plan.modules x.0 x.1 x.2) in
+      let low = lt_is f (length plan.present) (all_listed (λ y. nat_lt y (length plan.present)) x.1.fetch places.fetch f x.3) in
+      let sized = sound.present in omega (arith, low, sized);
 }
 
 -- so of a sound plan: a complete, quiet run of hands that tell all leaves the repository as the build by one hand does

@@ -177,8 +177,8 @@ read_fit m = plain_fit m.fetch m.own (release_script m) reads 4 (λ x more. refl
 pub start_fit : (m : ModuleOutline) → files_fit m.fetch m.own (script_of m) ≡ true
 start_fit m =
     plain_fit m.fetch m.own (choice_script m) (takes Shared) 2 (λ x more. refl) m.batch
-      (and_is (files_fit m.fetch m.own (lock_script m)) (files_fit m.fetch m.own (read_script m))
-        (plain_fit m.fetch m.own (steps 3 fetches m.fetch (read_script m)) (takes Exclusive) 3 (λ x more. refl) m.batch (fetch_fit m.fetch m.own (read_script m) m.fetch (λ f is. is) (read_fit m))) (read_fit m))
+    (and_is (files_fit m.fetch m.own (lock_script m)) (files_fit m.fetch m.own (read_script m))
+    (plain_fit m.fetch m.own (steps 3 fetches m.fetch (read_script m)) (takes Exclusive) 3 (λ x more. refl) m.batch (fetch_fit m.fetch m.own (read_script m) m.fetch (λ f is. is) (read_fit m))) (read_fit m))
 
 -- ---- courses
 

@@ -221,8 +221,8 @@ module _ (plan : Plan) (start remote : Files) (apart : AreApart plan) (present :
     by_goals e all within is =
         (λ i. record { state = state.Ended e; outputs = outs_at plan (answers_in plan past) number m at i })
         ∙ sym (ap (verdict_of_fetch plan (supply_of start remote (answers_in plan past)) number m (outs plan (answers_in plan past))) (all_had plan start remote apart number m at (backed number m at) past behind.stored all [])
-            ∙ ap (λ b. if b then record { state = state.Ended ending.ClasspathTooLarge; outputs = [] } else verdict_of_goals m (goals_in (answers_in plan past) number m)) within
-            ∙ is)
+        ∙ ap (λ b. if b then record { state = state.Ended ending.ClasspathTooLarge; outputs = [] } else verdict_of_goals m (goals_in (answers_in plan past) number m)) within
+        ∙ is)
 
     no_answer : (has_answer (answers_in plan past) number ≡ true → ⊥) → has_answer (answers_in plan past) number ≡ false
     no_answer not = by (has_answer (answers_in plan past) number) refl
@@ -237,15 +237,15 @@ module _ (plan : Plan) (start remote : Files) (apart : AreApart plan) (present :
         let none = no_answer (λ has. false≢true (sym (behind.kept.within number m at has) ∙ long)) in
         (λ i. record { state = state.Ended ending.ClasspathTooLarge; outputs = outs_none plan (answers_in plan past) number m at none i })
         ∙ sym (ap (verdict_of_fetch plan (supply_of start remote (answers_in plan past)) number m (outs plan (answers_in plan past))) (all_had plan start remote apart number m at (backed number m at) past behind.stored all [])
-            ∙ ap (λ b. if b then record { state = state.Ended ending.ClasspathTooLarge; outputs = [] } else verdict_of_goals m (goals_in (answers_in plan past) number m)) long)
+        ∙ ap (λ b. if b then record { state = state.Ended ending.ClasspathTooLarge; outputs = [] } else verdict_of_goals m (goals_in (answers_in plan past) number m)) long)
 
     by_missing : (f : ℕ) → IsWanting o (now_after plan past).there m.fetch f → remote_bytes remote (name_of plan f) ≡ None → f < length plan.files → Judgement (ending.Missing f)
     by_missing f wanting gone low =
         let p = wanting.before in
         let absent = ap (λ x. option_or x (remote_bytes remote (name_of plan f))) (none_is (file_at start (name_of plan f)) (sym (present f low) ∙ wanting.fresh)) ∙ gone in
         let first : missing_of plan base m.fetch ≡ Some f = ap (find (λ f. not (is_some (available plan base f)))) p.split ∙ find_first (λ f. not (is_some (available plan base f))) p.passed wanting.behind f
-              (λ x l. ap not (file_had plan start remote apart number m at (backed number m at) past behind.stored x (subst (λ t. is_listed x t ≡ true) (sym p.split) (listed_front x p.passed (f ∷ wanting.behind) l)) (all_listed (is_there (now_after plan past).there) p.passed p.here x l)).1)
-              (ap (λ x. not (is_some x)) absent) in
+        (λ x l. ap not (file_had plan start remote apart number m at (backed number m at) past behind.stored x (subst (λ t. is_listed x t ≡ true) (sym p.split) (listed_front x p.passed (f ∷ wanting.behind) l)) (all_listed (is_there (now_after plan past).there) p.passed p.here x l)).1)
+        (ap (λ x. not (is_some x)) absent) in
         let none = no_answer (λ has. nothing_is f (sym (behind.kept.had number m at has) ∙ first)) in
         (λ i. record { state = state.Ended (ending.Missing f); outputs = outs_none plan (answers_in plan past) number m at none i })
         ∙ sym (ap (verdict_of_fetch plan (supply_of start remote (answers_in plan past)) number m (outs plan (answers_in plan past))) first)

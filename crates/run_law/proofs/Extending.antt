@@ -1,12 +1,11 @@
 -- A module that ended is judged the same by any answers that extend those that are kept.
-use Rattle.std.proofs.Common.{◌≡◌, ℕ, ◌+◌, ◌<◌, ◌≤◌, Bool, true, false, ◌&&◌, nat_eq, nat_le, nat_lt, List, [], find, length, Option, Some, None, is_some, refl, arith, sym, ap, subst, ◌∙◌, if◌then◌else◌}
+use Rattle.std.proofs.Common.{◌≡◌, ℕ, ◌<◌, Bool, true, false, nat_lt, List, [], find, length, Option, Some, None, is_some, refl, arith, sym, ap, ◌∙◌, if◌then◌else◌}
 use Rattle.std.proofs.lemmas.Bool.{false≢true}
 use Rattle.mvn_shared.specs.Files.{Files}
 use Rattle.build_core.specs.declared.event.Answered.{Answered}
 use Rattle.build_core.specs.declared.ending.Ending.{Ending}
 use Rattle.build_core.specs.declared.ending.Ending.TheVariants as ending
 use Rattle.goal_types.specs.declared.goal.GoalAnswer.{GoalAnswer}
-use Rattle.goal_types.specs.declared.goal.GoalAnswer.TheVariants.{Done}
 use Rattle.goal_types.specs.declared.goal.OwnBytes.{OwnBytes}
 use Rattle.build_core.specs.declared.plan.Plan.{Plan}
 use Rattle.build_core.specs.declared.plan.PlanModule.{PlanModule}
@@ -15,7 +14,7 @@ use Rattle.build_core.specs.declared.ending.State.TheVariants as state
 use Rattle.run_law.specs.Closed.{Verdict, missing_of, total_len, verdict_of_fetch, verdict_of_goals, verdict_of_install}
 use Rattle.run_law.proofs.Invariants.{supply_of}
 use Rattle.run_law.specs.Given.{Extends, is_answer, is_kept, reaches, supply_by}
-use Rattle.build_core.specs.OneThread.{Supply, answer_at, lacks_artifact, most_classpath}
+use Rattle.build_core.specs.OneThread.{answer_at, lacks_artifact, most_classpath}
 use Rattle.build_core.specs.Slots.{GoalsEnd, all_answered, goal_failed, output_too_large, run_goals}
 use Rattle.run_law.proofs.Reached.{goals_reached, is_reached}
 

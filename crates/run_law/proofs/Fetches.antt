@@ -70,7 +70,7 @@ module _ (plan : Plan) (supply : Supply) where
   prefix_in f [] behind all had = subst (λ b. is_listed f (if b then f ∷ had_prefix plan supply behind else []) ≡ true) (sym had) (listed_first f (had_prefix plan supply behind))
   prefix_in f (y ∷ passed) behind all had =
       subst (λ b. is_listed f (if b then y ∷ had_prefix plan supply (passed ++ f ∷ behind) else []) ≡ true) (sym (all y (listed_first y passed)))
-        (listed_later y f (had_prefix plan supply (passed ++ f ∷ behind)) (prefix_in f passed behind (λ x l. all x (listed_later y x passed l)) had))
+      (listed_later y f (had_prefix plan supply (passed ++ f ∷ behind)) (prefix_in f passed behind (λ x l. all x (listed_later y x passed l)) had))
 
 -- a file that is there behind a publish was there, or is this
 pub set_there : (there : List Bool) (f g : ℕ) → is_there (set there f true) g ≡ true → (is_there there g ≡ true) ⊎ (g ≡ f)
@@ -205,11 +205,15 @@ module _ (plan : Plan) (start remote : Files) (fit : IsFitPlan plan) (present : 
                     let gather : IsGathering o now.there (on_course on.0 on.1 on.2) = subst (IsGathering o now.there) on.3 (behind.gathering w) in
                     let g = gather (module_outline m) (get_map module_outline plan.modules on.0 m at) in
                     let head = wanted_head on.1 f here.0 in
-                    let passed : IsPassed now.there m.fetch (f ∷ head.0) = subst (IsPassed now.there m.fetch) head.1 g.1 in
-                    (on.0, m, at, ap is_begun (behind.standing.tied.busy w on.0 (ap module_of on.3)),
+                    let passed : IsPassed now.there m.fetch (f ∷ head.0) = subst (IsPassed now.there m.fetch) head.1 g.1 in (
+                      on.0,
+                      m,
+                      at,
+                      ap is_begun (behind.standing.tied.busy w on.0 (ap module_of on.3)),
                       subst (λ t. is_listed f (had_prefix plan base t) ≡ true) (sym passed.split)
-                        (prefix_in plan base f passed.passed head.0
-                          (λ x l. (file_had plan start remote fit.apart on.0 m at (fit.backed on.0 m at) past behind.stored x (subst (λ t. is_listed x t ≡ true) (sym passed.split) (listed_front x passed.passed (f ∷ head.0) l)) (all_listed (is_there now.there) passed.passed passed.here x l)).1) had))
+                          (prefix_in plan base f passed.passed head.0
+                          (λ x l. (file_had plan start remote fit.apart on.0 m at (fit.backed on.0 m at) past behind.stored x (subst (λ t. is_listed x t ≡ true) (sym passed.split) (listed_front x passed.passed (f ∷ head.0) l)) (all_listed (is_there now.there) passed.passed passed.here x l)).1) had),
+                    )
                 split m at (inr mine) = absurd (fit.own f (subst (IsFetchFile plan) e fetch) (on.0, m, at, mine))
 
     ended_so : (w : ℕ) (e : Ending) (what : Carried) → IsEnabled o now (event.End w e) → Fits plan (Some start) hands past (record { event = event.End w e; carried = what }) → IsFetchedSo (after o now (event.End w e))

@@ -85,8 +85,8 @@ module _ (plan : Plan) (supply : Supply) (apart : AreApart plan)
           last n e here =
               let whole : v ≡ judge plan supply (state_at after) (outputs_at after) (length done) n = ap (judge plan supply (state_at progress) (outputs_at progress) (length done)) e ∙ same (length done) n here (omega arith) in
               two (length done) (judge plan supply (state_at after) (outputs_at after) (length done) n)
-                (ap (λ xs. get_or xs (length done) Waiting) next.states ∙ get_or_push progress.states v.state Waiting (length done) so.states ∙ ap (λ (w : Verdict). w.state) whole)
-                (ap (λ xs. get_or xs (length done) []) next.outputs ∙ get_or_push progress.outputs v.outputs [] (length done) so.outputs ∙ ap (λ (w : Verdict). w.outputs) whole)
+              (ap (λ xs. get_or xs (length done) Waiting) next.states ∙ get_or_push progress.states v.state Waiting (length done) so.states ∙ ap (λ (w : Verdict). w.state) whole)
+              (ap (λ xs. get_or xs (length done) []) next.outputs ∙ get_or_push progress.outputs v.outputs [] (length done) so.outputs ∙ ap (λ (w : Verdict). w.outputs) whole)
 
           split : (number < length done) ⊎ (length done ≤ number) → ◌≡◌ {A = Verdict} (record { state = state_at after number; outputs = outputs_at after number }) (judge plan supply (state_at after) (outputs_at after) number n)
           split (inl small) =
@@ -102,7 +102,7 @@ module _ (plan : Plan) (supply : Supply) (apart : AreApart plan)
   fold_judged done (m ∷ rest) progress e so =
       let at : slice_get plan.modules (length done) ≡ Some m = ap (λ ms. slice_get ms (length done)) e ∙ at_middle done rest m in
       fold_judged (done ++ m ∷ []) rest (next_module first_unbuilt plan supply progress m) (e ∙ sym (append_assoc done (m ∷ []) rest))
-        (one_further done m progress (next_module first_unbuilt plan supply progress m) at so (next_is plan supply apart (length done) m at progress (backed (length done) m at) so.states so.answers))
+      (one_further done m progress (next_module first_unbuilt plan supply progress m) at so (next_is plan supply apart (length done) m at progress (backed (length done) m at) so.states so.answers))
 
   pub hand_judged : AreJudged plan supply (λ _. Unit {0}) (state_at (one_thread plan supply)) (outputs_at (one_thread plan supply))
   hand_judged number m at any = (fold_judged [] plan.modules (beginning supply) refl (record { states = refl; outputs = refl; answers = λ f fetch. refl; judged = λ k n here less. absurd (omega (arith, less)) })).judged number m at (in_list plan.modules number m at)

@@ -218,9 +218,10 @@ gather_free o there held (on_course number script last) fit g = by (done script 
         publishing other = false
 
     by : (found : Option Script) → done script deed.Free ≡ found → IsGathering o there (option_map_or (λ rest. on_course number (settled there (is_empty held) rest) None) found (off_course number (wanted script) (is_gathered (goals_of o number) script)))
-    by None e = λ m at. let is = g m at in
-        (λ f w. let head = wanted_head script f w in record { behind = head.0; before = subst (IsPassed there m.fetch) head.1 is.1; fresh = fit.1 f w },
-         λ all. all_here there m.fetch (pending script) is.1 (late_none m.fetch script is.0 (both (nat_lt 3 (stage_of script)) (nat_eq (answers_left script) (goals_of o number)) all).0))
+    by None e = λ m at. let is = g m at in (
+      λ f w. let head = wanted_head script f w in record { behind = head.0; before = subst (IsPassed there m.fetch) head.1 is.1; fresh = fit.1 f w },
+      λ all. all_here there m.fetch (pending script) is.1 (late_none m.fetch script is.0 (both (nat_lt 3 (stage_of script)) (nat_eq (answers_left script) (goals_of o number)) all).0),
+    )
     by (Some rest) e = gather_left o there (is_empty held) number script rest last None deed.Free e g no_publish (λ some. absurd (false≢true some))
 
 -- ---- at the start of a module
@@ -276,10 +277,11 @@ module _ (m : ModuleOutline) where
   start_tail = let t = choice_tail in (plain_shape m.fetch (takes Shared) 2 (λ x more. refl) (choice_script m) (λ e. no e) (λ x e. no e) t.0 m.batch, plain_pending m.fetch (takes Shared) 2 (λ x more. refl) (choice_script m) m.batch ∙ t.1)
 
 gather_begun : (o : Outline) (there : List Bool) (empty : Bool) (number : ℕ) → IsGathering o there (on_course number (settled there empty (start_of o number)) None)
-gather_begun o there empty number m at = subst (λ found. IsShaped m.fetch (settled there empty (option_map_or script_of found whole)) × IsPassed there m.fetch (pending (settled there empty (option_map_or script_of found whole))) × (is_some {T = ℕ} None ≡ true → pending (settled there empty (option_map_or script_of found whole)) ≡ [])) (sym at)
-    (settled_shape m.fetch there empty (script_of m) (start_tail m).0,
-     settled_passed m.fetch there empty (script_of m) (start_tail m).0 (record { passed = []; split = sym (start_tail m).1; here = refl }),
-     λ e. absurd (false≢true e))
+gather_begun o there empty number m at = subst (λ found. IsShaped m.fetch (settled there empty (option_map_or script_of found whole)) × IsPassed there m.fetch (pending (settled there empty (option_map_or script_of found whole))) × (is_some {T = ℕ} None ≡ true → pending (settled there empty (option_map_or script_of found whole)) ≡ [])) (sym at) (
+  settled_shape m.fetch there empty (script_of m) (start_tail m).0,
+  settled_passed m.fetch there empty (script_of m) (start_tail m).0 (record { passed = []; split = sym (start_tail m).1; here = refl }),
+  λ e. absurd (false≢true e),
+)
 
 -- ---- one event more
 
@@ -296,20 +298,20 @@ gathering_after o now (event.Start w m) fit g is sized = at_place (IsGathering o
 gathering_after o now (event.Skip m) fit g is sized = g
 gathering_after o now (event.Take w n mode) fit g is sized =
     at_place (IsGathering o now.there) now.courses w (after_deed now.there (get_or (set now.held w (held_by now w ++ n ∷ [])) w []) (deed.Take mode n) None (course_of now w)) idle
-      (gather_deed o now.there (get_or (set now.held w (held_by now w ++ n ∷ [])) w []) (deed.Take mode n) None (course_of now w) (no_file now.there (deed.Take mode n) refl) (λ e. absurd (false≢true e)) (g w)) g
+    (gather_deed o now.there (get_or (set now.held w (held_by now w ++ n ∷ [])) w []) (deed.Take mode n) None (course_of now w) (no_file now.there (deed.Take mode n) refl) (λ e. absurd (false≢true e)) (g w)) g
 gathering_after o now (event.Free w n) fit g is sized =
     at_place (IsGathering o now.there) now.courses w (after_free o now.there (get_or (set now.held w (but n (held_by now w))) w []) (course_of now w)) idle
-      (gather_free o now.there (get_or (set now.held w (but n (held_by now w))) w []) (course_of now w) (fit.courses w) (g w)) g
+    (gather_free o now.there (get_or (set now.held w (but n (held_by now w))) w []) (course_of now w) (fit.courses w) (g w)) g
 gathering_after o now (event.Read w f) fit g is sized =
     at_place (IsGathering o now.there) now.courses w (after_deed now.there (held_by now w) (deed.Read f) None (course_of now w)) idle
-      (gather_deed o now.there (held_by now w) (deed.Read f) None (course_of now w) (no_file now.there (deed.Read f) refl) (λ e. absurd (false≢true e)) (g w)) g
+    (gather_deed o now.there (held_by now w) (deed.Read f) None (course_of now w) (no_file now.there (deed.Read f) refl) (λ e. absurd (false≢true e)) (g w)) g
 gathering_after o now (event.Answer w a) fit g is sized =
     at_place (IsGathering o now.there) now.courses w (after_deed now.there (held_by now w) (deed.Answer a) (Some a) (course_of now w)) idle
-      (gather_deed o now.there (held_by now w) (deed.Answer a) (Some a) (course_of now w) (no_file now.there (deed.Answer a) refl) (λ e. (a, refl)) (g w)) g
+    (gather_deed o now.there (held_by now w) (deed.Answer a) (Some a) (course_of now w) (no_file now.there (deed.Answer a) refl) (λ e. (a, refl)) (g w)) g
 gathering_after o now (event.End w e) fit g is sized = at_place (IsGathering o now.there) now.courses w idle idle tt g
 gathering_after o now (event.Publish w f) fit g is sized =
     at_place (IsGathering o (set now.there f true)) now.courses w (after_deed (set now.there f true) (held_by now w) (deed.Publish f) None (course_of now w)) idle
-      (gather_deed o (set now.there f true) (held_by now w) (deed.Publish f) None (course_of now w) (λ x e. subst (λ k. is_there (set now.there f true) k ≡ true) (same x e) (get_or-set_same now.there f true false (omega (arith, is.1, sized)))) (λ e. absurd (false≢true e)) (grown w)) grown
+    (gather_deed o (set now.there f true) (held_by now w) (deed.Publish f) None (course_of now w) (λ x e. subst (λ k. is_there (set now.there f true) k ≡ true) (same x e) (get_or-set_same now.there f true false (omega (arith, is.1, sized)))) (λ e. absurd (false≢true e)) (grown w)) grown
   where
     grown : (v : ℕ) → IsGathering o (set now.there f true) (course_of now v)
     grown v = gather_grow o now.there (set now.there f true) (there_grows now.there f) (course_of now v) (g v)

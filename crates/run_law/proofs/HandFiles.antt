@@ -81,8 +81,8 @@ module _ (plan : Plan) (supply : Supply) where
           record {
             reached = λ f l. whose f (nat_eq file f) refl (subst (λ b. is_listed f (if b then file ∷ had_prefix plan supply list else []) ≡ true) can l) (ap is_some (all.kept name is.is) ∙ is.is) (again.reached f);
             apart = λ q e.
-              let e' : (f : ℕ) → is_listed f (file ∷ had_prefix plan supply list) ≡ true → Same q (name_of plan f) ≡ false = subst (λ b. (f : ℕ) → is_listed f (if b then file ∷ had_prefix plan supply list else []) ≡ true → Same q (name_of plan f) ≡ false) can e in
-              again.apart q (λ f l. e' f (listed_later file f (had_prefix plan supply list) l)) ∙ others q (e' file (listed_first file (had_prefix plan supply list)));
+                let e' : (f : ℕ) → is_listed f (file ∷ had_prefix plan supply list) ≡ true → Same q (name_of plan f) ≡ false = subst (λ b. (f : ℕ) → is_listed f (if b then file ∷ had_prefix plan supply list else []) ≡ true → Same q (name_of plan f) ≡ false) can e in
+                again.apart q (λ f l. e' f (listed_later file f (had_prefix plan supply list) l)) ∙ others q (e' file (listed_first file (had_prefix plan supply list)));
           }
         where
           whose : (f : ℕ) (b : Bool) → nat_eq file f ≡ b → (b || is_listed f (had_prefix plan supply list)) ≡ true → is_some (file_at (fetched plan supply.remote list more).files name) ≡ true
@@ -146,12 +146,12 @@ module _ (plan : Plan) (m : PlanModule) (own : List OwnBytes) where
             → file_at (fold (put_own plan m own) (put_own plan m own files o) list) (name_of plan f) ≡ option_or (option_and_then (λ (o : OwnFile). own_bytes m own o.slot) (if b then Some o else find (λ (o : OwnFile). nat_eq o.file f) list)) (file_at files (name_of plan f))
         by true e l again =
             subst (λ x. file_at (fold (put_own plan m own) (put_own plan m own files o) list) (name_of plan x) ≡ option_or (own_bytes m own o.slot) (file_at files (name_of plan x))) (eqb-true o.file f e)
-              (install_other list (put_own plan m own files o) (name_of plan o.file)
-                (λ g l. names_apart o.file g first_low (low g (listed_later o.file g rest l)) (λ same. false≢true (sym (not_in o.file rest distinct.0 g l) ∙ eq-eqb o.file g same)))
-               ∙ put_here files o)
+            (install_other list (put_own plan m own files o) (name_of plan o.file)
+            (λ g l. names_apart o.file g first_low (low g (listed_later o.file g rest l)) (λ same. false≢true (sym (not_in o.file rest distinct.0 g l) ∙ eq-eqb o.file g same)))
+            ∙ put_here files o)
         by false e l again =
             again l ∙ ap (option_or (option_and_then (λ (o : OwnFile). own_bytes m own o.slot) (find (λ (o : OwnFile). nat_eq o.file f) list)))
-              (put_other files o (name_of plan f) (names_apart f o.file (low f (listed_later o.file f rest l)) first_low (λ same. false≢true (sym e ∙ eq-eqb o.file f (sym same)))))
+            (put_other files o (name_of plan f) (names_apart f o.file (low f (listed_later o.file f rest l)) first_low (λ same. false≢true (sym e ∙ eq-eqb o.file f (sym same)))))
 
 -- ---- a module
 
@@ -353,21 +353,21 @@ module _ (plan : Plan) (supply : Supply) (fit : IsFitPlan plan) (owns : AreOwnsF
             nf.own f mine
             ∙ ap (option_or (if is_built v.state && m.installs then own_at m v.outputs f else None)) (left.own (length done) f m at mine ∙ ap (λ s. option_or (if is_built s && m.installs then own_at m (outputs_at progress (length done)) f else None) (file_at supply.start (name_of plan f))) waits)
             ∙ sym (ap (λ s. option_or (if is_built s && m.installs then own_at m (outputs_at after (length done)) f else None) (file_at supply.start (name_of plan f))) new_state
-                ∙ ap (λ own. option_or (if is_built v.state && m.installs then own_at m own f else None) (file_at supply.start (name_of plan f))) new_outputs)
+            ∙ ap (λ own. option_or (if is_built v.state && m.installs then own_at m own f else None) (file_at supply.start (name_of plan f))) new_outputs)
 
         by : (number ≡ length done) ⊎ ((number ≡ length done) → ⊥) → file_at after.files (name_of plan f) ≡ option_or (if is_built (state_at after number) && n.installs then own_at n (outputs_at after number) f else None) (file_at supply.start (name_of plan f))
         by (inl e) =
             let same : m ≡ n = ap (λ o. unwrap_or o n) (sym (subst (λ k. slice_get plan.modules k ≡ Some m) (sym e) at) ∙ here) in
             subst (λ k. file_at after.files (name_of plan f) ≡ option_or (if is_built (state_at after k) && n.installs then own_at n (outputs_at after k) f else None) (file_at supply.start (name_of plan f))) (sym e)
-              (subst (λ (x : PlanModule). file_at after.files (name_of plan f) ≡ option_or (if is_built (state_at after (length done)) && x.installs then own_at x (outputs_at after (length done)) f else None) (file_at supply.start (name_of plan f))) same
-                (last (subst (λ (x : PlanModule). is_listed f (map (λ (o : OwnFile). o.file) x.own) ≡ true) (sym same) mine)))
+            (subst (λ (x : PlanModule). file_at after.files (name_of plan f) ≡ option_or (if is_built (state_at after (length done)) && x.installs then own_at x (outputs_at after (length done)) f else None) (file_at supply.start (name_of plan f))) same
+            (last (subst (λ (x : PlanModule). is_listed f (map (λ (o : OwnFile). o.file) x.own) ≡ true) (sym same) mine)))
         by (inr other) =
             nf.other (name_of plan f)
-              (λ g l. let fetch : IsFetchFile plan g = (length done, m, at, l) in names_apart plan m [] fit.differ f g (owns.low f (number, n, here, mine)) (owns.fetched g fetch) (λ same. apart_own g f fetch (number, n, here, mine) (sym same)))
-              (λ g l. names_apart plan m [] fit.differ f g (owns.low f (number, n, here, mine)) (owns.low g (length done, m, at, l)) (λ same. other (owns.owner f number (length done) n m here at mine (subst (λ x. is_listed x (map (λ (o : OwnFile). o.file) m.own) ≡ true) (sym same) l))))
+            (λ g l. let fetch : IsFetchFile plan g = (length done, m, at, l) in names_apart plan m [] fit.differ f g (owns.low f (number, n, here, mine)) (owns.fetched g fetch) (λ same. apart_own g f fetch (number, n, here, mine) (sym same)))
+            (λ g l. names_apart plan m [] fit.differ f g (owns.low f (number, n, here, mine)) (owns.low g (length done, m, at, l)) (λ same. other (owns.owner f number (length done) n m here at mine (subst (λ x. is_listed x (map (λ (o : OwnFile). o.file) m.own) ≡ true) (sym same) l))))
             ∙ left.own number f n here mine
             ∙ sym (ap (λ s. option_or (if is_built s && n.installs then own_at n (outputs_at after number) f else None) (file_at supply.start (name_of plan f))) (old_state number other)
-                ∙ ap (λ own. option_or (if is_built (state_at progress number) && n.installs then own_at n own f else None) (file_at supply.start (name_of plan f))) (old_outputs number other))
+            ∙ ap (λ own. option_or (if is_built (state_at progress number) && n.installs then own_at n own f else None) (file_at supply.start (name_of plan f))) (old_outputs number other))
 
     left_further : IsLeftFar (done ++ m ∷ []) after
     left_further = record {
@@ -384,8 +384,8 @@ module _ (plan : Plan) (supply : Supply) (fit : IsFitPlan plan) (owns : AreOwnsF
       let at : slice_get plan.modules (length done) ≡ Some m = ap (λ ms. slice_get ms (length done)) e ∙ at_middle done rest m in
       let next = next_is plan supply fit.apart (length done) m at progress (fit.backed (length done) m at) so.states so.answers in
       fold_left (done ++ m ∷ []) rest (next_module first_unbuilt plan supply progress m) (e ∙ sym (append_assoc done (m ∷ []) rest))
-        (one_further plan supply fit.apart fit.low fit.backed done m progress (next_module first_unbuilt plan supply progress m) at so next)
-        (left_further done m progress (next_module first_unbuilt plan supply progress m) at so left (judge plan supply (state_at progress) (outputs_at progress) (length done) m) next (next_files (length done) m at progress so.states so.answers))
+      (one_further plan supply fit.apart fit.low fit.backed done m progress (next_module first_unbuilt plan supply progress m) at so next)
+      (left_further done m progress (next_module first_unbuilt plan supply progress m) at so left (judge plan supply (state_at progress) (outputs_at progress) (length done) m) next (next_files (length done) m at progress so.states so.answers))
 
   some_same : (x y : Option (List ℕ)) → is_some x ≡ true → x ≡ option_or x y
   some_same (Some b) y is = refl

@@ -90,7 +90,7 @@ module _ (plan : Plan) (start remote : Files) (fit : IsFitPlan plan) (present : 
         courses = subst (AreCoursesFit o) (sym next) (courses_after o (now_after plan past) e.event behind.courses);
         stored = subst (λ now. IsStored plan base now (contents plan start (past ++ e ∷ []))) (sym next)
             (subst (IsStored plan base (after o (now_after plan past) e.event)) (sym files)
-              (stored_after plan base fit.differ fit.own present (now_after plan past) (contents plan start past) e.event e.carried behind.standing behind.courses fit.sized behind.stored is (brings_of plan base fit.differ fit.own present hands tell past e.event e.carried fits)));
+            (stored_after plan base fit.differ fit.own present (now_after plan past) (contents plan start past) e.event e.carried behind.standing behind.courses fit.sized behind.stored is (brings_of plan base fit.differ fit.own present hands tell past e.event e.carried fits)));
         ordered = subst (IsOrdered o) (sym next) (ordered_after o (now_after plan past) e.event behind.standing behind.ordered is);
         gathering = subst (AreGathering o) (sym next) (gathering_after o (now_after plan past) e.event behind.courses behind.gathering is long);
         kept = subst (λ now. AreKept plan start remote now (answers_in plan (past ++ e ∷ []))) (sym next) (subst (AreKept plan start remote (after o (now_after plan past) e.event)) (sym (answers_more plan past e)) kept.0);
@@ -231,9 +231,9 @@ module _ (plan : Plan) (start remote : Files) (fit : IsFitPlan plan) (present : 
   isolation P entries run fits complete said extends quiet up number m at holds =
       let supply = supply_by start remote said in
       judged_once plan supply P (run_state entries) (state_at (one_thread plan supply)) (outs plan (answers_in plan entries)) (outputs_at (one_thread plan supply))
-        (λ k u n here l. (fit.low k u n here l, up k u n here l)) real fit.backed
-        (λ k n here p. run_judged entries (behind_all entries run fits) complete said extends (all_answered_in plan start hands entries run fits) k n here (quiet k p))
-        (λ k n here p. hand_judged plan supply fit.apart fit.low fit.backed k n here tt) number m at holds
+      (λ k u n here l. (fit.low k u n here l, up k u n here l)) real fit.backed
+      (λ k n here p. run_judged entries (behind_all entries run fits) complete said extends (all_answered_in plan start hands entries run fits) k n here (quiet k p))
+      (λ k n here p. hand_judged plan supply fit.apart fit.low fit.backed k n here tt) number m at holds
 
 -- ---- quiet runs
 
@@ -287,7 +287,7 @@ quiet_from plan past [] all quiet = subst (λ es. AllQuiet (now_after plan es)) 
 quiet_from plan past (e ∷ rest) all quiet =
     let parts = both (is_quiet_event e.event) (list_all (λ (e : RunEntry). is_quiet_event e.event) rest) quiet in
     subst (λ es. AllQuiet (now_after plan es)) (append_assoc past (e ∷ []) rest)
-      (quiet_from plan (past ++ e ∷ []) rest (subst AllQuiet (sym (ap (now_of (outline_of plan)) (events_more past e) ∙ one_more (outline_of plan) (events_of past) e.event)) (λ number x is. by number x parts.0 (ended_or (outline_of plan) (now_after plan past) e.event number x is))) parts.1)
+    (quiet_from plan (past ++ e ∷ []) rest (subst AllQuiet (sym (ap (now_of (outline_of plan)) (events_more past e) ∙ one_more (outline_of plan) (events_of past) e.event)) (λ number x is. by number x parts.0 (ended_or (outline_of plan) (now_after plan past) e.event number x is))) parts.1)
   where
     by : (number : ℕ) (x : Ending) → is_quiet_event e.event ≡ true → (progress_of (now_after plan past).progress number ≡ Ended x) ⊎ ((w : ℕ) × (e.event ≡ event.End w x)) → is_quiet_end x ≡ true
     by number x q (inl old) = all number x old

@@ -1,5 +1,5 @@
 -- What holds at the moments of a run, and from one to a later.
-use Rattle.std.proofs.Common.{Bool, List, None, Option, Some, ℕ, [], ap, arith, false, find, get_or, if◌then◌else◌, inl, inr, is_some, length, map, nat_eq, refl, set, slice_get, subst, sym, true, unwrap_or, ◌++◌, ◌+◌, ◌<◌, ◌||◌, ◌∙◌, ◌∷◌, ◌≡◌, ◌≤◌, ◌⊎◌}
+use Rattle.std.proofs.Common.{Bool, List, None, Option, Some, ℕ, [], ap, false, find, if◌then◌else◌, inl, inr, is_some, length, map, refl, slice_get, subst, sym, true, unwrap_or, ◌++◌, ◌<◌, ◌||◌, ◌∙◌, ◌∷◌, ◌≡◌, ◌⊎◌}
 use Rattle.std.specs.Option.{option_map_or}
 use Rattle.std.specs.Ordering.{eq_by_cmp, nat_cmp}
 use Rattle.std.specs.Cmp.Lexicographic.{slice_cmp}
@@ -10,7 +10,6 @@ use Rattle.build_core.specs.declared.event.Answered.{Answered}
 use Rattle.event_core.specs.declared.entry.Carried.{Carried}
 use Rattle.event_core.specs.declared.entry.Carried.TheVariants as carried
 use Rattle.event_core.specs.declared.deed.Deed.TheVariants as deed
-use Rattle.build_core.specs.declared.ending.Ending.{Ending}
 use Rattle.build_core.specs.declared.event.Event.{Event}
 use Rattle.build_core.specs.declared.event.Event.TheVariants as event
 use Rattle.name_locks.specs.declared.mode.Mode.TheVariants.{Exclusive}
@@ -18,13 +17,12 @@ use Rattle.event_core.specs.declared.outline.Outline.{Outline}
 use Rattle.build_core.specs.declared.plan.OwnFile.{OwnFile}
 use Rattle.build_core.specs.declared.plan.Plan.{Plan}
 use Rattle.build_core.specs.declared.plan.PlanModule.{PlanModule}
-use Rattle.event_core.specs.declared.progress.Progress.{Progress}
 use Rattle.event_core.specs.declared.entry.RunEntry.{RunEntry}
 use Rattle.event_core.specs.Enabled.{Enabled, IsEnabled, IsRun, is_due}
-use Rattle.run_law.specs.Given.{Extends, Given, IsBetween, IsCover, IsFitting, MayStand, is_answer, outputs_after, supply_by}
-use Rattle.run_law.proofs.Invariants.{IsFetchFile, IsOwnFile, files_fit, outs}
+use Rattle.run_law.specs.Given.{Extends, Given, IsBetween, IsCover, IsFitting, is_answer, outputs_after}
+use Rattle.run_law.proofs.Invariants.{IsFetchFile, IsOwnFile, files_fit}
 use Rattle.name_locks.specs.Locks.{hold}
-use Rattle.build_core.specs.OneThread.{Supply, answer_at, name_of, one_thread}
+use Rattle.build_core.specs.OneThread.{answer_at, name_of}
 use Rattle.event_core.specs.Outlines.{is_listed, module_outline, outline_of}
 use Rattle.event_core.specs.Runs.{IsComplete, IsRunOf, answers_from, answers_in, contents, events_of, kept_by, module_by, now_after}
 use Rattle.event_core.specs.Scripts.{Script, is_there, wanted}
@@ -33,7 +31,7 @@ use Rattle.event_core.specs.Standing.{Now, after, course_of, is_over, module_of,
 use Rattle.event_core.specs.Worlds.{AllFit, HandTold, publishes, was_published}
 use Rattle.run_law.proofs.Absent.{Stands, found, stands}
 use Rattle.run_law.proofs.Alone.{holds_now}
-use Rattle.run_law.proofs.Betweens.{fetch_has, fetch_none, lies, name_other, own, own_put, there_or}
+use Rattle.run_law.proofs.Betweens.{fetch_has, fetch_none, name_other, own, own_put, there_or}
 use Rattle.run_law.proofs.Carried.{same_name}
 use Rattle.run_law.proofs.Complete.{IsStanding, by_events, events_more, no_further, standing}
 use Rattle.run_law.proofs.Contents.{module_or_not, name_or_not, sound_owns}
@@ -131,9 +129,10 @@ module _ (plan : Plan) (number : ℕ) where
       let stays : progress_of (now_after plan (past ++ e ∷ [])).progress number ≡ progress_of (now_after plan past).progress number = ap (λ (now : Now). progress_of now.progress number) (next_is past e) ∙ over_stays o (now_after plan past) e.event s more.0 number over in
       let same : answer_at (answers_in plan (past ++ e ∷ [])) number ≡ answer_at (answers_in plan past) number = ap (λ xs. answer_at xs number) (answers_split plan [] past (e ∷ []) ∙ ap (λ xs. answers_in plan past ++ xs) (append-nil (kept_by plan past e.event e.carried))) ∙ kept_other past s over (answers_in plan past) e.event e.carried in
       let follows : IsRunOf plan (past ++ e ∷ []) = longer past e run more.0 in
-      let rest' = keeps (past ++ e ∷ []) rest follows (subst (λ es. IsRun o es (events_of rest)) (sym (events_more past e)) more.1) (ap is_over stays ∙ over) in
-      (ap (λ es. progress_of (now_after plan es).progress number) (sym (append_assoc past (e ∷ []) rest)) ∙ rest'.0 ∙ stays,
-       ap (λ es. answer_at (answers_in plan es) number) (sym (append_assoc past (e ∷ []) rest)) ∙ rest'.1 ∙ same)
+      let rest' = keeps (past ++ e ∷ []) rest follows (subst (λ es. IsRun o es (events_of rest)) (sym (events_more past e)) more.1) (ap is_over stays ∙ over) in (
+        ap (λ es. progress_of (now_after plan es).progress number) (sym (append_assoc past (e ∷ []) rest)) ∙ rest'.0 ∙ stays,
+        ap (λ es. answer_at (answers_in plan es) number) (sym (append_assoc past (e ∷ []) rest)) ∙ rest'.1 ∙ same,
+      )
     where
       grow : (before es : List Event) (x : Event) → IsRun o before es → Enabled o (before ++ es) x → IsRun o before (es ++ x ∷ [])
       grow before [] x run is = (subst (λ t. Enabled o t x) (append-nil before) is, tt)
@@ -226,7 +225,7 @@ there_after o now f (event.End w x) there is = there
 there_stays : (plan : Plan) (past rest : List RunEntry) (f : ℕ) → IsRun (outline_of plan) (events_of past) (events_of rest) → is_there (now_after plan past).there f ≡ true → is_there (now_after plan (past ++ rest)).there f ≡ true
 there_stays plan past rest f run there =
     subst (λ es. is_there (now_of (outline_of plan) es).there f ≡ true) (sym (events_append past rest))
-      (by_events (outline_of plan) (λ (now : Now). is_there now.there f ≡ true) (λ now e there is. there_after (outline_of plan) now f e there is) (events_of past) (events_of rest) there run)
+    (by_events (outline_of plan) (λ (now : Now). is_there now.there f ≡ true) (λ now e there is. there_after (outline_of plan) now f e there is) (events_of past) (events_of rest) there run)
 
 put_stays : (past rest : List RunEntry) (f : ℕ) → was_published past f ≡ true → was_published (past ++ rest) f ≡ true
 put_stays [] rest f is = absurd (false≢true is)
@@ -277,14 +276,14 @@ module _ (g : Given) (past rest : List RunEntry) (fitting : IsFitting g (past ++
       let two = there_or g.plan g.start g.remote fit fitting.present owns (told g) (all_told g fitting.tell) all fitting.follows (fits_all g all fitting) said (extends_itself (answers_in g.plan all)) f fetch in
       let later = two.0 (there_stays g.plan past rest f (front g.plan past rest fitting.follows).1 (one.1 e)) in
       inr (fetch_has g.plan g.start g.remote fit before.present owns (told g) (all_told g before.tell) past before.follows (fits_all g past before) said extends f fetch e
-        ∙ sym (fetch_has g.plan g.start g.remote fit fitting.present owns (told g) (all_told g fitting.tell) all fitting.follows (fits_all g all fitting) said (extends_itself (answers_in g.plan all)) f fetch later))
+      ∙ sym (fetch_has g.plan g.start g.remote fit fitting.present owns (told g) (all_told g fitting.tell) all fitting.follows (fits_all g all fitting) said (extends_itself (answers_in g.plan all)) f fetch later))
   fetch_moment f fetch false e =
       inl (fetch_none g.plan g.start g.remote fit before.present owns (told g) (all_told g before.tell) past before.follows (fits_all g past before) said extends f fetch e)
 
   own_moment : (f : ℕ) → IsOwnFile g.plan f → (b : Bool) → was_published past f ≡ b → (had (name_of g.plan f) ≡ file_at g.start (name_of g.plan f)) ⊎ (had (name_of g.plan f) ≡ has (name_of g.plan f))
   own_moment f x true e =
       inr (own_put g.plan g.start g.remote fit before.present owns (told g) (all_told g before.tell) past before.follows (fits_all g past before) said extends x.0 f x.1 x.2 x.3 e
-        ∙ sym (own_put g.plan g.start g.remote fit fitting.present owns (told g) (all_told g fitting.tell) all fitting.follows (fits_all g all fitting) said (extends_itself (answers_in g.plan all)) x.0 f x.1 x.2 x.3 (put_stays past rest f e)))
+      ∙ sym (own_put g.plan g.start g.remote fit fitting.present owns (told g) (all_told g fitting.tell) all fitting.follows (fits_all g all fitting) said (extends_itself (answers_in g.plan all)) x.0 f x.1 x.2 x.3 (put_stays past rest f e)))
   own_moment f x false e = inl ((own g.plan g.start g.remote fit before.present owns (told g) (all_told g before.tell) past before.follows (fits_all g past before) said extends).fresh f x e)
 
   pub moment_between : IsBetween g.start (contents g.plan g.start all) (contents g.plan g.start past)

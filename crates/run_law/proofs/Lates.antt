@@ -236,7 +236,7 @@ read_owns m = plain_owns m.installs (release_script m) reads 4 (λ x more. refl)
 start_owns : (m : ModuleOutline) → owns_late m.installs (script_of m) ≡ true
 start_owns m = plain_owns m.installs (choice_script m) (takes Shared) 2 (λ x more. refl) m.batch
     (and_is (owns_late m.installs (lock_script m)) (owns_late m.installs (read_script m))
-      (plain_owns m.installs (steps 3 fetches m.fetch (read_script m)) (takes Exclusive) 3 (λ x more. refl) m.batch (plain_owns m.installs (read_script m) fetches 3 (λ x more. refl) m.fetch (read_owns m))) (read_owns m))
+    (plain_owns m.installs (steps 3 fetches m.fetch (read_script m)) (takes Exclusive) 3 (λ x more. refl) m.batch (plain_owns m.installs (read_script m) fetches 3 (λ x more. refl) m.fetch (read_owns m))) (read_owns m))
 
 -- ---- courses
 
@@ -390,8 +390,11 @@ module _ (o : Outline) (now : Now) (s : IsStanding o now) (number v : ℕ) (run 
       by : (v ≡ w) ⊎ ((v ≡ w) → ⊥) → IsLateAt (record now { progress = ended (module_of (course_of now w)) x now.progress; courses = set now.courses w idle }) number
       by (inl e) =
           let mine : module_of (course_of now w) ≡ Some number = subst (λ k. module_of (course_of now k) ≡ Some number) e whose.1 in
-          inr (x, ap (λ found. progress_of (ended found x now.progress) number) mine ∙ get_or-set_same now.progress number (Ended x) Waiting (let low = s.tied.real v number whose.1 in let rows = s.fit.modules in omega (arith, low, rows)),
-            late_ends o (course_of now w) x (subst (λ k. IsLate (course_of now k)) e late) is.3)
+          inr (
+            x,
+            ap (λ found. progress_of (ended found x now.progress) number) mine ∙ get_or-set_same now.progress number (Ended x) Waiting (let low = s.tied.real v number whose.1 in let rows = s.fit.modules in omega (arith, low, rows)),
+            late_ends o (course_of now w) x (subst (λ k. IsLate (course_of now k)) e late) is.3,
+          )
       by (inr other) = inl (v, at (module_of (course_of now w)) refl, subst IsLate (sym (get_or-set_other now.courses w v idle idle other)) late)
         where
           at : (found : Option ℕ) → module_of (course_of now w) ≡ found → progress_of (ended found x now.progress) number ≡ Running v
@@ -422,10 +425,15 @@ late_begins o now w f number m s owns is whose at other = by (course_of now w) r
         at_done None d some = absurd (false≢true some)
         at_done (Some rest) d some =
             let left = own_due m.installs script f rest (own m (subst (λ k. slice_get o.modules k ≡ Some m) (sym same) at)) (λ w. other script last (e ∙ ap (λ k. on_course k script last) same) w) d in
-            let low : w < length now.courses = let ways = s.fit.ways in omega (arith, is.0, ways) in
-            (inl (w, s.tied.busy w number whose,
+            let low : w < length now.courses = let ways = s.fit.ways in omega (arith, is.0, ways) in (
+              inl (
+                w,
+                s.tied.busy w number whose,
                 subst IsLate (sym (get_or-set_same now.courses w (after_deed (set now.there f true) (held_by now w) (deed.Publish f) None (course_of now w)) idle low
                     ∙ ap (after_deed (set now.there f true) (held_by now w) (deed.Publish f) None) e
                     ∙ ap (λ found. option_map_or (λ rest. on_course n (settled (set now.there f true) (is_empty (held_by now w)) rest) None) found (on_course n script last)) d))
-                  (late_settled (set now.there f true) (is_empty (held_by now w)) rest left.1, refl)),
-             left.2, λ script' last' e'. subst (λ t. is_late t ≡ true) (ap script_in (sym e ∙ e')) left.0)
+                    (late_settled (set now.there f true) (is_empty (held_by now w)) rest left.1, refl),
+              ),
+              left.2,
+              λ script' last' e'. subst (λ t. is_late t ≡ true) (ap script_in (sym e ∙ e')) left.0,
+            )

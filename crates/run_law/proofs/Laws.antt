@@ -1,10 +1,9 @@
 -- The laws of runs.
-use Rattle.std.proofs.Common.{Bool, List, None, Option, Some, ℕ, [], ap, arith, false, find, fold, get_or, inl, inr, is_some, length, map, refl, slice_get, subst, suc, sym, true, unwrap_or, zero, ◌++◌, ◌+◌, ◌<◌, ◌∙◌, ◌∷◌, ◌≡◌, ◌≤◌, ◌⊎◌}
-use Rattle.std.specs.List.{slice_index_or}
+use Rattle.std.proofs.Common.{List, None, Option, Some, ℕ, [], ap, arith, false, get_or, inl, inr, is_some, length, refl, slice_get, subst, suc, sym, true, unwrap_or, zero, ◌++◌, ◌<◌, ◌∙◌, ◌∷◌, ◌≡◌, ◌≤◌, ◌⊎◌}
 use Rattle.std.specs.Option.{option_map_or}
 use Rattle.std.proofs.lemmas.Bool.{false≢true}
-use Rattle.std.proofs.lemmas.List.{append-nil, ext_get_or, get_or-map, get_or_append_left, get_or_push}
-use Rattle.mvn_shared.specs.Files.{Files, file_at}
+use Rattle.std.proofs.lemmas.List.{ext_get_or, get_or-map, get_or_append_left, get_or_push}
+use Rattle.mvn_shared.specs.Files.{Files}
 use Rattle.build_core.specs.declared.event.Answered.{Answered}
 use Rattle.build_core.specs.declared.ending.Ending.{Ending}
 use Rattle.build_core.specs.declared.ending.Ending.TheVariants as ending
@@ -18,14 +17,14 @@ use Rattle.event_core.specs.declared.entry.RunEntry.{RunEntry}
 use Rattle.build_core.specs.declared.ending.State.{State}
 use Rattle.build_core.specs.declared.ending.State.TheVariants as state
 use Rattle.run_law.specs.Closed.{AreJudged, outputs_at, state_at}
-use Rattle.run_law.specs.Given.{AllTell, Answers, Extends, Given, IsBetween, IsFitting, IsUntouched, IsWhole, MayStand, is_fault, is_kept, one_hand, outputs_after, reaches, state_after, states_after, supply_by, untouched}
+use Rattle.run_law.specs.Given.{Answers, Extends, Given, IsBetween, IsFitting, IsUntouched, IsWhole, is_fault, is_kept, one_hand, outputs_after, reaches, state_after, states_after, supply_by, untouched}
 use Rattle.run_law.proofs.Invariants.{is_quiet_end, outs}
 use Rattle.name_locks.specs.Locks.{below}
 use Rattle.build_core.specs.OneThread.{Supply, beginning, one_thread}
 use Rattle.event_core.specs.Outlines.{is_listed, module_outline, outline_of}
 use Rattle.event_core.specs.Runs.{IsComplete, answers_in, contents, now_after, outputs_from, outputs_in}
 use Rattle.event_core.specs.SoundPlans.{IsSoundPlan}
-use Rattle.event_core.specs.Standing.{first_lost, progress_of, state_of, upstream_of}
+use Rattle.event_core.specs.Standing.{first_lost, progress_of}
 use Rattle.run_law.proofs.Betweens.{lies}
 use Rattle.run_law.proofs.JudgedRuns.{IsFitPlan, behind_all, core_ends, isolation, run_judged}
 use Rattle.run_law.proofs.Contents.{core, sound_owns}
@@ -133,7 +132,7 @@ judged_alike plan supply sound states states' outputs outputs' one two number lo
     let fit = sound_fit plan sound in
     let m = get_in plan.modules number low in
     judged_once plan supply (λ number. Unit {0}) states states' outputs outputs' (λ k u n here l. (fit.low k u n here l, λ any. tt))
-      (λ k u n here less. get_in plan.modules u (let inside = in_list plan.modules k n here in omega (arith, less, inside))) fit.backed one two number m.0 m.1 tt
+    (λ k u n here less. get_in plan.modules u (let inside = in_list plan.modules k n here in omega (arith, less, inside))) fit.backed one two number m.0 m.1 tt
 
 -- ---- run confluence
 
@@ -200,8 +199,8 @@ module _ (g : Given) (run : List RunEntry) (said : Answers) (fitting : IsFitting
       judged number m at not =
           let fit = sound_fit g.plan fitting.sound in
           run_judged g.plan g.start g.remote fit fitting.present (told g) (all_told g fitting.tell) run
-            (behind_all g.plan g.start g.remote fit fitting.present (told g) (all_told g fitting.tell) run fitting.follows (fits_all g run fitting)) complete said extends
-            (all_answered_in g.plan g.start (told g) run fitting.follows (fits_all g run fitting)) number m at (λ e is. quiet_of e (ap is_fault (sym (ended_is g.plan run number e is)) ∙ not))
+          (behind_all g.plan g.start g.remote fit fitting.present (told g) (all_told g fitting.tell) run fitting.follows (fits_all g run fitting)) complete said extends
+          (all_answered_in g.plan g.start (told g) run fitting.follows (fits_all g run fitting)) number m at (λ e is. quiet_of e (ap is_fault (sym (ended_is g.plan run number e is)) ∙ not))
 
   -- the files, also of runs that aren't complete
   pub files_between : IsBetween g.start (one_hand g said).files (contents g.plan g.start run)

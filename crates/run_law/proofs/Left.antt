@@ -73,7 +73,7 @@ put_more m own done more grows [] all = refl
 put_more m own done more grows (o ∷ list) all =
     let parts = both (not (is_some (own_bytes m own o.slot)) || done o.file) (all_put m own done list) all in
     and_is (not (is_some (own_bytes m own o.slot)) || more o.file) (all_put m own more list)
-      (or_map (not (is_some (own_bytes m own o.slot))) (done o.file) (more o.file) parts.0 (grows o.file)) (put_more m own done more grows list parts.1)
+    (or_map (not (is_some (own_bytes m own o.slot))) (done o.file) (more o.file) parts.0 (grows o.file)) (put_more m own done more grows list parts.1)
 
 -- a file that isn't done has no bytes
 put_none : (m : PlanModule) (own : List OwnBytes) (done : ℕ → Bool) (f : ℕ) → done f ≡ false → (list : List OwnFile) → all_put m own done list ≡ true → option_and_then (λ (o : OwnFile). own_bytes m own o.slot) (find (λ (o : OwnFile). nat_eq o.file f) list) ≡ None
@@ -164,8 +164,8 @@ module _ (plan : Plan) (start remote : Files) (fit : IsFitPlan plan) (present : 
         → (not m.installs || all_put m (outs plan (old ++ kept_by plan past e what) number) (λ f. published past f || worlds.publishes f e) m.own) ≡ true
     was_built e what is number m at built =
         or_map (not m.installs) (all_put m (outs plan old number) (published past) m.own) (all_put m (outs plan (old ++ kept_by plan past e what) number) (λ f. published past f || worlds.publishes f e) m.own) (installed number m at built)
-          (λ all. subst (λ own. all_put m own (λ f. published past f || worlds.publishes f e) m.own ≡ true) (sym (outs_same plan old (old ++ kept_by plan past e what) number (over_answers e what is number (ap is_over built))))
-            (put_more m (outs plan old number) (published past) (λ f. published past f || worlds.publishes f e) (λ f done. or_left (published past f) (worlds.publishes f e) done) m.own all))
+        (λ all. subst (λ own. all_put m own (λ f. published past f || worlds.publishes f e) m.own ≡ true) (sym (outs_same plan old (old ++ kept_by plan past e what) number (over_answers e what is number (ap is_over built))))
+        (put_more m (outs plan old number) (published past) (λ f. published past f || worlds.publishes f e) (λ f done. or_left (published past f) (worlds.publishes f e) done) m.own all))
 
     abbrev IsBuiltSo : Event → Carried → Type 0
     IsBuiltSo e what = AreInstalled (after o now e) (old ++ kept_by plan past e what) (λ f. published past f || worlds.publishes f e)
@@ -196,8 +196,8 @@ module _ (plan : Plan) (start remote : Files) (fit : IsFitPlan plan) (present : 
             let told : FitsEnd (stood plan (Some start) past number m) (hands w) x = behind_of plan start remote fit.apart present fit.backed fit.sized hands (λ w. (tell w).1) past behind w number m (event.End w x) what mine at fits.1 in
             let fine : FitsEnd (stood plan (Some start) past number m) (hands w) ending.Built = subst (FitsEnd (stood plan (Some start) past number m) (hands w)) alike told in
             or_map (not m.installs) (all_put m (kept_of (goals_in old number m)) (published past) m.own) (all_put m (outs plan (old ++ []) number) (λ f. published past f || false) m.own) fine.2
-              (λ all. subst (λ own. all_put m own (λ f. published past f || false) m.own ≡ true) (sym (ap (λ kept. outs plan kept number) (append-nil old) ∙ outs_at plan old number m at))
-                (put_more m (kept_of (goals_in old number m)) (published past) (λ f. published past f || false) (λ f done. or_left (published past f) false done) m.own all))
+            (λ all. subst (λ own. all_put m own (λ f. published past f || false) m.own ≡ true) (sym (ap (λ kept. outs plan kept number) (append-nil old) ∙ outs_at plan old number m at))
+            (put_more m (kept_of (goals_in old number m)) (published past) (λ f. published past f || false) (λ f done. or_left (published past f) false done) m.own all))
 
     installed_after : (e : Event) (what : Carried) → IsEnabled o now e → Fits plan (Some start) hands past (record { event = e; carried = what }) → IsBuiltSo e what
     installed_after (event.Start w m) what is fits = plain (event.Start w m) what is refl
@@ -252,12 +252,13 @@ module _ (plan : Plan) (start remote : Files) (fit : IsFitPlan plan) (present : 
   unfolding Enabled
   all_more past e holds is fits =
       let next : now_after plan (past ++ e ∷ []) ≡ after o (now_after plan past) e.event = ap (now_of o) (events_more past e) ∙ one_more o (events_of past) e.event in
-      let files : contents plan start (past ++ e ∷ []) ≡ put_carried plan (contents plan start past) e.event e.carried = fold_more (λ files (x : RunEntry). put_carried plan files x.event x.carried) past start e in
-      (behind_more plan start remote fit present hands tell past e holds.0 is fits,
-       subst (λ now. AreInstalled now (answers_in plan (past ++ e ∷ [])) (published (past ++ e ∷ []))) (sym next)
-         (subst (λ kept. AreInstalled (after o (now_after plan past) e.event) kept (published (past ++ e ∷ []))) (sym (answers_more plan past e))
-           (subst (AreInstalled (after o (now_after plan past) e.event) (answers_in plan past ++ kept_by plan past e.event e.carried)) (λ i f. sym (published_more past e f) i) (installed_after past holds.0 holds.1 holds.2 e.event e.carried is fits))),
-       subst AreNeither (sym files) (neither_after past holds.0 holds.1 holds.2 e.event e.carried is))
+      let files : contents plan start (past ++ e ∷ []) ≡ put_carried plan (contents plan start past) e.event e.carried = fold_more (λ files (x : RunEntry). put_carried plan files x.event x.carried) past start e in (
+        behind_more plan start remote fit present hands tell past e holds.0 is fits,
+        subst (λ now. AreInstalled now (answers_in plan (past ++ e ∷ [])) (published (past ++ e ∷ []))) (sym next)
+            (subst (λ kept. AreInstalled (after o (now_after plan past) e.event) kept (published (past ++ e ∷ []))) (sym (answers_more plan past e))
+            (subst (AreInstalled (after o (now_after plan past) e.event) (answers_in plan past ++ kept_by plan past e.event e.carried)) (λ i f. sym (published_more past e f) i) (installed_after past holds.0 holds.1 holds.2 e.event e.carried is fits))),
+        subst AreNeither (sym files) (neither_after past holds.0 holds.1 holds.2 e.event e.carried is),
+      )
 
   pub installed_all : (entries : List RunEntry) → IsRunOf plan entries → AllFit plan (Some start) hands [] entries → IsAll entries
   installed_all entries run fits = by_entries plan start hands IsAll all_more [] entries (behind_first plan start remote fit present hands tell, (λ number m at built. absurd (waits_on (length o.modules) number ending.Built built)), (λ f low unfetched unowned. refl)) run fits
@@ -374,8 +375,8 @@ module _ (plan : Plan) (start remote : Files) (fit : IsFitPlan plan) (present : 
           neither = all.2;
           bytes = λ f fetch is. let low = owns.fetched f fetch in all.0.stored.bytes f fetch low (all.0.stored.there f low ∙ is);
           had = λ number f m at not_skipped l.
-            let ends = ended_at number m at not_skipped in
-            sym (all.0.stored.there f (owns.fetched f (number, m, at, prefix_listed plan base f m.fetch l))) ∙ fetched.had number m ends.0 at ends.1 (quiet_all plan entries quiet number ends.0 ends.1) f l;
+              let ends = ended_at number m at not_skipped in
+              sym (all.0.stored.there f (owns.fetched f (number, m, at, prefix_listed plan base f m.fetch l))) ∙ fetched.had number m ends.0 at ends.1 (quiet_all plan entries quiet number ends.0 ends.1) f l;
           reason = λ f fetch is. let low = owns.fetched f fetch in why f low (fetched.reason f fetch (all.0.stored.there f low ∙ is));
           kept = λ f fetch is. let low = owns.fetched f fetch in sym (all.0.stored.there f low) ∙ all.0.courses.grows f (present f low ∙ is);
           own = own_left;

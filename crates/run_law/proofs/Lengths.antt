@@ -19,11 +19,11 @@ use Rattle.event_core.specs.Climbing.{but}
 use Rattle.event_core.specs.Enabled.{Enabled, IsRun}
 use Rattle.event_core.specs.Fitting.{IsFit}
 use Rattle.name_locks.specs.Locks.{below}
-use Rattle.event_core.specs.Outlines.{file_of, files_of, files_read, is_listed, module_outline, once_more, outline_of}
+use Rattle.event_core.specs.Outlines.{files_of, files_read, is_listed, module_outline, once_more, outline_of}
 use Rattle.event_core.specs.Runs.{IsRunOf, events_of}
-use Rattle.event_core.specs.Scripts.{Script, Step, absent, answers, choice_script, fetches, frees, install_script, may_publish, own_script, publishes, read_script, reads, release_script, step, steps, takes, whole}
+use Rattle.event_core.specs.Scripts.{Script, Step, answers, choice_script, fetches, frees, install_script, may_publish, own_script, read_script, reads, release_script, step, steps, takes, whole}
 use Rattle.event_core.specs.SoundPlans.{IsSoundPlan, IsSoundPlanModule, greatest_events, is_backed}
-use Rattle.event_core.specs.Standing.{Now, after, at_first, now_of}
+use Rattle.event_core.specs.Standing.{now_of}
 use Rattle.event_core.proofs.Climbs.{but_shorter, listed_but, listed_last, listed_more}
 use Rattle.event_core.proofs.Fits.{fewer_after, fit_after, fit_first, most_first, one_more, same_or_not}
 use Rattle.run_law.proofs.Once.{both, listed_first, listed_later}

@@ -21,6 +21,7 @@ find_same p q (x ∷ xs) same = ap (λ b. if b then Some x else find p xs) (same
   where
     first : (x : ℕ) (xs : List ℕ) → is_listed x (x ∷ xs) ≡ true
     first x xs = grind arith
+
     later : (x y : ℕ) (xs : List ℕ) → is_listed y xs ≡ true → is_listed y (x ∷ xs) ≡ true
     later x y xs is = by (nat_eq x y)
       where
@@ -85,11 +86,11 @@ module _ (plan : Plan) (supply : Supply) (P : ℕ → Type 0) (states states' : 
   up_to zero number m less at holds = absurd (omega (arith, less))
   up_to (suc n) number m less at holds =
       let upward : (u : ℕ) → is_listed u m.upstream ≡ true → (states u ≡ states' u) × (outputs u ≡ outputs' u) = (λ u is.
-          let l = low number u m at is in
-          let r = real number u m at l.0 in
-          up_to n u r.0 (omega (arith, l.0, less)) r.1 (l.1 holds)) in
+      let l = low number u m at is in
+      let r = real number u m at l.0 in
+      up_to n u r.0 (omega (arith, l.0, less)) r.1 (l.1 holds)) in
       let v : ◌≡◌ {A = Verdict} (record { state = states number; outputs = outputs number }) (record { state = states' number; outputs = outputs' number }) =
-          one number m at holds ∙ judge_same plan supply states states' outputs outputs' number m (backed number m at) (λ u is. (upward u is).0) (λ u is. (upward u is).1) ∙ sym (two number m at holds) in
+      one number m at holds ∙ judge_same plan supply states states' outputs outputs' number m (backed number m at) (λ u is. (upward u is).0) (λ u is. (upward u is).1) ∙ sym (two number m at holds) in
       (ap (λ (x : Verdict). x.state) v, ap (λ (x : Verdict). x.outputs) v)
 
   pub judged_once : (number : ℕ) (m : PlanModule) → slice_get plan.modules number ≡ Some m → P number → (states number ≡ states' number) × (outputs number ≡ outputs' number)

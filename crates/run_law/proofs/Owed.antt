@@ -1,5 +1,5 @@
 -- The goals that a script still wants answered.
-use Rattle.std.proofs.Common.{◌≡◌, ℕ, zero, suc, ◌<◌, ◌≤◌, ◌⊎◌, inl, inr, Bool, true, false, ◌||◌, nat_eq, nat_lt, List, [], ◌∷◌, ◌++◌, length, Option, Some, None, is_some, unwrap_or, refl, arith, sym, ap, subst, ◌∙◌, if◌then◌else◌}
+use Rattle.std.proofs.Common.{◌≡◌, ℕ, zero, suc, ◌<◌, ◌≤◌, ◌⊎◌, inl, inr, Bool, true, false, ◌||◌, nat_eq, nat_lt, List, [], ◌∷◌, Some, None, unwrap_or, refl, arith, sym, ap, subst, ◌∙◌, if◌then◌else◌}
 use Rattle.std.specs.List.{list_all}
 use Rattle.std.proofs.lemmas.Bool.{eqb-true, false≢true, lt-ltb}
 use Rattle.std.proofs.lemmas.Cmp.{nat_eq_equiv}
@@ -14,7 +14,7 @@ use Rattle.event_core.specs.Outlines.{is_listed}
 use Rattle.event_core.proofs.Climbs.{all_more, climbs_more}
 use Rattle.run_law.proofs.Excluding.{listed_below}
 use Rattle.run_law.proofs.Once.{both}
-use Rattle.event_core.specs.Scripts.{Script, Step, absent, answer_script, choice_script, install_script, is_to_install, lock_script, own_script, read_script, release_script, script_of, steps, answers, done, fetches, frees, is_there, is_wanted, may_publish, publishes, reads, settled, step, takes, whole}
+use Rattle.event_core.specs.Scripts.{Script, Step, absent, choice_script, install_script, is_to_install, own_script, read_script, release_script, script_of, steps, answers, done, fetches, frees, is_there, is_wanted, may_publish, publishes, reads, settled, step, takes, whole}
 use Rattle.event_core.proofs.Weights.{nothing_is}
 
 abbrev pub owes : ℕ → Script → Bool
@@ -208,7 +208,11 @@ plain_same h stage f rest same (x ∷ xs) = same x (steps stage f xs rest) ∙ p
 
 pub start_owes : (m : ModuleOutline) → OwesAll m (script_of m)
 start_owes m =
-    plain_owes m 2 (takes Shared) (choice_script m) (λ x more o. ((λ six. absurd (false≢true six), o.0), o.1)) m.batch
-      ((λ h. plain_same h 3 (takes Exclusive) (steps 3 fetches m.fetch (read_script m)) (λ x more. refl) m.batch ∙ plain_same h 3 fetches (read_script m) (λ x more. refl) m.fetch,
+    plain_owes m 2 (takes Shared) (choice_script m) (λ x more o. ((λ six. absurd (false≢true six), o.0), o.1)) m.batch (
+      (
+        λ h. plain_same h 3 (takes Exclusive) (steps 3 fetches m.fetch (read_script m)) (λ x more. refl) m.batch ∙ plain_same h 3 fetches (read_script m) (λ x more. refl) m.fetch,
         (plain_owes m 3 (takes Exclusive) (steps 3 fetches m.fetch (read_script m)) (λ x more o. ((λ six. absurd (false≢true six), o.0), o.1)) m.batch (plain_owes m 3 fetches (read_script m) (λ x more o. o) m.fetch (read_owes m))).0,
-        (read_owes m).0), (read_owes m).1)
+        (read_owes m).0,
+      ),
+      (read_owes m).1,
+    )

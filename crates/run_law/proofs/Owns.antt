@@ -19,13 +19,13 @@ use Rattle.build_core.specs.declared.plan.PlanModule.{PlanModule}
 use Rattle.event_core.specs.declared.progress.Progress.{Progress}
 use Rattle.event_core.specs.declared.progress.Progress.TheVariants.{Running}
 use Rattle.event_core.specs.declared.entry.RunEntry.{RunEntry}
-use Rattle.run_law.specs.Closed.{missing_of, total_len}
+use Rattle.run_law.specs.Closed.{total_len}
 use Rattle.event_core.specs.Enabled.{Enabled, IsEnabled, is_due}
 use Rattle.run_law.proofs.Invariants.{IsCourseFit, IsGathering, files_fit, is_begun, outs, pending, supply_of}
 use Rattle.run_law.specs.Given.{IsPresent, is_answer, is_kept}
 use Rattle.build_core.specs.OneThread.{Supply, answer_at, lacks_artifact, most_classpath, name_of}
 use Rattle.event_core.specs.Outlines.{is_listed, module_outline, outline_of}
-use Rattle.event_core.specs.Runs.{IsRunOf, answers_in, contents, events_of, goals_in, kept_by, now_after, put_carried}
+use Rattle.event_core.specs.Runs.{IsRunOf, answers_in, contents, events_of, kept_by, now_after, put_carried}
 use Rattle.event_core.specs.Scripts.{Script, absent, answers, fetches, frees, may_publish, publishes, reads, step, takes, wanted, whole}
 use Rattle.event_core.specs.Standing.{Now, after, course_of, is_over, module_of, now_of, on_course, progress_of}
 use Rattle.event_core.specs.Worlds as worlds
@@ -142,17 +142,19 @@ module _ (plan : Plan) (start remote : Files) (fit : IsFitPlan plan) (present : 
         → ((u : ℕ) → is_over (progress_of now.progress u) ≡ true → answer_at later u ≡ answer_at old u) → (IsLateAt now number → answer_at later number ≡ answer_at old number) → ((g : ℕ) → is_kept old number g ≡ true → is_kept later number g ≡ true)
         → (b : Bool) → Fact now files old number f m b → Fact (after o now e) more later number f m b
     stays e is more later number f m at same over mine grows false fact = same ∙ fact
-    stays e is more later number f m at same over mine grows true fact =
-        (late_stays o now e behind.standing is number fact.0, fact.1,
-         subst (λ n. nat_lt most_classpath n ≡ false) (sym (len_stays plan start remote fit.apart present fit.backed now old later behind.ordered over number m at (late_begun now number fact.0))) fact.2,
-         same ∙ fact.3 ∙ sym (ap (λ own. own_at m own f) (outs_same plan old later number (mine fact.0))),
-         ap is_some same ∙ fact.4,
-         record {
-           had = fact.5.had;
-           good = ap (λ (said : ℕ → GoalAnswer). is_good (run_goals m.budget said 0 m.goals [])) (mine fact.0) ∙ fact.5.good;
-           artifact = ap (λ (said : ℕ → GoalAnswer). lacks_artifact m (kept_of (run_goals m.budget said 0 m.goals []))) (mine fact.0) ∙ fact.5.artifact;
-           answered = λ g low. grows g (fact.5.answered g low);
-         })
+    stays e is more later number f m at same over mine grows true fact = (
+      late_stays o now e behind.standing is number fact.0,
+      fact.1,
+      subst (λ n. nat_lt most_classpath n ≡ false) (sym (len_stays plan start remote fit.apart present fit.backed now old later behind.ordered over number m at (late_begun now number fact.0))) fact.2,
+      same ∙ fact.3 ∙ sym (ap (λ own. own_at m own f) (outs_same plan old later number (mine fact.0))),
+      ap is_some same ∙ fact.4,
+      record {
+        had = fact.5.had;
+        good = ap (λ (said : ℕ → GoalAnswer). is_good (run_goals m.budget said 0 m.goals [])) (mine fact.0) ∙ fact.5.good;
+        artifact = ap (λ (said : ℕ → GoalAnswer). lacks_artifact m (kept_of (run_goals m.budget said 0 m.goals []))) (mine fact.0) ∙ fact.5.artifact;
+        answered = λ g low. grows g (fact.5.answered g low);
+      },
+    )
 
     abbrev After : Event → Carried → Type 0
     After e what = AreFacts (after o now e) (put_carried plan files e what) (old ++ kept_by plan past e what) (λ f. published past f || worlds.publishes f e)
@@ -161,8 +163,8 @@ module _ (plan : Plan) (start remote : Files) (fit : IsFitPlan plan) (present : 
     plain : (e : Event) → IsEnabled o now e → AreFacts (after o now e) files (old ++ []) (λ f. published past f || false)
     plain e is number f m at mine =
         subst (Fact (after o now e) files (old ++ []) number f m) (sym (or_false (published past f)))
-          (subst (λ kept. Fact (after o now e) files kept number f m (published past f)) (sym (append-nil old))
-            (stays e is files old number f m at refl (λ u over. refl) (λ late. refl) (λ g has. has) (published past f) (facts number f m at mine)))
+        (subst (λ kept. Fact (after o now e) files kept number f m (published past f)) (sym (append-nil old))
+        (stays e is files old number f m at refl (λ u over. refl) (λ late. refl) (λ g has. has) (published past f) (facts number f m at mine)))
 
     -- a late module gets no answer
     answers_none : (w g k : ℕ) → IsEnabled o now (event.Answer w g) → module_of (course_of now w) ≡ Some k → IsLateAt now k → ⊥
@@ -185,11 +187,11 @@ module _ (plan : Plan) (start remote : Files) (fit : IsFitPlan plan) (present : 
             one : (k : ℕ) → module_of (course_of now w) ≡ Some k → AreFacts (after o now (event.Answer w g)) files (old ++ (record { «module» = k; goal = g; answer = answer }) ∷ []) (λ f. published past f || false)
             one k whose number f m at mine =
                 subst (Fact (after o now (event.Answer w g)) files (old ++ new ∷ []) number f m) (sym (or_false (published past f)))
-                  (stays (event.Answer w g) is files (old ++ new ∷ []) number f m at refl
-                    (λ u over. other_answers old new u (not_same k u (λ e. false≢true (sym (ap is_over (behind.standing.tied.busy w k whose)) ∙ subst (λ x. is_over (progress_of now.progress x) ≡ true) (sym e) over))))
-                    (λ late. other_answers old new number (not_same k number (λ e. answers_none w g k is whose (subst (IsLateAt now) (sym e) late))))
-                    (λ g has. find_front (is_answer number g) old (new ∷ []) has)
-                    (published past f) (facts number f m at mine))
+                (stays (event.Answer w g) is files (old ++ new ∷ []) number f m at refl
+                (λ u over. other_answers old new u (not_same k u (λ e. false≢true (sym (ap is_over (behind.standing.tied.busy w k whose)) ∙ subst (λ x. is_over (progress_of now.progress x) ≡ true) (sym e) over))))
+                (λ late. other_answers old new number (not_same k number (λ e. answers_none w g k is whose (subst (IsLateAt now) (sym e) late))))
+                (λ g has. find_front (is_answer number g) old (new ∷ []) has)
+                (published past f) (facts number f m at mine))
               where
                 new : Answered
                 new = record { «module» = k; goal = g; answer = answer }
@@ -224,9 +226,9 @@ module _ (plan : Plan) (start remote : Files) (fit : IsFitPlan plan) (present : 
           whole_fact whose =
               let out = get_map module_outline plan.modules number m at in
               let late = late_begins o now w g number (module_outline m) behind.standing lates is whose out
-                    (λ script last e want.
-                      let course : IsCourseFit o (on_course number script last) = subst (IsCourseFit o) e (behind.courses.courses w) in
-                      fit.own g (number, m, at, wanted_fetch m.fetch (map (λ (x : OwnFile). x.file) m.own) script g (course.0 (module_outline m) out) want) (number, m, at, mine)) in
+              (λ script last e want.
+              let course : IsCourseFit o (on_course number script last) = subst (IsCourseFit o) e (behind.courses.courses w) in
+              fit.own g (number, m, at, wanted_fetch m.fetch (map (λ (x : OwnFile). x.file) m.own) script g (course.0 (module_outline m) out) want) (number, m, at, mine)) in
               let on = due_on (course_of now w) (deed.Publish g) is.2 in
               let same : on.0 ≡ number = ap (λ x. unwrap_or x 0) (sym (ap module_of on.3) ∙ whose) in
               let course : course_of now w ≡ on_course number on.1 on.2 = on.3 ∙ ap (λ k. on_course k on.1 on.2) same in
@@ -235,17 +237,21 @@ module _ (plan : Plan) (start remote : Files) (fit : IsFitPlan plan) (present : 
               let told = behind_of plan start remote fit.apart present fit.backed fit.sized hands (λ w. (tell w).1) past behind w number m (event.Publish w g) (carried.Published bytes) whose at fits.1 in
               let area = subst (λ b. FitsBytes b (is_listed g m.fetch) (stood plan (Some start) past number m) (hands w) g (carried.Published bytes)) (tell w).0 told in
               let fine : FitsBytes true false (stood plan (Some start) past number m) (hands w) g (carried.Published bytes) = subst (λ b. FitsBytes true b (stood plan (Some start) past number m) (hands w) g (carried.Published bytes)) (unfetched (is_listed g m.fetch) refl) area in
-              let here : file_at more (name_of plan g) ≡ Some bytes = at_insert files (name_of plan g) bytes (name_of plan g) ∙ ap (λ b. cond b (Some bytes) (file_at files (name_of plan g))) (name_itself (name_of plan g)) in
-              (late.0, late.1, within_is plan start remote fit.apart number m at (fit.backed number m at) past behind.stored all fine.0.0,
-               here ∙ sym fine.1 ∙ sym (ap (λ own. own_at m own g) (outs_at plan old number m at)), ap is_some here,
-               record {
-                 had = all_had plan start remote fit.apart number m at (fit.backed number m at) past behind.stored all [];
-                 good = fine.0.1;
-                 artifact = fine.0.2;
-                 answered = λ h low.
-                   let due : IsPaid o (is_kept old) (on_course number on.1 on.2) = subst (IsPaid o (is_kept old)) course (paid.courses w) in
-                   (due (module_outline m) out).1 h low (late_owes on.1 (late.2 on.1 on.2 course) h);
-               })
+              let here : file_at more (name_of plan g) ≡ Some bytes = at_insert files (name_of plan g) bytes (name_of plan g) ∙ ap (λ b. cond b (Some bytes) (file_at files (name_of plan g))) (name_itself (name_of plan g)) in (
+                late.0,
+                late.1,
+                within_is plan start remote fit.apart number m at (fit.backed number m at) past behind.stored all fine.0.0,
+                here ∙ sym fine.1 ∙ sym (ap (λ own. own_at m own g) (outs_at plan old number m at)),
+                ap is_some here,
+                record {
+                  had = all_had plan start remote fit.apart number m at (fit.backed number m at) past behind.stored all [];
+                  good = fine.0.1;
+                  artifact = fine.0.2;
+                  answered = λ h low.
+                      let due : IsPaid o (is_kept old) (on_course number on.1 on.2) = subst (IsPaid o (is_kept old)) course (paid.courses w) in
+                      (due (module_outline m) out).1 h low (late_owes on.1 (late.2 on.1 on.2 course) h);
+                },
+              )
             where
               unfetched : (b : Bool) → is_listed g m.fetch ≡ b → is_listed g m.fetch ≡ false
               unfetched false e = e
@@ -257,10 +263,10 @@ module _ (plan : Plan) (start remote : Files) (fit : IsFitPlan plan) (present : 
           by : (f ≡ g) ⊎ ((f ≡ g) → ⊥) → Fact (after o now (event.Publish w g)) more old number f m (published past f || nat_eq g f)
           by (inl e) =
               subst (Fact (after o now (event.Publish w g)) more old number f m) (sym (ap (λ b. published past f || b) (eq-eqb g f (sym e)) ∙ or_true (published past f)))
-                (subst (λ x. Fact (after o now (event.Publish w g)) more old number x m true) (sym e) (this number m at (subst (λ x. is_listed x (map (λ (x : OwnFile). x.file) m.own) ≡ true) e mine)))
+              (subst (λ x. Fact (after o now (event.Publish w g)) more old number x m true) (sym e) (this number m at (subst (λ x. is_listed x (map (λ (x : OwnFile). x.file) m.own) ≡ true) e mine)))
           by (inr other) =
               subst (Fact (after o now (event.Publish w g)) more old number f m) (sym (ap (λ b. published past f || b) (not_same g f (λ e. other (sym e))) ∙ or_false (published past f)))
-                (another number f m at mine other)
+              (another number f m at mine other)
 
     facts_after : (e : Event) (what : Carried) → IsEnabled o now e → Fits plan (Some start) hands past (record { event = e; carried = what }) → After e what
     facts_after (event.Start w m) what is fits = plain (event.Start w m) is
@@ -282,15 +288,16 @@ module _ (plan : Plan) (start remote : Files) (fit : IsFitPlan plan) (present : 
   all_more past e holds is fits =
       let next : now_after plan (past ++ e ∷ []) ≡ after o (now_after plan past) e.event = ap (now_of o) (events_more past e) ∙ one_more o (events_of past) e.event in
       let files : contents plan start (past ++ e ∷ []) ≡ put_carried plan (contents plan start past) e.event e.carried = fold_more (λ files (x : RunEntry). put_carried plan files x.event x.carried) past start e in
-      let facts = facts_after past holds.0 holds.1 holds.2 holds.3 e.event e.carried is fits in
-      (behind_more plan start remote fit present hands tell past e holds.0 is fits,
-       subst (AreOwnsLate o) (sym next) (owns_after o (now_after plan past) e.event holds.1),
-       step_paid plan start hands past e holds.2 is fits,
-       λ number f m at mine.
-         subst (λ now. Fact now (contents plan start (past ++ e ∷ [])) (answers_in plan (past ++ e ∷ [])) number f m (published (past ++ e ∷ []) f)) (sym next)
-           (subst (λ files. Fact (after o (now_after plan past) e.event) files (answers_in plan (past ++ e ∷ [])) number f m (published (past ++ e ∷ []) f)) (sym files)
-             (subst (λ kept. Fact (after o (now_after plan past) e.event) (put_carried plan (contents plan start past) e.event e.carried) kept number f m (published (past ++ e ∷ []) f)) (sym (answers_more plan past e))
-               (subst (Fact (after o (now_after plan past) e.event) (put_carried plan (contents plan start past) e.event e.carried) (answers_in plan past ++ kept_by plan past e.event e.carried) number f m) (sym (published_more past e f)) (facts number f m at mine)))))
+      let facts = facts_after past holds.0 holds.1 holds.2 holds.3 e.event e.carried is fits in (
+        behind_more plan start remote fit present hands tell past e holds.0 is fits,
+        subst (AreOwnsLate o) (sym next) (owns_after o (now_after plan past) e.event holds.1),
+        step_paid plan start hands past e holds.2 is fits,
+        λ number f m at mine.
+            subst (λ now. Fact now (contents plan start (past ++ e ∷ [])) (answers_in plan (past ++ e ∷ [])) number f m (published (past ++ e ∷ []) f)) (sym next)
+            (subst (λ files. Fact (after o (now_after plan past) e.event) files (answers_in plan (past ++ e ∷ [])) number f m (published (past ++ e ∷ []) f)) (sym files)
+            (subst (λ kept. Fact (after o (now_after plan past) e.event) (put_carried plan (contents plan start past) e.event e.carried) kept number f m (published (past ++ e ∷ []) f)) (sym (answers_more plan past e))
+            (subst (Fact (after o (now_after plan past) e.event) (put_carried plan (contents plan start past) e.event e.carried) (answers_in plan past ++ kept_by plan past e.event e.carried) number f m) (sym (published_more past e f)) (facts number f m at mine)))),
+      )
 
   pub own_facts : (entries : List RunEntry) → IsRunOf plan entries → AllFit plan (Some start) hands [] entries → IsAll entries
   own_facts entries run fits = by_entries plan start hands IsAll all_more [] entries (behind_first plan start remote fit present hands tell, owns_first o, paid_first o (is_kept []), λ number f m at mine. refl) run fits
@@ -300,7 +307,7 @@ module _ (plan : Plan) (start remote : Files) (fit : IsFitPlan plan) (present : 
   own_so entries run fits =
       let all = (own_facts entries run fits).3 in
       let yes : (number f : ℕ) (m : PlanModule) → slice_get plan.modules number ≡ Some m → is_listed f (map (λ (x : OwnFile). x.file) m.own) ≡ true → published entries f ≡ true → Fact (now_after plan entries) (contents plan start entries) (answers_in plan entries) number f m true =
-            λ number f m at mine done. subst (Fact (now_after plan entries) (contents plan start entries) (answers_in plan entries) number f m) done (all number f m at mine) in
+      λ number f m at mine done. subst (Fact (now_after plan entries) (contents plan start entries) (answers_in plan entries) number f m) done (all number f m at mine) in
       record {
         settled = λ number f m at mine done. (yes number f m at mine done).5;
         late = λ number f m at mine done. let y = yes number f m at mine done in (y.0, y.1);

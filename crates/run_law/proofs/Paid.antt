@@ -1,5 +1,5 @@
 -- The goals that an ending stands for are answered.
-use Rattle.std.proofs.Common.{◌≡◌, ℕ, zero, suc, length, replicate, ◌<◌, ◌≤◌, ◌⊎◌, inl, inr, Bool, true, false, ◌&&◌, nat_le, List, [], ◌∷◌, ◌++◌, get_or, set, slice_get, Option, Some, None, is_some, unwrap_or, refl, arith, sym, ap, subst, ◌∙◌}
+use Rattle.std.proofs.Common.{◌≡◌, ℕ, zero, suc, length, replicate, ◌<◌, ◌≤◌, ◌⊎◌, inl, inr, Bool, true, false, nat_le, List, [], ◌∷◌, ◌++◌, get_or, set, slice_get, Option, Some, None, unwrap_or, refl, sym, ap, subst, ◌∙◌}
 use Rattle.std.specs.Option.{option_map_or}
 use Rattle.std.proofs.lemmas.Bool.{false≢true, leb-true}
 use Rattle.event_core.specs.declared.deed.Deed.{Deed}
@@ -14,7 +14,7 @@ use Rattle.event_core.specs.declared.progress.Progress.{Progress}
 use Rattle.event_core.specs.declared.progress.Progress.TheVariants.{Waiting, Running, Skipped, Ended}
 use Rattle.event_core.specs.Climbing.{but}
 use Rattle.event_core.specs.Enabled.{IsEnabled, may_end_so, needs_artifact, off_ends, on_ends}
-use Rattle.event_core.specs.Scripts.{Script, Step, absent, done, is_gathered, is_to_install, may_end, script_of, settled, step, wanted, whole}
+use Rattle.event_core.specs.Scripts.{Script, absent, done, is_gathered, is_to_install, may_end, script_of, settled, step, wanted, whole}
 use Rattle.event_core.specs.Standing.{Course, Now, after, after_deed, after_free, at_first, course_of, ended, goals_of, held_by, idle, is_empty, module_of, off_course, on_course, progress_of, start_of}
 use Rattle.run_law.proofs.Courses.{at_place}
 use Rattle.run_law.proofs.Ended.{set_cases, this_is}
@@ -174,8 +174,11 @@ module _ (o : Outline) (K K' : ℕ → ℕ → Bool) (grows : (number g : ℕ) �
     paid_after (event.Read w f) is new = record { courses = at_place (IsPaid o K') now.courses w (after_deed now.there (held_by now w) (deed.Read f) None (course_of now w)) idle (paid_deed now.there (held_by now w) (deed.Read f) None (course_of now w) (λ number h whose e. absurd (false≢true (ap is_answer e))) (λ i e. absurd (nothing_is i e)) (p.courses w)) olds; over = over_grow }
     paid_after (event.Publish w f) is new = record { courses = at_place (IsPaid o K') now.courses w (after_deed (set now.there f true) (held_by now w) (deed.Publish f) None (course_of now w)) idle (paid_deed (set now.there f true) (held_by now w) (deed.Publish f) None (course_of now w) (λ number h whose e. absurd (false≢true (ap is_answer e))) (λ i e. absurd (nothing_is i e)) (p.courses w)) olds; over = over_grow }
     paid_after (event.Answer w g) is new =
-        record { courses = at_place (IsPaid o K') now.courses w (after_deed now.there (held_by now w) (deed.Answer g) (Some g) (course_of now w)) idle
-            (paid_deed now.there (held_by now w) (deed.Answer g) (Some g) (course_of now w) (λ number h whose e. new w h number (ap (λ k. event.Answer w k) (ap goal_of e)) whose) (λ i e. ap (λ o. deed.Answer (unwrap_or o 0)) e) (p.courses w)) olds; over = over_grow }
+        record {
+          courses = at_place (IsPaid o K') now.courses w (after_deed now.there (held_by now w) (deed.Answer g) (Some g) (course_of now w)) idle
+              (paid_deed now.there (held_by now w) (deed.Answer g) (Some g) (course_of now w) (λ number h whose e. new w h number (ap (λ k. event.Answer w k) (ap goal_of e)) whose) (λ i e. ap (λ o. deed.Answer (unwrap_or o 0)) e) (p.courses w)) olds;
+          over = over_grow;
+        }
     paid_after (event.End w x) is new = record { courses = at_place (IsPaid o K') now.courses w idle idle tt olds; over = over_end w x is.3 }
 
 pub paid_first : (o : Outline) (K : ℕ → ℕ → Bool) → ArePaid o K (at_first o)

@@ -1,5 +1,5 @@
 -- Runs on the plan of `Plans` that end otherwise than built, each beside one that must not fit, though its events may come.
-use Rattle.std.proofs.Common.{◌≡◌, ℕ, suc, ◌+◌, ◌<◌, nat_le, nat_lt, Bool, true, false, List, [], ◌∷◌, ◌++◌, length, replicate, Option, Some, None, is_some, refl, arith, sym, ap, subst, ◌∙◌}
+use Rattle.std.proofs.Common.{◌≡◌, ℕ, ◌+◌, nat_le, true, false, List, [], ◌∷◌, length, replicate, Option, Some, None, is_some, refl, sym, ap, ◌∙◌}
 use Rattle.std.proofs.lemmas.Bool.{false≢true}
 use Rattle.std.proofs.lemmas.List.{length-replicate}
 use Rattle.mvn_shared.specs.Files.{Files, file_at}
@@ -8,7 +8,6 @@ use Rattle.goal_types.specs.declared.goal.GoalAnswer.{GoalAnswer}
 use Rattle.goal_types.specs.declared.goal.GoalAnswer.TheVariants.{Done, Failed, Produced}
 use Rattle.build_core.specs.declared.event.Event.{Event}
 use Rattle.build_core.specs.declared.event.Event.TheVariants as event
-use Rattle.build_core.specs.declared.ending.Ending.{Ending}
 use Rattle.build_core.specs.declared.ending.Ending.TheVariants as ending
 use Rattle.event_core.specs.declared.entry.RunEntry.{RunEntry}
 use Rattle.event_core.specs.Causes.{cause_now}
@@ -52,9 +51,12 @@ unasked e = plain (event.Start 0 0) ∷ plain (event.Take 0 0 Shared) ∷ plain 
 asked_runs : (answer : GoalAnswer) (budget : ℕ) → IsRunOf (plan true budget) (asked answer (event.End 0 (ending.Goal 0))) × IsRunOf (plan true budget) (asked answer (event.End 0 (ending.OutputTooLarge 0)))
     × IsRunOf (plan true budget) (asked answer (event.End 0 ending.NoArtifact)) × IsRunOf (plan true budget) (asked answer (event.Take 0 1 Exclusive))
 unfolding after cause_now
-asked_runs answer budget =
-    (run_is (outline_of (plan true budget)) (events_of (asked answer (event.End 0 (ending.Goal 0)))) refl, run_is (outline_of (plan true budget)) (events_of (asked answer (event.End 0 (ending.OutputTooLarge 0)))) refl,
-     run_is (outline_of (plan true budget)) (events_of (asked answer (event.End 0 ending.NoArtifact))) refl, run_is (outline_of (plan true budget)) (events_of (asked answer (event.Take 0 1 Exclusive))) refl)
+asked_runs answer budget = (
+  run_is (outline_of (plan true budget)) (events_of (asked answer (event.End 0 (ending.Goal 0)))) refl,
+  run_is (outline_of (plan true budget)) (events_of (asked answer (event.End 0 (ending.OutputTooLarge 0)))) refl,
+  run_is (outline_of (plan true budget)) (events_of (asked answer (event.End 0 ending.NoArtifact))) refl,
+  run_is (outline_of (plan true budget)) (events_of (asked answer (event.Take 0 1 Exclusive))) refl,
+)
 
 unasked_runs : (budget : ℕ) → IsRunOf (plan true budget) (unasked (event.End 0 ending.ClasspathTooLarge)) × IsRunOf (plan true budget) (asked Done (event.End 0 ending.NoArtifact))
 unfolding after cause_now

@@ -1,24 +1,22 @@
 -- Runs on the plan of `Plans`, which the checker computes: two workers fetch, read, answer and install; each fits.
-use Rattle.std.proofs.Common.{◌≡◌, ℕ, ◌+◌, ◌<◌, nat_le, Bool, true, false, List, [], ◌∷◌, length, Some, None, is_some, refl, arith, sym, ap, subst, ◌∙◌}
-use Rattle.std.proofs.lemmas.Bool.{false≢true}
+use Rattle.std.proofs.Common.{◌≡◌, ℕ, ◌+◌, nat_le, true, false, List, [], ◌∷◌, Some, None, refl, ap, ◌∙◌}
 use Rattle.mvn_shared.specs.Files.{Files, file_at}
 use Rattle.name_locks.specs.declared.mode.Mode.TheVariants.{Shared, Exclusive}
 use Rattle.goal_types.specs.declared.goal.GoalAnswer.{GoalAnswer}
-use Rattle.goal_types.specs.declared.goal.GoalAnswer.TheVariants.{Done, Failed, Produced}
+use Rattle.goal_types.specs.declared.goal.GoalAnswer.TheVariants.{Done, Produced}
 use Rattle.build_core.specs.declared.event.Event.{Event}
 use Rattle.build_core.specs.declared.event.Event.TheVariants as event
 use Rattle.build_core.specs.declared.ending.Ending.TheVariants as ending
-use Rattle.event_core.specs.declared.entry.Carried.{Carried}
 use Rattle.event_core.specs.declared.entry.Carried.TheVariants as carried
 use Rattle.event_core.specs.declared.entry.RunEntry.{RunEntry}
 use Rattle.event_core.specs.Causes.{cause_now}
-use Rattle.event_core.specs.Runs.{IsComplete, IsQuiet, IsRunOf, answers_in, contents, events_of, outputs_in}
+use Rattle.event_core.specs.Runs.{IsComplete, IsQuiet, IsRunOf, contents, events_of}
 use Rattle.std.specs.FinMap as finite
 use Rattle.build_core.specs.OneThread.{bytes_len, most_classpath, remote_bytes}
 use Rattle.run_law.proofs.Carried.{at_insert}
 use Rattle.event_core.specs.Outlines.{outline_of}
 use Rattle.event_core.specs.Standing.{after}
-use Rattle.event_core.specs.Worlds.{AllFit, Fits, HandTold}
+use Rattle.event_core.specs.Worlds.{AllFit, HandTold}
 use Rattle.run_law.specs.SamplePlan.{plan}
 use Rattle.run_law.proofs.Checks.{run_is}
 

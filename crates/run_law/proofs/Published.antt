@@ -1,36 +1,16 @@
 -- Each name is published once.
-use Rattle.std.proofs.Common.{◌≡◌, ℕ, ◌<◌, ◌⊎◌, inl, inr, Bool, true, false, ◌&&◌, ◌||◌, nat_eq, List, [], ◌∷◌, ◌++◌, length, map, get_or, set, slice_get, Option, Some, None, is_some, unwrap_or, refl, arith, sym, ap, subst, ◌∙◌, if◌then◌else◌}
-use Rattle.std.specs.List.{IsDistinct, AllByRecursion, list_all, list_any}
-use Rattle.std.specs.Option.{option_map_or}
+use Rattle.std.proofs.Common.{◌≡◌, ℕ, ◌⊎◌, inl, inr, Bool, true, false, ◌&&◌, ◌||◌, nat_eq, List, [], ◌∷◌, Some, None, unwrap_or, refl, sym, ap, subst, if◌then◌else◌}
+use Rattle.std.specs.List.{IsDistinct, AllByRecursion, list_all}
 use Rattle.std.proofs.lemmas.Bool.{eqb-true, false≢true}
-use Rattle.std.proofs.lemmas.List.{append_assoc, get_or-set_other, get_or-set_same}
 use Rattle.event_core.specs.declared.deed.Deed.{Deed}
 use Rattle.event_core.specs.declared.deed.Deed.TheVariants as deed
-use Rattle.build_core.specs.declared.ending.Ending.{Ending}
-use Rattle.build_core.specs.declared.event.Event.{Event}
-use Rattle.build_core.specs.declared.event.Event.TheVariants as event
-use Rattle.name_locks.specs.declared.mode.Mode.{Mode}
 use Rattle.name_locks.specs.declared.mode.Mode.TheVariants.{Shared, Exclusive}
-use Rattle.event_core.specs.declared.outline.Outline.{Outline}
 use Rattle.event_core.specs.declared.outline.ModuleOutline.{ModuleOutline}
-use Rattle.build_core.specs.declared.plan.OwnFile.{OwnFile}
-use Rattle.build_core.specs.declared.plan.Plan.{Plan}
-use Rattle.build_core.specs.declared.plan.PlanModule.{PlanModule}
-use Rattle.event_core.specs.declared.progress.Progress.{Progress}
-use Rattle.event_core.specs.declared.progress.Progress.TheVariants.{Running, Skipped, Ended}
-use Rattle.event_core.specs.declared.entry.RunEntry.{RunEntry}
-use Rattle.event_core.specs.Climbing.{but}
-use Rattle.event_core.specs.Enabled.{Enabled, IsEnabled, IsRun, is_due}
 use Rattle.run_law.proofs.Invariants.{files_fit}
 use Rattle.name_locks.specs.Locks.{below}
-use Rattle.event_core.specs.Outlines.{is_listed, module_outline, outline_of}
-use Rattle.event_core.specs.Runs.{IsRunOf, events_of, now_after}
-use Rattle.event_core.specs.Scripts.{Script, Step, absent, answers, choice_script, done, fetches, frees, install_script, is_gathered, is_there, is_wanted, may_publish, own_script, publishes, read_script, reads, release_script, script_of, settled, step, steps, takes, wanted, whole}
-use Rattle.event_core.specs.SoundPlans.{IsSoundPlan}
-use Rattle.event_core.specs.Standing.{Course, Now, after, after_deed, after_free, at_first, course_of, ended, goals_of, held_by, idle, is_empty, is_waiting, module_of, now_of, off_course, on_course, progress_of, start_of}
-use Rattle.event_core.specs.Worlds as worlds
-use Rattle.run_law.proofs.Courses.{at_place, due_file, start_fit}
-use Rattle.run_law.proofs.Ended.{set_cases}
+use Rattle.event_core.specs.Outlines.{is_listed}
+use Rattle.event_core.specs.Scripts.{Script, Step, absent, answers, choice_script, done, fetches, frees, install_script, is_there, is_wanted, may_publish, own_script, publishes, read_script, reads, release_script, script_of, settled, step, steps, takes, whole}
+use Rattle.run_law.proofs.Courses.{start_fit}
 use Rattle.run_law.proofs.Once.{both}
 use Rattle.event_core.proofs.Weights.{nothing_is}
 
@@ -207,7 +187,7 @@ read_once m d = plain_once 4 reads (release_script m) (λ x more o. o) m.reads (
 start_once : (m : ModuleOutline) → IsDistinct nat_eq m.own → IsOnce (script_of m)
 start_once m d =
     plain_once 2 (takes Shared) (choice_script m) (λ x more o. o) m.batch
-      (plain_once 3 (takes Exclusive) (steps 3 fetches m.fetch (read_script m)) (λ x more o. o) m.batch (plain_once 3 fetches (read_script m) (λ x more o. o) m.fetch (read_once m d)), read_once m d)
+    (plain_once 3 (takes Exclusive) (steps 3 fetches m.fetch (read_script m)) (λ x more o. o) m.batch (plain_once 3 fetches (read_script m) (λ x more o. o) m.fetch (read_once m d)), read_once m d)
 
 pub begin_once : (m : ModuleOutline) → IsDistinct nat_eq m.own → IsOnce (script_of m) × ((f : ℕ) → own_in f (script_of m) ≡ true → is_listed f m.own ≡ true)
 begin_once m d = (start_once m d, λ f l. own_listed m.fetch m.own (script_of m) f (start_fit m) l)

@@ -1,5 +1,5 @@
 -- Each name is published once.
-use Rattle.std.proofs.Common.{◌≡◌, ℕ, ◌<◌, ◌⊎◌, inl, inr, Bool, true, false, ◌||◌, nat_eq, List, [], ◌∷◌, ◌++◌, length, map, get_or, set, replicate, slice_get, Option, Some, None, is_some, unwrap_or, refl, arith, sym, ap, subst, ◌∙◌}
+use Rattle.std.proofs.Common.{◌≡◌, ℕ, ◌⊎◌, inl, inr, Bool, true, false, ◌||◌, nat_eq, List, [], ◌∷◌, ◌++◌, length, map, get_or, set, slice_get, Option, Some, None, is_some, refl, arith, sym, ap, subst, ◌∙◌}
 use Rattle.std.specs.List.{list_any}
 use Rattle.std.specs.Option.{option_map_or}
 use Rattle.std.proofs.lemmas.Bool.{eqb-true, false≢true}
@@ -14,7 +14,7 @@ use Rattle.build_core.specs.declared.plan.OwnFile.{OwnFile}
 use Rattle.build_core.specs.declared.plan.Plan.{Plan}
 use Rattle.build_core.specs.declared.plan.PlanModule.{PlanModule}
 use Rattle.event_core.specs.declared.progress.Progress.{Progress}
-use Rattle.event_core.specs.declared.progress.Progress.TheVariants.{Waiting, Running, Skipped, Ended}
+use Rattle.event_core.specs.declared.progress.Progress.TheVariants.{Running, Skipped, Ended}
 use Rattle.event_core.specs.declared.entry.RunEntry.{RunEntry}
 use Rattle.event_core.specs.Climbing.{but}
 use Rattle.event_core.specs.Enabled.{Enabled, IsEnabled, IsRun, is_due}
@@ -32,7 +32,6 @@ use Rattle.event_core.proofs.Fits.{one_more, same_or_not}
 use Rattle.run_law.proofs.Published.{IsLeftOf, IsOnce, begin_once, done_left, done_own, own_in, own_listed, settled_left}
 use Rattle.run_law.proofs.Stored.{due_on, get_in, get_map, length_map}
 use Rattle.event_core.proofs.Ties.{any_idle, waits_alone}
-use Rattle.event_core.proofs.Weights.{nothing_is}
 
 abbrev pub is_put : List Event → ℕ → Bool
 is_put past f = list_any (publishes f) past
@@ -132,8 +131,8 @@ module _ (plan : Plan) (sound : IsSoundPlan plan) where
         let at = get_in plan.modules m (omega (arith, long, low)) in
         let first = begin_once (module_outline at.0) (sound.modules m at.0 at.1).own_files in
         let here : IsOnce (start_of o m) × ((f : ℕ) → own_in f (start_of o m) ≡ true → P f ≡ false) =
-            subst (λ x. IsOnce (option_map_or script_of x whole) × ((f : ℕ) → own_in f (option_map_or script_of x whole) ≡ true → P f ≡ false)) (sym (get_map module_outline plan.modules m at.0 at.1))
-              (first.0, λ f l. u.waits m f at.0 at.1 is.2 (first.1 f l)) in
+        subst (λ x. IsOnce (option_map_or script_of x whole) × ((f : ℕ) → own_in f (option_map_or script_of x whole) ≡ true → P f ≡ false)) (sym (get_map module_outline plan.modules m at.0 at.1))
+        (first.0, λ f l. u.waits m f at.0 at.1 is.2 (first.1 f l)) in
         new_left P (start_of o m) (settled now.there (is_empty (held_by now w)) (start_of o m)) (settled_left now.there (is_empty (held_by now w)) (start_of o m)) here
 
     ended_new : (w : ℕ) (e : Ending) (number : ℕ) → is_waiting (progress_of (ended (module_of (course_of now w)) e now.progress) number) ≡ true → is_waiting (progress_of now.progress number) ≡ true
@@ -186,7 +185,7 @@ module _ (plan : Plan) (sound : IsSoundPlan plan) where
           by (Some rest) e some =
               let left = done_left on.1 (deed.Publish g) rest e in
               new_left P' rest (settled (set now.there g true) (is_empty (held_by now w)) rest) (settled_left (set now.there g true) (is_empty (held_by now w)) rest)
-                (left.0 new.0, λ f l. not_put f (new.1 f (left.1 f l)) (λ same. gone rest e (subst (λ k. own_in k rest ≡ true) same l)))
+              (left.0 new.0, λ f l. not_put f (new.1 f (left.1 f l)) (λ same. gone rest e (subst (λ k. own_in k rest ≡ true) same l)))
 
       others : (v : ℕ) → (v ≡ w → ⊥) → (c : Course) → course_of now v ≡ c → IsNew P c → IsNew P' c
       others v other idle at old = tt
@@ -275,8 +274,8 @@ module _ (plan : Plan) (sound : IsSoundPlan plan) where
   new_all past [] s u run = subst (λ es. AreNew (is_put es) (now_of o es)) (sym (append_nil past)) u
   new_all past (e ∷ events) s u run =
       subst (λ es. AreNew (is_put es) (now_of o es)) (append_assoc past (e ∷ []) events)
-        (new_all (past ++ e ∷ []) events (subst (Stands plan sound) (sym (one_more o past e)) (stands_after plan sound (now_of o past) e s run.0))
-          (subst (AreNew (is_put (past ++ e ∷ []))) (sym (one_more o past e)) (new_after past e s u run.0)) run.1)
+      (new_all (past ++ e ∷ []) events (subst (Stands plan sound) (sym (one_more o past e)) (stands_after plan sound (now_of o past) e s run.0))
+      (subst (AreNew (is_put (past ++ e ∷ []))) (sym (one_more o past e)) (new_after past e s u run.0)) run.1)
 
   -- Once of the statements
   pub once : (past : List RunEntry) (w f : ℕ) → IsRunOf plan past → Enabled o (events_of past) (event.Publish w f) → list_any (λ (e : RunEntry). publishes f e.event) past ≡ false

@@ -1,12 +1,11 @@
 -- Goals run the same by any answers that agree where they are reached.
-use Rattle.std.proofs.Common.{◌≡◌, ℕ, suc, ◌+◌, ◌<◌, ◌≤◌, Bool, true, false, nat_le, nat_eq, List, [], ◌∷◌, length, Option, Some, None, refl, arith, sym, ap, subst, ◌∙◌, if◌then◌else◌}
-use Rattle.std.proofs.lemmas.Bool.{false≢true, le-leb}
+use Rattle.std.proofs.Common.{◌≡◌, ℕ, suc, ◌+◌, ◌<◌, ◌≤◌, Bool, true, false, nat_le, nat_eq, List, [], ◌∷◌, length, refl, arith, ap, ◌∙◌, if◌then◌else◌}
+use Rattle.std.proofs.lemmas.Bool.{le-leb}
 use Rattle.goal_types.specs.declared.goal.GoalAnswer.{GoalAnswer}
 use Rattle.goal_types.specs.declared.goal.GoalAnswer.TheVariants.{Done, Failed, Produced}
 use Rattle.goal_types.specs.declared.goal.GoalCall.{GoalCall}
 use Rattle.goal_types.specs.declared.goal.OwnBytes.{OwnBytes}
-use Rattle.goal_types.specs.declared.goal.Slot.{Slot}
-use Rattle.build_core.specs.Slots.{GoalsEnd, all_answered, goal_failed, one_goal, one_output, output_too_large, put_slot, run_goals, slot_number, total_bytes}
+use Rattle.build_core.specs.Slots.{GoalsEnd, all_answered, goal_failed, one_goal, output_too_large, put_slot, run_goals, slot_number, total_bytes}
 
 -- a goal that the run didn't reach: behind the end
 abbrev pub is_reached : GoalsEnd → ℕ → Bool
@@ -66,7 +65,7 @@ module _ (budget : ℕ) (one two : ℕ → GoalAnswer) where
 
       put : ((kept : List OwnBytes) → Agree n (suc i) (run_goals budget one (suc i) goals kept) → run_goals budget one (suc i) goals kept ≡ run_goals budget two (suc i) goals kept) → (bytes : List ℕ) (zero fits : Bool) → Agree n i (if zero then run_goals budget one (suc i) goals own else (if fits then run_goals budget one (suc i) goals (put_slot call.slot bytes own) else output_too_large i own))
           → ◌≡◌ {A = GoalsEnd} (if zero then run_goals budget one (suc i) goals own else (if fits then run_goals budget one (suc i) goals (put_slot call.slot bytes own) else output_too_large i own))
-            (if zero then run_goals budget two (suc i) goals own else (if fits then run_goals budget two (suc i) goals (put_slot call.slot bytes own) else output_too_large i own))
+          (if zero then run_goals budget two (suc i) goals own else (if fits then run_goals budget two (suc i) goals (put_slot call.slot bytes own) else output_too_large i own))
       put again bytes true fits agree = rest again own agree
       put again bytes false true agree = rest again (put_slot call.slot bytes own) agree
       put again bytes false false agree = refl

@@ -1,9 +1,7 @@
 -- The build by one hand, again over one plan, from any files between the start and its end: it ends the same.
-use Rattle.std.proofs.Common.{◌≡◌, ℕ, ◌+◌, ◌<◌, ◌⊎◌, inl, inr, Bool, true, false, not, ◌&&◌, nat_eq, nat_lt, List, [], ◌∷◌, find, length, map, slice_get, Option, Some, None, is_some, refl, arith, sym, ap, subst, ◌∙◌, if◌then◌else◌}
+use Rattle.std.proofs.Common.{◌≡◌, ℕ, ◌+◌, ◌<◌, ◌⊎◌, inl, inr, Bool, true, false, not, ◌&&◌, nat_lt, List, [], ◌∷◌, find, map, slice_get, Option, Some, None, is_some, refl, arith, sym, ap, subst, ◌∙◌, if◌then◌else◌}
 use Rattle.std.specs.List.{list_all}
 use Rattle.std.specs.Option.{option_or}
-use Rattle.std.specs.Ordering.{eq_by_cmp, nat_cmp}
-use Rattle.std.specs.Cmp.Lexicographic.{slice_cmp}
 use Rattle.std.proofs.lemmas.Bool.{false≢true}
 use Rattle.mvn_shared.specs.Files.{Files, file_at}
 use Rattle.build_core.specs.declared.ending.Ending.TheVariants as ending
@@ -17,8 +15,8 @@ use Rattle.build_core.specs.declared.plan.Plan.{Plan}
 use Rattle.build_core.specs.declared.plan.PlanModule.{PlanModule}
 use Rattle.build_core.specs.declared.ending.State.{State}
 use Rattle.build_core.specs.declared.ending.State.TheVariants as state
-use Rattle.run_law.specs.Closed.{AreJudged, Verdict, available, had_prefix, judge, missing_of, origin_len, outputs_at, state_at, total_len, verdict_of_fetch, verdict_of_goals, verdict_of_upstream}
-use Rattle.run_law.proofs.Invariants.{IsFetchFile, IsOwnFile}
+use Rattle.run_law.specs.Closed.{AreJudged, available, had_prefix, judge, missing_of, origin_len, outputs_at, state_at, total_len, verdict_of_fetch, verdict_of_goals, verdict_of_upstream}
+use Rattle.run_law.proofs.Invariants.{IsFetchFile}
 use Rattle.run_law.specs.Given.{supply_by}
 use Rattle.build_core.specs.OneThread.{Progress, Supply, bytes_len, is_built, most_classpath, name_of, one_thread, remote_bytes}
 use Rattle.event_core.specs.Outlines.{is_listed}

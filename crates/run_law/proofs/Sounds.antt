@@ -4,10 +4,8 @@ use Rattle.std.specs.List.{AllByRecursion, IsDistinct}
 use Rattle.std.specs.Ordering.{eq_by_cmp, nat_cmp}
 use Rattle.std.specs.Cmp.Lexicographic.{slice_cmp}
 use Rattle.std.proofs.lemmas.Bool.{eq-eqb, false≢true}
-use Rattle.mvn_shared.specs.Files.{Files}
 use Rattle.build_core.specs.declared.plan.Plan.{Plan}
 use Rattle.run_law.proofs.Invariants.{FilesDiffer, IsFetchFile, IsOwnFile}
-use Rattle.run_law.specs.Given.{IsPresent}
 use Rattle.build_core.specs.OneThread.{name_of}
 use Rattle.event_core.specs.Outlines.{module_outline}
 use Rattle.event_core.specs.SoundPlans.{IsSoundPlan, same_text}

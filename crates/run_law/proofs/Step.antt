@@ -143,8 +143,10 @@ module _ (plan : Plan) (start remote : Files) (apart : AreApart plan) (present :
 
       one_answer : Holds (after o now (event.Answer w g)) (old ++ new ∷ [])
       unfolding after
-      one_answer = (record { begun = λ u has. begun u (has_more old new u has); had = λ u n here has. had u n here (has_more old new u has); within = λ u n here has. fine u n here (has_more old new u has) },
-          ended_stays plan start remote apart present backed now old (old ++ new ∷ []) behind.ordered same (after o now (event.Answer w g)) (λ u x e. e) behind.ended)
+      one_answer = (
+        record { begun = λ u has. begun u (has_more old new u has); had = λ u n here has. had u n here (has_more old new u has); within = λ u n here has. fine u n here (has_more old new u has) },
+        ended_stays plan start remote apart present backed now old (old ++ new ∷ []) behind.ordered same (after o now (event.Answer w g)) (λ u x e. e) behind.ended,
+      )
         where
           begun : (u : ℕ) → (has_answer old u ≡ true) ⊎ (k ≡ u) → is_begun (progress_of now.progress u) ≡ true
           begun u (inl has) = behind.kept.begun u has
@@ -161,7 +163,7 @@ module _ (plan : Plan) (start remote : Files) (apart : AreApart plan) (present :
           fine u n here (inr e) =
               let same : m ≡ n = ap (λ x. unwrap_or x m) (sym at ∙ subst (λ x. slice_get plan.modules x ≡ Some n) (sym e) here) in
               subst (λ (x : PlanModule). nat_lt most_classpath (total_len plan base (outs plan (old ++ new ∷ [])) x.entries) ≡ false) same
-                (stays k m at (ap is_begun runs) (within_is plan start remote apart k m at (backed k m at) past behind.stored all within))
+              (stays k m at (ap is_begun runs) (within_is plan start remote apart k m at (backed k m at) past behind.stored all within))
 
     pub end_on : (c : Course) (e : Ending) → may_end_so o c e ≡ true → (k : ℕ) × (module_of c ≡ Some k)
     end_on idle e is = absurd (false≢true is)
@@ -182,7 +184,7 @@ module _ (plan : Plan) (start remote : Files) (apart : AreApart plan) (present :
             let alike : e ≡ x = ap ending_in (sym here.1 ∙ is') in
             let fit : FitsEnd (stood plan (Some start) past number m) (hands w) e = behind_of w number m (event.End w e) what mine at fits.1 in
             judged_end plan start remote apart present backed past behind number m at (hands w) (tells w) sized w x mine quiet
-              (subst (λ y. may_end_so o (course_of now w) y ≡ true) alike is.3) (subst (λ y. ending_in_range o (course_of now w) y ≡ true) alike is.1) (subst (λ y. FitsEnd (stood plan (Some start) past number m) (hands w) y) alike fit)
+            (subst (λ y. may_end_so o (course_of now w) y ≡ true) alike is.3) (subst (λ y. ending_in_range o (course_of now w) y ≡ true) alike is.1) (subst (λ y. FitsEnd (stood plan (Some start) past number m) (hands w) y) alike fit)
 
     pub kept_after : (e : Event) (what : Carried) → IsEnabled o now e → Fits plan (Some start) hands past (record { event = e; carried = what }) → Holds (after o now e) (old ++ kept_by plan past e what)
     unfolding after
@@ -205,4 +207,4 @@ module _ (plan : Plan) (start remote : Files) (apart : AreApart plan) (present :
             let place = place_of w on.0 whose in
             let fine : FitsAnswer (stood plan (Some start) past on.0 place.0) (hands w) g (carried.Answered answer) = behind_of w on.0 place.0 (event.Answer w g) (carried.Answered answer) whose place.1 fit in
             subst (λ found. Holds (after o now (event.Answer w g)) (old ++ option_map_or (λ m. (record { «module» = m; goal = g; answer = answer }) ∷ []) found [])) (sym whose)
-              (one_answer w g answer is on.0 place.0 whose place.1 fine.0)
+            (one_answer w g answer is on.0 place.0 whose place.1 fine.0)

@@ -146,7 +146,7 @@ module _ (plan : Plan) (supply : Supply) (differ : FilesDiffer plan) (own : OwnA
   stored_after now files (event.Publish w f) what standing courses sized stored is brings =
       let low : f < length plan.files = omega (arith, is.1, sized) in
       subst (λ c. IsStored plan supply (after o now (event.Publish w f)) (put_carried plan files (event.Publish w f) c)) (sym brings.1)
-        (stored_more now files w f brings.0 low stored (λ fetch. fetch_had now w f brings.0 low standing courses is.2 brings.2 fetch) (after o now (event.Publish w f)) refl)
+      (stored_more now files w f brings.0 low stored (λ fetch. fetch_had now w f brings.0 low standing courses is.2 brings.2 fetch) (after o now (event.Publish w f)) refl)
 
   pub stored_first : length plan.present ≡ length plan.files → IsStored plan supply (at_first o) supply.start
   stored_first sized = record {
@@ -185,12 +185,16 @@ module _ (plan : Plan) (supply : Supply) (differ : FilesDiffer plan) (own : OwnA
       by : (what : Carried) → is_published what ≡ true → FitsBehind plan (Some supply.start) hands past (record { event = event.Publish w f; carried = what }) (Some w) → Brings (now_after plan past) (event.Publish w f) what
       by carried.Nothing is behind = absurd (false≢true is)
       by (carried.Answered answer) is behind = absurd (false≢true is)
-      by (carried.Published bytes) is behind = (bytes, refl, λ number m script last at here listed.
-          let one = subst (λ x. IfSome x (λ number. IfSome (slice_get plan.modules number) (λ m. FitsPublish (stood plan (Some supply.start) past number m) (hands w) f (carried.Published bytes)))) (ap module_of at) behind in
-          let two = subst (λ x. IfSome x (λ m. FitsPublish (stood plan (Some supply.start) past number m) (hands w) f (carried.Published bytes))) here one in
-          let three = subst (λ b. FitsBytes b (is_listed f m.fetch) (stood plan (Some supply.start) past number m) (hands w) f (carried.Published bytes)) (tell w).0 two in
-          let four = subst (λ b. FitsBytes true b (stood plan (Some supply.start) past number m) (hands w) f (carried.Published bytes)) listed three in
-          subst (λ x. IfSome x (λ remote. TellsBytes (carried.Published bytes) (remote_bytes remote (name_of plan f)))) (tell w).1 four)
+      by (carried.Published bytes) is behind = (
+        bytes,
+        refl,
+        λ number m script last at here listed.
+            let one = subst (λ x. IfSome x (λ number. IfSome (slice_get plan.modules number) (λ m. FitsPublish (stood plan (Some supply.start) past number m) (hands w) f (carried.Published bytes)))) (ap module_of at) behind in
+            let two = subst (λ x. IfSome x (λ m. FitsPublish (stood plan (Some supply.start) past number m) (hands w) f (carried.Published bytes))) here one in
+            let three = subst (λ b. FitsBytes b (is_listed f m.fetch) (stood plan (Some supply.start) past number m) (hands w) f (carried.Published bytes)) (tell w).0 two in
+            let four = subst (λ b. FitsBytes true b (stood plan (Some supply.start) past number m) (hands w) f (carried.Published bytes)) listed three in
+            subst (λ x. IfSome x (λ remote. TellsBytes (carried.Published bytes) (remote_bytes remote (name_of plan f)))) (tell w).1 four,
+      )
 
   more_behind : (hands : ℕ → HandTold) → AllTell hands → length plan.present ≡ length plan.files → (past : List RunEntry) (e : RunEntry) → HoldsBehind past → Enabled o (events_of past) e.event → Fits plan (Some supply.start) hands past e → HoldsBehind (past ++ e ∷ [])
   unfolding Enabled
@@ -201,10 +205,10 @@ module _ (plan : Plan) (supply : Supply) (differ : FilesDiffer plan) (own : OwnA
         courses = subst (AreCoursesFit o) (sym next) (courses_after o (now_after plan past) e.event holds.courses);
         stored = subst (λ now. IsStored plan supply now (contents plan supply.start (past ++ e ∷ []))) (sym next)
             (subst (IsStored plan supply (after o (now_after plan past) e.event)) (sym (fold_more (λ files (x : RunEntry). put_carried plan files x.event x.carried) past supply.start e))
-              (stored_after (now_after plan past) (contents plan supply.start past) e.event e.carried holds.standing holds.courses sized holds.stored is (brings_of hands tell past e.event e.carried fits)));
+            (stored_after (now_after plan past) (contents plan supply.start past) e.event e.carried holds.standing holds.courses sized holds.stored is (brings_of hands tell past e.event e.carried fits)));
       }
 
   pub holds_behind : (hands : ℕ → HandTold) → AllTell hands → length plan.present ≡ length plan.files → (entries : List RunEntry) → IsRunOf plan entries → AllFit plan (Some supply.start) hands [] entries → HoldsBehind entries
   holds_behind hands tell sized entries run fits =
       by_entries plan supply.start hands HoldsBehind (more_behind hands tell sized) [] entries
-        (record { standing = standing_first o; courses = courses_first o; stored = stored_first sized }) run fits
+      (record { standing = standing_first o; courses = courses_first o; stored = stored_first sized }) run fits

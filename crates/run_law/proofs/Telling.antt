@@ -1,7 +1,7 @@
 -- Hands that no worker has may tell what they like.
-use Rattle.std.proofs.Common.{◌≡◌, ℕ, ◌<◌, Bool, true, false, ◌&&◌, nat_lt, IfSome, List, [], ◌∷◌, ◌++◌, slice_get, Option, Some, None, is_some, unwrap_or, refl, sym, ap, subst, ◌∙◌, if◌then◌else◌}
+use Rattle.std.proofs.Common.{◌≡◌, ℕ, ◌<◌, Bool, true, false, nat_lt, IfSome, List, [], ◌∷◌, ◌++◌, slice_get, Option, Some, None, unwrap_or, refl, sym, ap, subst, if◌then◌else◌}
 use Rattle.std.specs.Option.{option_map_or}
-use Rattle.std.proofs.lemmas.Bool.{false≢true, lt-ltb, ltb-true}
+use Rattle.std.proofs.lemmas.Bool.{lt-ltb, ltb-true}
 use Rattle.build_core.specs.declared.event.Event.{Event}
 use Rattle.build_core.specs.declared.event.Event.TheVariants as event
 use Rattle.event_core.specs.declared.outline.Outline.{Outline}
@@ -10,7 +10,7 @@ use Rattle.event_core.specs.Causes.{stage_at}
 use Rattle.event_core.specs.Enabled.{Enabled, IsEnabled}
 use Rattle.run_law.specs.Given.{AllTell, Given, IsFitting}
 use Rattle.event_core.specs.Outlines.{outline_of}
-use Rattle.event_core.specs.Runs.{IsRunOf, events_of, module_by, now_after}
+use Rattle.event_core.specs.Runs.{events_of, module_by, now_after}
 use Rattle.event_core.specs.Enabled.{IsRun}
 use Rattle.event_core.specs.Standing.{Now, course_of, now_of}
 use Rattle.event_core.specs.Worlds.{AllFit, Fits, FitsBehind, FitsModule, HandTold, is_told, stood, worker_of}
@@ -57,9 +57,10 @@ module _ (g : Given) where
           → (is_told (option_map_or (λ w. (g.hands w).area) found false) e.event e.carried ≡ true) × FitsBehind g.plan (Some g.start) g.hands past e found
           → (is_told (option_map_or (λ w. (told w).area) found false) e.event e.carried ≡ true) × FitsBehind g.plan (Some g.start) told past e found
       by None same x = x
-      by (Some w) same x =
-          (subst (λ (h : HandTold). is_told h.area e.event e.carried ≡ true) (same w refl) x.0,
-           subst (λ h. IfSome (module_by g.plan past w) (λ number. IfSome (slice_get g.plan.modules number) (λ m. FitsModule (stood g.plan (Some g.start) past number m) h (stage_at (course_of (now_after g.plan past) w)) e.event e.carried))) (same w refl) x.1)
+      by (Some w) same x = (
+        subst (λ (h : HandTold). is_told h.area e.event e.carried ≡ true) (same w refl) x.0,
+        subst (λ h. IfSome (module_by g.plan past w) (λ number. IfSome (slice_get g.plan.modules number) (λ m. FitsModule (stood g.plan (Some g.start) past number m) h (stage_at (course_of (now_after g.plan past) w)) e.event e.carried))) (same w refl) x.1,
+      )
 
   told_from : (past run : List RunEntry) → IsRun (outline_of g.plan) (events_of past) (events_of run) → AllFit g.plan (Some g.start) g.hands past run → AllFit g.plan (Some g.start) told past run
   told_from past [] is fits = tt

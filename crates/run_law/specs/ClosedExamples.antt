@@ -13,12 +13,10 @@ use Rattle.build_core.specs.declared.plan.Origin.TheVariants as origin
 use Rattle.build_core.specs.declared.plan.Plan.{Plan}
 use Rattle.build_core.specs.declared.plan.PlanModule.{PlanModule}
 use Rattle.goal_types.specs.declared.goal.OwnBytes.{OwnBytes}
-use Rattle.build_core.specs.declared.event.Event.{Event}
 use Rattle.build_core.specs.declared.event.Event.TheVariants as event
 use Rattle.build_core.specs.declared.ending.Ending.TheVariants as ending
 use Rattle.build_core.specs.declared.ending.State.{State}
 use Rattle.build_core.specs.declared.ending.State.TheVariants.{Waiting, Ended, Skipped}
-use Rattle.event_core.specs.declared.entry.Carried.{Carried}
 use Rattle.event_core.specs.declared.entry.Carried.TheVariants as carried
 use Rattle.event_core.specs.declared.entry.RunEntry.{RunEntry}
 use Rattle.build_core.specs.OneThread.{Supply}

@@ -15,7 +15,7 @@ use Rattle.build_core.specs.declared.ending.State.{State}
 use Rattle.build_core.specs.declared.ending.State.TheVariants as state
 use Rattle.build_core.specs.OneThread.{Progress, Supply, name_of, one_thread}
 use Rattle.event_core.specs.Outlines.{is_listed, outline_of}
-use Rattle.event_core.specs.Runs.{IsComplete, IsQuiet, IsRunOf, answers_in, contents, now_after, outputs_in}
+use Rattle.event_core.specs.Runs.{IsComplete, IsQuiet, IsRunOf, now_after, outputs_in}
 use Rattle.event_core.specs.Scripts.{is_there}
 use Rattle.event_core.specs.SoundPlans.{IsSoundPlan}
 use Rattle.event_core.specs.Standing.{state_of, upstream_of}

@@ -1,6 +1,6 @@
 -- A plan that is sound: three modules and two workers. The third has the first upstream; all three fetch one file, under one name. Its
 -- parameters: whether that file is there at the start, and the bytes that the first module may keep.
-use Rattle.std.specs.Prelude.{◌≡◌, ℕ, zero, suc, ◌≤◌, Bool, true, false, List, [], ◌∷◌, slice_get, Option, Some, None, is_some, unwrap_or, length, nat_eq, nat_lt}
+use Rattle.std.specs.Prelude.{◌≡◌, ℕ, zero, suc, Bool, true, false, List, [], ◌∷◌, slice_get, Option, Some, None, is_some, unwrap_or, length, nat_eq, nat_lt}
 use Rattle.std.specs.List.{IsDistinct}
 use Rattle.std.proofs.Common.{◌⊎◌, inl, inr, refl, sym, ap, subst, arith, ◌∙◌}
 use Rattle.std.proofs.lemmas.Bool.{eqb-true, false≢true}
@@ -10,7 +10,6 @@ use Rattle.goal_types.specs.declared.goal.Need.TheVariants as need
 use Rattle.goal_types.specs.declared.goal.Slot.TheVariants as slot
 use Rattle.build_core.specs.declared.plan.Origin.TheVariants as origin
 use Rattle.build_core.specs.declared.plan.Entry.{Entry}
-use Rattle.build_core.specs.declared.plan.OwnFile.{OwnFile}
 use Rattle.build_core.specs.declared.plan.Plan.{Plan}
 use Rattle.build_core.specs.declared.plan.PlanModule.{PlanModule}
 use Rattle.event_core.specs.Outlines.{is_listed, module_outline, outline_of}
@@ -121,11 +120,11 @@ module _ (there : Bool) (budget : ℕ) where
 
   places : IsSound (outline_of (plan there budget))
   places zero m at = subst (IsSoundModule (outline_of (plan there budget)) 0) (ap (λ o. unwrap_or o (module_outline (lib budget))) at)
-    (record { upstream = refl; batch = (omega arith, tt); names = refl; fetch = refl; reads = refl; own = refl; own_name = omega arith })
+      (record { upstream = refl; batch = (omega arith, tt); names = refl; fetch = refl; reads = refl; own = refl; own_name = omega arith })
   places (suc zero) m at = subst (IsSoundModule (outline_of (plan there budget)) 1) (ap (λ o. unwrap_or o (module_outline tool)) at)
-    (record { upstream = refl; batch = (omega arith, tt); names = refl; fetch = refl; reads = refl; own = refl; own_name = omega arith })
+      (record { upstream = refl; batch = (omega arith, tt); names = refl; fetch = refl; reads = refl; own = refl; own_name = omega arith })
   places (suc (suc zero)) m at = subst (IsSoundModule (outline_of (plan there budget)) 2) (ap (λ o. unwrap_or o (module_outline app)) at)
-    (record { upstream = refl; batch = (omega arith, tt); names = refl; fetch = refl; reads = refl; own = refl; own_name = omega arith })
+      (record { upstream = refl; batch = (omega arith, tt); names = refl; fetch = refl; reads = refl; own = refl; own_name = omega arith })
   places (suc (suc (suc n))) m at = absurd (nothing m at)
 
   no_zero : (number : ℕ) (m : PlanModule) → slice_get modules number ≡ Some m → is_own 0 m ≡ false
@@ -151,7 +150,7 @@ module _ (there : Bool) (budget : ℕ) where
 
   owned : (file : ℕ) (number : ℕ) (m : PlanModule) → slice_get modules number ≡ Some m → is_own file m ≡ true → number ≡ owner file
   owned file = each budget (λ number m. is_own file m ≡ true → number ≡ owner file)
-    (λ is. owner_is 0 file 1 2 refl refl (two file 1 2 is)) (λ is. ap owner (sym (one file 3 is))) (λ is. owner_is 2 file 4 5 refl refl (two file 4 5 is))
+      (λ is. owner_is 0 file 1 2 refl refl (two file 1 2 is)) (λ is. ap owner (sym (one file 3 is))) (λ is. owner_is 2 file 4 5 refl refl (two file 4 5 is))
 
   pub sound : IsSoundPlan (plan there budget)
   unfolding IsDistinct
@@ -162,9 +161,9 @@ module _ (there : Bool) (budget : ℕ) where
     files = ((refl, (refl, (refl, (refl, (refl, tt))))), ((refl, (refl, (refl, (refl, tt)))), ((refl, (refl, (refl, tt))), ((refl, (refl, tt)), ((refl, tt), (tt, tt))))));
     present = refl;
     modules = each budget (λ number m. IsSoundPlanModule m)
-      (record { upstream = tt; fetch = (tt, tt); own_files = ((refl, tt), (tt, tt)); own_slots = ((refl, tt), (tt, tt)); pom = refl; entries = refl; goals = refl; idle = λ none. absurd (goals_is none) })
-      (record { upstream = tt; fetch = (tt, tt); own_files = (tt, tt); own_slots = (tt, tt); pom = refl; entries = refl; goals = refl; idle = λ none. absurd (goals_is none) })
-      (record { upstream = (omega arith, tt); fetch = (tt, tt); own_files = ((refl, tt), (tt, tt)); own_slots = ((refl, tt), (tt, tt)); pom = refl; entries = refl; goals = refl; idle = λ none. absurd (goals_is none) });
+        (record { upstream = tt; fetch = (tt, tt); own_files = ((refl, tt), (tt, tt)); own_slots = ((refl, tt), (tt, tt)); pom = refl; entries = refl; goals = refl; idle = λ none. absurd (goals_is none) })
+        (record { upstream = tt; fetch = (tt, tt); own_files = (tt, tt); own_slots = (tt, tt); pom = refl; entries = refl; goals = refl; idle = λ none. absurd (goals_is none) })
+        (record { upstream = (omega arith, tt); fetch = (tt, tt); own_files = ((refl, tt), (tt, tt)); own_slots = ((refl, tt), (tt, tt)); pom = refl; entries = refl; goals = refl; idle = λ none. absurd (goals_is none) });
     cover = λ file. (0, each budget (λ number m. is_listed file m.fetch ≡ true → is_listed 0 m.batch ≡ true) (λ is. refl) (λ is. refl) (λ is. refl));
     not_fetched = not_fetched;
     one_owner = λ file a b m n at by own two. owned file a m at own ∙ sym (owned file b n by two);

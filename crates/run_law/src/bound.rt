@@ -13,5 +13,4 @@ pub fn runs_fit_in()
     ensures room { (plan : Plan) → IsSoundPlan plan → most_events (outline_of plan) ≤ plan.events }
     ensures bound { (plan : Plan) (run : List RunEntry) → IsSoundPlan plan → IsRunOf plan run
         → length run ≤ plan.events }
-{
-}
+{}

@@ -19,8 +19,8 @@ pub fn one_closed_form()
     ensures run { (g : Given) (run : List RunEntry) (said : Answers) → IsFitting g run
         → IsComplete g.plan run → Extends (answers_in g.plan run) said
         → AreJudged g.plan (supply_by g.start g.remote said)
-            (λ number. is_fault (state_after g.plan run number) ≡ false)
-            (state_after g.plan run) (outputs_after g.plan run) }
+        (λ number. is_fault (state_after g.plan run number) ≡ false)
+        (state_after g.plan run) (outputs_after g.plan run) }
     ensures states { (plan : Plan) (supply : Supply) (states others : ℕ → State)
         (outputs kept : ℕ → List OwnBytes) → IsSoundPlan plan
         → AllJudged plan supply states outputs → AllJudged plan supply others kept
@@ -29,5 +29,4 @@ pub fn one_closed_form()
         (outputs kept : ℕ → List OwnBytes) → IsSoundPlan plan
         → AllJudged plan supply states outputs → AllJudged plan supply others kept
         → (number : ℕ) → number < length plan.modules → outputs number ≡ kept number }
-{
-}
+{}

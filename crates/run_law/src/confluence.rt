@@ -25,5 +25,4 @@ pub fn run_confluence()
         → slice_get g.plan.modules number ≡ Some m → state_at (one_hand g said) number ≡ Ended e
         → goal < length m.goals → reaches e goal ≡ true
         → is_kept (answers_in g.plan run) number goal ≡ true }
-{
-}
+{}

@@ -21,5 +21,4 @@ pub fn faults_stay_apart()
     ensures files { (g : Given) (run : List RunEntry) (said : Answers) → IsFitting g run
         → Extends (answers_in g.plan run) said
         → IsBetween g.start (one_hand g said).files (contents g.plan g.start run) }
-{
-}
+{}

@@ -36,5 +36,4 @@ pub fn locks_guard()
         → Enabled (outline_of plan) (events_of past) e
         → is_there (after (outline_of plan) (now_after plan past) e).there file ≡ true
         → e ≡ Publish v file }
-{
-}
+{}

@@ -25,12 +25,11 @@ pub fn nothing_goes_back()
         → IsRunOf plan (past ++ rest)
         → is_over (progress_of (now_after plan past).progress number) ≡ true
         → progress_of (now_after plan (past ++ rest)).progress number
-          ≡ progress_of (now_after plan past).progress number }
+        ≡ progress_of (now_after plan past).progress number }
     ensures outputs { (plan : Plan) (past rest : List RunEntry) (number : ℕ)
         → IsRunOf plan (past ++ rest)
         → is_over (progress_of (now_after plan past).progress number) ≡ true
         → outputs_after plan (past ++ rest) number ≡ outputs_after plan past number }
     ensures ends { (plan : Plan) (run : List RunEntry) (e : Event) → IsRunOf plan run
         → IsComplete plan run → Enabled (outline_of plan) (events_of run) e → ⊥ }
-{
-}
+{}

@@ -12,6 +12,5 @@ pub fn again_the_same()
     ensures { (plan : Plan) (start between remote : Files) (said : Answers) → IsSoundPlan plan
         → IsBetween start (one_thread plan (supply_by start remote said)).files between
         → one_thread plan (supply_by between remote said)
-          ≡ one_thread plan (supply_by start remote said) }
-{
-}
+        ≡ one_thread plan (supply_by start remote said) }
+{}

@@ -5,7 +5,7 @@ use model_types::{
 };
 use mvn_base::{Machine, Pair, PomId};
 use mvn_shared::{List, Mem, Shared, Text};
-use profile_rules::inject;
+use profile_injection::inject;
 use std::alloc::Global;
 
 fn text(alloc: Global, text: &str) -> Mem<Text> {

@@ -98,14 +98,38 @@ third=$(cd .m2/repository && find . -type f | sort | xargs sha256sum)
 if [ "$first" = "$third" ]; then pass 'the repository after a failed goal'; else fail 'the repository after a failed goal' "$third"; fi
 rm src/main/java/demo/fail-compile
 
-# a link among the sources is not followed
-mkdir elsewhere
-echo 'behind a link' > elsewhere/fail-compile
-ln -s "$work/elsewhere" src/main/java/link
-want 'a link to a folder of sources' 0 "$report" install
-fourth=$(cd .m2/repository && find . -type f | sort | xargs sha256sum)
-if [ "$first" = "$fourth" ]; then pass 'a link was followed'; else fail 'a link was followed' ""; fi
-rm -r src/main/java/link elsewhere
+# links among the sources are followed at every level, to folders and to files, and a circle ends where it closes
+sums() { (cd .m2/repository && find . -type f | sort | xargs sha256sum); }
+mkdir -p src/main/java/part elsewhere/part
+echo 'class Part {}' > elsewhere/part/Part.java
+cp elsewhere/part/Part.java src/main/java/part/Part.java
+want 'sources without links' 0 "$report" install
+plain=$(sums)
+[ "$plain" != "$first" ] || fail 'sources without links' 'the jar is as before'
+# WHAT IS A LINK NOW: installs, and wants the same files
+same() {
+  want "$1" 0 "$report" install
+  if [ "$(sums)" = "$plain" ]; then pass "$1, and the same jar"; else fail "$1, and the same jar" "$(sums)"; fi
+}
+rm -r src/main/java/part
+ln -s ../../../elsewhere/part src/main/java/part
+same 'a link to a folder of sources'
+ln -s .. elsewhere/part/circle
+ln -s nowhere elsewhere/part/nowhere
+same 'a circle of links, and a link that leads nowhere'
+rm src/main/java/part elsewhere/part/circle elsewhere/part/nowhere
+mkdir src/main/java/part
+ln -s ../../../../elsewhere/part/Part.java src/main/java/part/Part.java
+same 'a link to a file of sources'
+mv src/main/java elsewhere/java
+rm elsewhere/java/part/Part.java
+ln -s ../../part/Part.java elsewhere/java/part/Part.java
+ln -s ../../elsewhere/java src/main/java
+same 'a link in the place of a folder of sources'
+rm src/main/java
+mv elsewhere/java src/main/java
+rm -r src/main/java/part elsewhere
+mkdir -p src/main/java/demo
 
 # sources of one byte more than is allowed together; `validate` doesn't read them
 mkdir -p src/test/resources
@@ -122,6 +146,34 @@ mkdir -p "$folder/app-1.0.jar/in"
 want 'a folder in the place of the jar' 3 $'failed demo:app:1.0 fault shelf\ntotal 1 built 0 failed 1 skipped 0\n' install
 if [ -d "$folder/app-1.0.jar/in" ]; then pass 'the folder stays'; else fail 'the folder stays' 'it is gone'; fi
 rm -rf .m2 src
+
+# a file in the place of the staging folder, and above it; a piece on a full disk, for which no file may get a byte
+mkdir -p .m2/repository
+: > .m2/repository/.staging
+want 'a file in the place of the staging folder' 3 $'fault area\n' install
+rm -r .m2
+: > .m2
+want 'a file in the place of the repository' 3 $'fault area\n' install
+rm .m2
+got=$(trap '' XFSZ; ulimit -f 0; "$mvn" install; echo "status $?")
+if [ "$got" = $'failed demo:app:1.0 fault area\ntotal 1 built 0 failed 1 skipped 0\nstatus 3' ] && [ ! -e "$folder" ]; then
+  pass 'a piece on a full disk'
+else
+  fail 'a piece on a full disk' "$got"
+fi
+rm -rf .m2
+
+# variables that are empty count as absent
+got=$(env MVN_REPO= MVN_REMOTE= PWD= "$mvn" install; echo "status $?")
+if [ "$got" = "${report}status 0" ] && [ -f "$folder/app-1.0.jar" ]; then pass 'empty variables'; else fail 'empty variables' "$got"; fi
+rm -rf .m2
+
+# only at the root of a repository the name of the staging folder is taken
+printf '%s' "${pom/>app</>.staging<}" > pom.xml
+want 'an artifact named as the staging folder' 0 "${report/app/.staging}" install
+if [ -f .m2/repository/demo/.staging/1.0/.staging-1.0.jar ]; then pass 'its jar'; else fail 'its jar' "$(find .m2)"; fi
+rm -rf .m2
+printf '%s' "$pom" > pom.xml
 
 # a pipe that nobody reads, and a full device
 status=$( { "$mvn" validate; echo $? >&2; } 2>&1 >/dev/full )

@@ -1,66 +1,97 @@
 #!/usr/bin/env bash
-# Kills installs at random moments, up to half as late again as one takes, KILLS of them (200 by itself), and looks after
-# each that no name is torn: the POM and the jar are absent, or have their whole old bytes or their whole new ones. At the
-# end one more install, undisturbed, leaves what it leaves in a new repository. The program is the one that MVN names, or bin/mvn.
+# Kills installs of a project of three modules at random moments, up to half as late again as one takes, and looks after each that no name
+# is torn: each POM and each jar is absent, or has its whole old bytes or its whole new ones. At the end one more install, undisturbed,
+# leaves what it leaves in a new repository. As long as `mvn` builds one POM at a time, an install of the project is one of each module, in
+# their order. usage: kill_install.sh [KILLS], 100 by itself. The program is the one that MVN names, or bin/mvn.
 . "$(dirname "$0")/cases.sh"
 find_program
-kills=${KILLS:-200}
+kills=${1-100}
+[[ $kills =~ ^[1-9][0-9]*$ ]] || stop "usage: kill_install.sh [KILLS]"
 cd "$work" || exit 1
+modules=(base core app)
+export MVN_REPO=$work/repository
 
-printf '<project><modelVersion>4.0.0</modelVersion><groupId>demo</groupId><artifactId>app</artifactId><version>1.0</version></project>' > pom.xml
-mkdir -p src/main/java
-pom=.m2/repository/demo/app/1.0/app-1.0.pom
-jar=.m2/repository/demo/app/1.0/app-1.0.jar
+for module in "${modules[@]}"; do
+  mkdir -p "$module/src/main/java"
+  printf '<project><modelVersion>4.0.0</modelVersion><groupId>demo</groupId><artifactId>%s</artifactId><version>1.0</version></project>' "$module" > "$module/pom.xml"
+done
+
+# old OR new: the sources of all modules
+write_sources() {
+  local module
+  for module in "${modules[@]}"; do
+    head -c 700000 /dev/zero | tr '\0' "${1:0:1}" > "$module/src/main/java/App.java"
+  done
+}
+
+install() {
+  local module
+  for module in "${modules[@]}"; do
+    (cd "$module" && exec "$mvn" install) || return
+  done
+}
+
+# MODULE, KIND: the file's path
+file() { echo "$MVN_REPO/demo/$1/1.0/$1-1.0.$2"; }
 
 # the two states that builds of two sources leave
-state() { sha256sum < "$1" 2>/dev/null; }
-for source in old new; do
-  head -c 2000000 /dev/zero | tr '\0' "${source:0:1}" > src/main/java/App.java
-  rm -rf .m2
+for side in old new; do
+  write_sources "$side"
+  rm -rf "$MVN_REPO"
   begun=$(date +%s%N)
-  "$mvn" install > /dev/null || stop "the install of $source failed"
+  install > /dev/null || stop "the install of $side failed"
   longest=$((($(date +%s%N) - begun) * 3 / 2000000 + 1))
-  [ -s "$jar" ] && [ -s "$pom" ] || stop "the install of $source left no jar or no POM"
-  state "$jar" > "$source.jar"
+  for module in "${modules[@]}"; do
+    for kind in pom jar; do cp "$(file "$module" "$kind")" "$side.$module.$kind" && [ -s "$side.$module.$kind" ] || exit 1; done
+    ! cmp -s "old.$module.jar" "$side.$module.jar" || [ "$side" = old ] || stop "two sources make one jar, so no jar tells whose it is"
+  done
 done
-state "$pom" > whole.pom
-! cmp -s old.jar new.jar || stop "two sources make one jar, so no jar tells whose it is"
 
 torn=0
 killed=0
 changed=0
 for ((i = 0; i < kills; i++)); do
-  [ $((i % 20)) = 0 ] && rm -rf .m2
-  source=$([ $((i % 2)) = 0 ] && echo old || echo new)
-  head -c 2000000 /dev/zero | tr '\0' "${source:0:1}" > src/main/java/App.java
-  "$mvn" install > /dev/null 2>&1 &
+  [ $((i % 20)) = 0 ] && rm -rf "$MVN_REPO"
+  side=$([ $((i % 2)) = 0 ] && echo old || echo new)
+  write_sources "$side"
+  set -m
+  install > /dev/null 2>&1 &
   pid=$!
+  set +m
   moment=$((RANDOM % longest))
   sleep "$(printf '%d.%03d' $((moment / 1000)) $((moment % 1000)))"
-  kill -9 "$pid" 2>/dev/null
-  wait "$pid" 2>/dev/null
+  # the group of the processes of this one install
+  kill -9 -- "-$pid" 2> /dev/null
+  wait "$pid" 2> /dev/null
   [ $? = 137 ] && killed=$((killed + 1))
-  [ -e "$jar" ] && state "$jar" | cmp -s - "$source.jar" && changed=$((changed + 1))
-  if [ -e "$pom" ]; then state "$pom" | cmp -s - whole.pom || torn=$((torn + 1)); fi
-  if [ -e "$jar" ]; then
-    state "$jar" | cmp -s - old.jar || state "$jar" | cmp -s - new.jar || torn=$((torn + 1))
-  fi
-done
+  [ ! -e "$(file base jar)" ] || ! cmp -s "$(file base jar)" "$side.base.jar" || changed=$((changed + 1))
+  for module in "${modules[@]}"; do
+    for kind in pom jar; do
+      name=$(file "$module" "$kind")
+      [ ! -e "$name" ] || cmp -s "$name" "old.$module.$kind" || cmp -s "$name" "new.$module.$kind" || torn=$((torn + 1))
+    done
+  done
+done 2> /dev/null
 
-# Where no install was killed, or none came as far as its jar, nothing is shown.
+# Where no install was killed, or none came as far as a jar, nothing is shown.
 if [ "$torn" = 0 ] && [ "$killed" != 0 ] && [ "$changed" != 0 ]; then
-  pass "no name torn by $kills installs, $killed killed while they ran, the jar new after $changed"
+  pass "no name torn by $kills installs, $killed killed while they ran, the first jar new after $changed"
 else
-  fail "no name torn by $kills installs" "$torn torn, $killed killed while they ran, the jar new after $changed"
+  fail "no name torn by $kills installs" "$torn torn, $killed killed while they ran, the first jar new after $changed"
 fi
 
-head -c 2000000 /dev/zero | tr '\0' n > src/main/java/App.java
-last=$("$mvn" install)
-if [ "$last" = $'built demo:app:1.0\ntotal 1 built 1 failed 0 skipped 0' ] && state "$jar" | cmp -s - new.jar && state "$pom" | cmp -s - whole.pom; then
+write_sources new
+last=$(install)
+wanted=$(for module in "${modules[@]}"; do printf 'built demo:%s:1.0\ntotal 1 built 1 failed 0 skipped 0\n' "$module"; done)
+differ=
+for module in "${modules[@]}"; do
+  for kind in pom jar; do cmp -s "$(file "$module" "$kind")" "new.$module.$kind" || differ+=" $module-1.0.$kind"; done
+done
+if [ "$last" = "$wanted" ] && [ -z "$differ" ]; then
   pass 'the next install ends like an undisturbed one'
 else
-  fail 'the next install ends like an undisturbed one' "$last"
+  fail 'the next install ends like an undisturbed one' "$last, and these differ:$differ"
 fi
-left=$(find .m2/repository/.staging -type f 2>/dev/null | wc -l)
+left=$(find "$MVN_REPO/.staging" -type f 2> /dev/null | wc -l)
 if [ "$left" = 0 ]; then pass 'no piece is left'; else fail 'no piece is left' "$left are"; fi
 tell

@@ -1,16 +1,14 @@
 // Rows about repositories: what is published, and what a remote gives.
-use local_repo::{put, settle, stage};
+use local_repo::{put, settle, stage, sweep};
 use mvn_base::{FileName, Gav, file_of, valid_group, valid_name, valid_version};
-use mvn_outside::{ReadFault, Remote};
+use mvn_outside::{Area, ReadFault, Remote};
 use mvn_shared::{Mem, Text};
 use outside_real::{RealArea, RealRemote, RealShelf};
 use std::alloc::Global;
-use std::fs;
-use std::os::unix::fs::symlink;
 
-fn demo(alloc: Global) -> Mem<Gav> {
+fn demo(alloc: Global, artifact: &str) -> Mem<Gav> {
     let group = Text::from_str(alloc, "org.demo")?;
-    let artifact = Text::from_str(alloc, "a")?;
+    let artifact = Text::from_str(alloc, artifact)?;
     let version = Text::from_str(alloc, "1.0")?;
     Ok(Gav {
         group,
@@ -19,9 +17,9 @@ fn demo(alloc: Global) -> Mem<Gav> {
     })
 }
 
-// The name of the POM of org.demo:a:1.0.
-fn pom_name(alloc: Global) -> Mem<Option<FileName>> {
-    let gav = demo(alloc)?;
+// The name of the POM of an artifact of org.demo in version 1.0.
+fn pom_name(alloc: Global, artifact: &str) -> Mem<Option<FileName>> {
+    let gav = demo(alloc, artifact)?;
     let none = Text::from_str(alloc, "")?;
     let pom = Text::from_str(alloc, "pom")?;
     let named = valid_group(gav.group.as_bytes())
@@ -35,12 +33,21 @@ fn pom_name(alloc: Global) -> Mem<Option<FileName>> {
     Ok(Some(file_of(alloc, &gav, &none, &pom)?))
 }
 
+// The first staging folder of the repository in a folder, as a process of this name uses it.
+fn area<'a>(
+    rt: &'a HostRuntime,
+    folder: &str,
+    process: &str,
+) -> Mem<RealArea<'a, HostRuntime>> {
+    let staging = Text::of(format!(in rt.alloc(); "{folder}/.staging/0")?);
+    Ok(RealArea::new(rt, staging, Text::from_str(rt.alloc(), process)?))
+}
+
 // Whether the repository takes the bytes under the name, and settles.
 fn takes(rt: &HostRuntime, folder: &str, name: &FileName, bytes: &[u8]) -> Mem<bool> {
     let root = Text::from_str(rt.alloc(), folder)?;
-    let staging = Text::of(format!(in rt.alloc(); "{folder}/.staging/0")?);
     let mut shelf = RealShelf::new(rt, root);
-    let mut area = RealArea::new(rt, staging);
+    let mut area = area(rt, folder, "one")?;
     let Ok(piece) = stage(&mut area, bytes) else {
         return Ok(false);
     };
@@ -50,33 +57,43 @@ fn takes(rt: &HostRuntime, folder: &str, name: &FileName, bytes: &[u8]) -> Mem<b
     Ok(settle(&mut shelf).is_ok())
 }
 
-fn answer(alloc: Global, is_published: bool) -> anyhow::Result<String> {
-    let word = if is_published { "published" } else { "a fault" };
+fn answer(alloc: Global, is_done: bool, word: &str) -> anyhow::Result<String> {
+    let word = if is_done { word } else { "a fault" };
     Ok(String::from_str(alloc, word)?)
 }
 
-/// Whether a repository takes bytes.
-pub fn publish(rt: &HostRuntime, folder: &str, bytes: &str) -> anyhow::Result<String> {
-    let taken = match pom_name(rt.alloc())? {
+/// Whether a repository takes bytes as the POM of an artifact.
+pub fn publish(
+    rt: &HostRuntime,
+    folder: &str,
+    artifact: &str,
+    bytes: &str,
+) -> anyhow::Result<String> {
+    let taken = match pom_name(rt.alloc(), artifact)? {
         Some(name) => takes(rt, folder, &name, bytes.as_bytes())?,
         None => false,
     };
-    answer(rt.alloc(), taken)
+    answer(rt.alloc(), taken, "published")
 }
 
-/// The same where the piece lies on a full disk.
-pub fn publish_full(rt: &HostRuntime, folder: &str) -> anyhow::Result<String> {
-    let staging = format!(in rt.alloc(); "{folder}/.staging/0")?;
-    let piece = format!(in rt.alloc(); "{staging}/0")?;
-    fs::create_dir_all(rt, staging.as_str())?;
-    symlink(rt, "/dev/full", piece.as_str())?;
-    publish(rt, folder, "pom")
+/// Whether a repository's first staging folder can be swept.
+pub fn swept(rt: &HostRuntime, folder: &str) -> anyhow::Result<String> {
+    let mut area = area(rt, folder, "one")?;
+    answer(rt.alloc(), sweep(&mut area).is_ok(), "swept")
 }
 
-/// What a remote gives of the POM.
+/// The same while another user of the folder holds a piece there.
+pub fn swept_beside(rt: &HostRuntime, folder: &str) -> anyhow::Result<String> {
+    let mut other = area(rt, folder, "two")?;
+    let is_held = other.begin().is_ok();
+    let mut area = area(rt, folder, "one")?;
+    answer(rt.alloc(), is_held && sweep(&mut area).is_ok(), "swept")
+}
+
+/// What a remote gives of the POM of `a`.
 pub fn fetch(rt: &HostRuntime, folder: &str, limit: u64) -> anyhow::Result<String> {
     let mut remote = RealRemote::new(rt, Text::from_str(rt.alloc(), folder)?);
-    let Some(name) = pom_name(rt.alloc())? else {
+    let Some(name) = pom_name(rt.alloc(), "a")? else {
         return Ok(String::from_str(rt.alloc(), "no name")?);
     };
     let answer = match remote.fetch(&name, limit) {
@@ -88,9 +105,9 @@ pub fn fetch(rt: &HostRuntime, folder: &str, limit: u64) -> anyhow::Result<Strin
     Ok(String::from_str(rt.alloc(), answer)?)
 }
 
-/// How many versions of the artifact a remote lists.
+/// How many versions of the artifact `a` a remote lists.
 pub fn versions(rt: &HostRuntime, folder: &str) -> anyhow::Result<String> {
-    let gav = demo(rt.alloc())?;
+    let gav = demo(rt.alloc(), "a")?;
     let mut remote = RealRemote::new(rt, Text::from_str(rt.alloc(), folder)?);
     if !valid_group(gav.group.as_bytes()) || !valid_name(gav.artifact.as_bytes()) {
         return Ok(String::from_str(rt.alloc(), "no name")?);

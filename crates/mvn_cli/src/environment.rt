@@ -1,10 +1,15 @@
-// What the program takes from its surroundings: its words, and the variables of the environment.
+// What the program takes from its surroundings: its words, the variables of the environment, and its own process.
+ghost use Rattle.std.specs.Prelude.{◌≡◌, IfOk};
+ghost use Rattle.std.specs.Option.{option_copied};
+ghost use Rattle.mvn_cli.specs.Variables.{value_or};
+
 use mvn_base::{Machine, Pair};
 use mvn_shared::{Bytes, List, Mem, OutOfMemory, Text, TextError};
 use std::alloc::Global;
 use std::collections::BTreeMap;
 use std::env::FillError;
-use std::rt::Env;
+use std::process;
+use std::rt::{Clock, Env};
 
 /// How many bytes a word or a variable may have, tried one after another. The system's own limit lies below the last.
 const SIZES: [usize; 4] = [256, 4096, 131_072, 4_194_304];
@@ -91,17 +96,42 @@ pub(crate) fn variables<R: Env>(rt: &R, alloc: Global) -> Mem<BTreeMap<Text, Tex
     Ok(variables)
 }
 
-/// The value of a variable, or the text that stands for it where there is none.
+// The value of a variable, or another text where there is none, or an empty one.
+fn value_or(alloc: Global, value: Option<&Text>, other: &str) -> Mem<Text>
+    ensures { IfOk result (λ text. text ≡ value_or (option_copied value.entry) other.now) }
+{
+    match value {
+        Some(value) => match value.as_bytes() {
+            [] => Text::from_str(alloc, other),
+            [_, ..] => Ok(value.clone()?),
+        },
+        None => Text::from_str(alloc, other),
+    }
+}
+
+/// The value of a variable, or the text that stands for it where there is none, or an empty one: no folder has an empty name.
 pub(crate) fn variable_or(
     alloc: Global,
     variables: &BTreeMap<Text, Text>,
     name: &str,
     other: &str,
 ) -> Mem<Text> {
-    match variables.get(&Text::from_str(alloc, name)?) {
-        Some(value) => Ok(value.clone()?),
-        None => Text::from_str(alloc, other),
+    value_or(alloc, variables.get(&Text::from_str(alloc, name)?), other)
+}
+
+// When this is asked, in nanoseconds since 1970; 0 where the clock isn't known.
+fn now<R: Clock>(rt: &R) -> u128 {
+    match rt.since_1970() {
+        Ok(time) => time.as_nanos(),
+        Err(_) => 0,
     }
+}
+
+/// A name of this process that no other has while its files are there: its number, and when it began.
+pub(crate) fn process_name(rt: &HostRuntime, alloc: Global) -> Mem<Text> {
+    let number = process::id(rt.process());
+    let start = now(rt);
+    Ok(Text::of(format!(in alloc; "{number}-{start}")?))
 }
 
 // The variables as pairs, ascending by name.

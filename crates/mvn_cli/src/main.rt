@@ -6,7 +6,7 @@ ghost use Rattle.std.specs.Prelude.{◌≡◌, length, IfOk};
 mod environment;
 mod words;
 
-use environment::{machine, variable_or, variables, words};
+use environment::{machine, process_name, variable_or, variables, words};
 use gate_builtin::Builtin;
 use mvn_outside::{DeviceFault, Hand, Sink, write_all};
 use mvn_shared::{Bytes, Mem, Text};
@@ -52,7 +52,12 @@ fn status_of_text<O: Sink>(sink: &mut O, text: &str) -> u8 {
 }
 
 // The hands: each with the remote, its own staging folder in the repository, and the built-in goals.
-fn hands<'a>(rt: &'a HostRuntime, repository: &Text, remote: &Text) -> Mem<Vec<RealHand<'a>>>
+fn hands<'a>(
+    rt: &'a HostRuntime,
+    repository: &Text,
+    remote: &Text,
+    process: &Text,
+) -> Mem<Vec<RealHand<'a>>>
     ensures { IfOk result (λ hands. length hands.items ≡ 16) }
 {
     let alloc = rt.alloc();
@@ -61,7 +66,7 @@ fn hands<'a>(rt: &'a HostRuntime, repository: &Text, remote: &Text) -> Mem<Vec<R
         let staging = format!(in alloc; "{repository}/.staging/{i}")?;
         hands.push(Hand {
             remote: RealRemote::new(rt, remote.clone()?),
-            area: RealArea::new(rt, Text::of(staging)),
+            area: RealArea::new(rt, Text::of(staging), process.clone()?),
             gate: Builtin::new(alloc),
         })?;
     }
@@ -75,7 +80,8 @@ fn build<O: Sink>(rt: &HostRuntime, words: &[Bytes], out: &mut O) -> Mem<u8> {
     let machine = machine(alloc, &variables)?;
     let repository = variable_or(alloc, &variables, "MVN_REPO", ".m2/repository")?;
     let remote = variable_or(alloc, &variables, "MVN_REMOTE", ".m2/remote")?;
-    let mut hands = hands(rt, &repository, &remote)?;
+    let process = process_name(rt, alloc)?;
+    let mut hands = hands(rt, &repository, &remote, &process)?;
     let mut tree = RealTree::new(rt, Text::from_str(alloc, ".")?);
     let shelf = RealShelf::new(rt, repository);
     let ended = mvn(alloc, words, &machine, &mut tree, shelf, &mut hands, out);

@@ -2,5 +2,5 @@
 use Rattle.std.specs.Prelude.{ℕ}
 use Rattle.outside_real.specs.declared.shelf.RealShelf.{RealShelf}
 
-abbrev pub shelf_faults : {R F D : Type 0} → RealShelf R F D → ℕ
+abbrev pub shelf_faults : {R D : Type 0} → RealShelf R D → ℕ
 shelf_faults shelf = shelf.faults

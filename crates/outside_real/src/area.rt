@@ -2,22 +2,26 @@ ghost use Rattle.std.specs.Prelude.{◌≡◌, ◌<◌, ◌≤◌, length, IfOk}
 ghost use Rattle.std.specs.FinMap as map;
 
 use crate::count::counted;
-use crate::fault::{fault_of, is_absent};
+use crate::fault::fault_of;
 use crate::folders::{make_folders, sync_folders};
+use crate::piece::{new_piece, remove_piece, sweep_folder};
 use mvn_outside::{Area, DeviceFault};
 use mvn_shared::{Mem, Text};
 use std::collections::{BTreeMap, BTreeSet};
-use std::fs::{OpenFile, OpenOptions};
+use std::fs::{File, OpenFile};
 use std::io::{ErrorKind, Write};
 use std::rt;
 
-/// One worker's staging folder on a disk. It tells which pieces are there, and nothing of their bytes. A piece is a file
-/// whose name is its number.
+/// One worker's staging folder on a disk, which several programs may share. It tells which of its own pieces are there, and nothing of
+/// their bytes. A piece is a file of this process alone, made new under the process's name and the piece's number, and held open and
+/// locked until it is published or discarded.
 #[derive(Drop)]
-pub struct RealArea<'a, R: rt::Files + AllocGlobal + Clone + Drop> {
+pub struct RealArea<'a, R: rt::Files<File = File> + AllocGlobal + Clone + Drop> {
     rt: &'a R,
     folder: Text,
+    owner: Text,
     pieces: BTreeMap<u64, bool>,
+    files: BTreeMap<u64, File>,
     next: u64,
     faults: u64,
 }
@@ -43,19 +47,22 @@ fn write_some<F: Write>(file: &mut F, bytes: &[u8]) -> Result<usize, DeviceFault
     Err(DeviceFault::Failed)
 }
 
-impl<'a, R: rt::Files + AllocGlobal + Clone + Drop> RealArea<'a, R> {
+impl<'a, R: rt::Files<File = File> + AllocGlobal + Clone + Drop> RealArea<'a, R> {
     ghost use Rattle.outside_real.specs.Area.{area_pieces, area_faults};
 
-    /// The staging folder at a path of the system, which need not be there. What a stopped run left in it stays until
-    /// it is swept.
-    pub fn new(rt: &'a R, folder: Text) -> RealArea<'a, R>
+    /// The staging folder at a path of the system, which need not be there, and a name that no other process has. What a stopped run
+    /// left in the folder stays until it is swept.
+    pub fn new(rt: &'a R, folder: Text, owner: Text) -> RealArea<'a, R>
         ensures { area_faults result ≡ 0 }
     {
         let pieces = BTreeMap::new(rt.alloc());
+        let files = BTreeMap::new(rt.alloc());
         RealArea {
             rt,
             folder,
+            owner,
             pieces,
+            files,
             next: 0,
             faults: 0,
         }
@@ -64,7 +71,8 @@ impl<'a, R: rt::Files + AllocGlobal + Clone + Drop> RealArea<'a, R> {
     // The path of a piece.
     pub(crate) fn path_of(&self, piece: u64) -> Mem<String> {
         let folder = &self.folder;
-        Ok(format!(in self.rt.alloc(); "{folder}/{piece}")?)
+        let owner = &self.owner;
+        Ok(format!(in self.rt.alloc(); "{folder}/{owner}-{piece}")?)
     }
 
     // Drops a piece that has left the folder.
@@ -73,75 +81,57 @@ impl<'a, R: rt::Files + AllocGlobal + Clone + Drop> RealArea<'a, R> {
         ensures faults { area_faults self.new ≡ area_faults self.old }
     {
         self.pieces.remove(&piece);
+        self.files.remove(&piece);
     }
 
-    // Makes the folder, so that it stays where it is new, and an empty file.
-    fn create(&self, piece: u64) -> Result<(), DeviceFault> {
-        let path = self.path_of(piece)?;
+    // Makes the folder, so that it stays where it is new.
+    fn make_folder(&self) -> Result<(), DeviceFault> {
         let mut changed = BTreeSet::new(self.rt.alloc());
         make_folders(self.rt, self.folder.as_str(), &mut changed)?;
-        sync_folders(self.rt, &changed)?;
-        let mut how = OpenOptions::new();
-        how.write(true).create(true).truncate(true);
-        self.rt
-            .open_file(&how, path.as_str())
-            .map_err(|e| fault_of(&e))?;
-        Ok(())
+        sync_folders(self.rt, &changed)
     }
 
-    // Writes a part of the bytes at the end of a file.
-    fn write_part(&self, piece: u64, bytes: &[u8]) -> Result<usize, DeviceFault>
+    // A new empty file, under the next number that is free.
+    fn create(&self) -> Result<(u64, File), DeviceFault> {
+        self.make_folder()?;
+        for piece in self.next..u64::MAX {
+            let path = self.path_of(piece)?;
+            if let Some(file) = new_piece(self.rt, path.as_str())? {
+                return Ok((piece, file));
+            }
+        }
+        Err(DeviceFault::Memory)
+    }
+
+    // Writes a part of the bytes at the end of a piece.
+    fn write_part(&mut self, piece: u64, bytes: &[u8]) -> Result<usize, DeviceFault>
         ensures within { IfOk result (λ count. count ≤ length bytes.now) }
         ensures progress { IfOk result (λ count. 0 < length bytes.now → 0 < count) }
+        ensures pieces { area_pieces self.new ≡ area_pieces self.old }
+        ensures faults { area_faults self.new ≡ area_faults self.old }
     {
-        let path = self.path_of(piece)?;
-        let mut file = self
-            .rt
-            .open_file(OpenOptions::new().append(true), path.as_str())
-            .map_err(|e| fault_of(&e))?;
-        write_some(&mut file, bytes)
+        match self.files.get_mut(&piece) {
+            Some(file) => write_some(file, bytes),
+            None => Err(DeviceFault::Failed),
+        }
     }
 
-    // Brings a file's bytes to the disk.
+    // Brings a piece's bytes to the disk.
     fn sync(&self, piece: u64) -> Result<(), DeviceFault> {
-        let path = self.path_of(piece)?;
-        let file = self
-            .rt
-            .open_file(OpenOptions::new().append(true), path.as_str())
-            .map_err(|e| fault_of(&e))?;
-        file.sync_all().map_err(|e| fault_of(&e))
+        match self.files.get(&piece) {
+            Some(file) => file.sync_all().map_err(|e| fault_of(&e)),
+            None => Err(DeviceFault::Failed),
+        }
     }
 
-    // Removes a file, if it is there.
+    // Removes a piece's file, if it is there.
     fn remove(&self, piece: u64) -> Result<(), DeviceFault> {
         let path = self.path_of(piece)?;
-        match self.rt.remove_file(path.as_str()) {
-            Ok(()) => Ok(()),
-            Err(e) => if is_absent(&e) {
-                Ok(())
-            } else {
-                Err(fault_of(&e))
-            },
-        }
-    }
-
-    // Removes the folder with all that is in it.
-    fn remove_all(&self) -> Result<(), DeviceFault> {
-        match self
-            .rt
-            .remove_dir_all(self.rt.alloc(), self.folder.as_str())
-        {
-            Ok(()) => Ok(()),
-            Err(e) => if is_absent(&e) {
-                Ok(())
-            } else {
-                Err(fault_of(&e))
-            },
-        }
+        remove_piece(self.rt, path.as_str())
     }
 }
 
-impl<'a, R: rt::Files + AllocGlobal + Clone + Drop> Area for RealArea<'a, R> {
+impl<'a, R: rt::Files<File = File> + AllocGlobal + Clone + Drop> Area for RealArea<'a, R> {
     ghost use Rattle.std.specs.Prelude.{None, false};
     ghost use Rattle.std.specs.FinMap.{from_entries};
 
@@ -157,12 +147,14 @@ impl<'a, R: rt::Files + AllocGlobal + Clone + Drop> Area for RealArea<'a, R> {
 
     // A number is given once; the last of them never.
     fn begin(&mut self) -> Result<u64, DeviceFault> {
-        let piece = self.next;
+        let answer = self.create();
+        let (piece, file) = counted(&mut self.faults, answer)?;
         if piece == u64::MAX || self.pieces.contains_key(&piece) {
             return Err(DeviceFault::Memory);
         }
-        let answer = self.create(piece);
-        counted(&mut self.faults, answer)?;
+        if self.files.insert(piece, file).is_err() {
+            return Err(DeviceFault::Memory);
+        }
         match self.pieces.insert(piece, false) {
             Ok(_) => {
                 self.next = piece + 1;
@@ -193,10 +185,11 @@ impl<'a, R: rt::Files + AllocGlobal + Clone + Drop> Area for RealArea<'a, R> {
         Ok(())
     }
 
+    // The own pieces are let go first: a sweep removes what nobody holds.
     fn sweep(&mut self) -> Result<(), DeviceFault> {
-        let answer = self.remove_all();
-        counted(&mut self.faults, answer)?;
         self.pieces.clear();
-        Ok(())
+        self.files.clear();
+        let answer = sweep_folder(self.rt, self.folder.as_str());
+        counted(&mut self.faults, answer)
     }
 }

@@ -1,9 +1,10 @@
 // The folders of the system: their paths, and how their names come to the disk.
 ghost use Rattle.std.specs.Prelude.{◌≡◌, IfOk};
 ghost use Rattle.std.specs.String.{string_bytes};
-ghost use Rattle.outside_real.specs.Paths.{full_path, is_step, is_inside};
+ghost use Rattle.outside_real.specs.Paths.{full_path, is_step, leads_below, is_in_staging, is_inside};
 
-use crate::fault::{fault_of, is_absent};
+use crate::fault::fault_of;
+use crate::look::is_folder;
 use mvn_outside::DeviceFault;
 use mvn_shared::{Mem, Text};
 use std::alloc::Global;
@@ -29,14 +30,27 @@ fn is_step(step: &[u8]) -> bool
     !step.is_empty()
         && step != b".".as_slice()
         && step != b"..".as_slice()
-        && step != b".staging".as_slice()
 }
 
-/// Whether a path stays in the repository and out of its staging folder: no step is empty, `.`, `..` or `.staging`.
+fn leads_below(path: &[u8]) -> bool
+    ensures { result ≡ leads_below path.now }
+{
+    path.split(|b| *b == b'/').all(|step| is_step(step))
+}
+
+#[tactic(auto, unfolding(crate::specs::Paths::is_in_staging))]
+fn is_in_staging(path: &[u8]) -> bool
+    ensures { result ≡ is_in_staging path.now }
+{
+    path == b".staging".as_slice() || path.starts_with(b".staging/")
+}
+
+/// Whether a path stays in the repository and out of its staging folder: no step is empty, `.` or `..`, and the first isn't
+/// `.staging`.
 pub(crate) fn is_inside(path: &[u8]) -> bool
     ensures { result ≡ is_inside path.now }
 {
-    path.split(|b| *b == b'/').all(|step| is_step(step))
+    leads_below(path) && !is_in_staging(path)
 }
 
 /// The folder of a path of the system.
@@ -44,18 +58,6 @@ pub(crate) fn parent_of(path: &str) -> &str {
     match path.rsplit_once('/') {
         Some((folder, _)) => if folder.is_empty() { "/" } else { folder },
         None => ".",
-    }
-}
-
-// Whether a folder is there, itself or through a link.
-fn is_folder<R: rt::Files>(rt: &R, path: &str) -> Result<bool, DeviceFault> {
-    match rt.metadata(path) {
-        Ok(metadata) => Ok(metadata.is_dir()),
-        Err(e) => if is_absent(&e) {
-            Ok(false)
-        } else {
-            Err(fault_of(&e))
-        },
     }
 }
 
@@ -87,8 +89,7 @@ pub(crate) fn make_folders<R: rt::Files + AllocGlobal>(
     let alloc = rt.alloc();
     let missing = missing_folders(rt, alloc, path)?;
     for folder in missing.iter().rev() {
-        let above = Text::from_str(alloc, parent_of(folder))?;
-        changed.insert(above).map_err(|_| DeviceFault::Memory)?;
+        note(changed, Text::from_str(alloc, parent_of(folder))?)?;
         if let Err(e) = rt.create_dir(folder) {
             if e.kind() != ErrorKind::AlreadyExists {
                 return Err(fault_of(&e));
@@ -96,6 +97,33 @@ pub(crate) fn make_folders<R: rt::Files + AllocGlobal>(
         }
     }
     Ok(())
+}
+
+// Notes a folder.
+fn note(changed: &mut BTreeSet<Text>, folder: Text) -> Result<(), DeviceFault> {
+    match changed.insert(folder) {
+        Ok(_) => Ok(()),
+        Err(_) => Err(DeviceFault::Memory),
+    }
+}
+
+/// Notes each folder on the way to a name below the root, the root among them: the name stays through a stop once the names in all
+/// of these are on the disk. Costs a path for each step of the name.
+pub(crate) fn note_way(
+    alloc: Global,
+    root: &str,
+    name: &str,
+    changed: &mut BTreeSet<Text>,
+) -> Result<(), DeviceFault> {
+    let mut rest = name;
+    for _ in 0..name.len() {
+        let Some((above, _)) = rest.rsplit_once('/') else {
+            break;
+        };
+        note(changed, Text::of(full_path(alloc, root, above)?))?;
+        rest = above;
+    }
+    note(changed, Text::from_str(alloc, root)?)
 }
 
 // Brings one folder's names to the disk.

@@ -6,6 +6,8 @@ pub mod area;
 mod count;
 mod fault;
 mod folders;
+mod look;
+mod piece;
 mod reading;
 pub mod remote;
 pub mod shelf;

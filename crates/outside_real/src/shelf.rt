@@ -3,27 +3,30 @@ ghost use Rattle.mvn_base.specs.Names.{is_group, is_name};
 
 use crate::area::RealArea;
 use crate::count::{counted, counted_list, counted_read};
-use crate::fault::{fault_of, is_absent};
-use crate::folders::{full_path, is_inside, make_folders, parent_of, sync_folders};
+use crate::fault::fault_of;
+use crate::folders::{full_path, is_inside, make_folders, note_way, parent_of, sync_folders};
+use crate::look;
 use crate::reading::read_file;
 use crate::versions::versions_below;
 use mvn_base::FileName;
 use mvn_outside::{DeviceFault, ListFault, ReadFault, Shelf};
 use mvn_shared::{Bytes, List, Mem, Text};
 use std::collections::BTreeSet;
+use std::fs::File;
 use std::rt;
 
 /// The local repository as a folder on a disk. It tells nothing of what stands there. A publish renames a piece over its
-/// name; `settle` brings the folders whose names have changed to the disk.
+/// name; `settle` brings to the disk each folder from the root to the names that were published or found here, whoever made it: a run
+/// that was stopped may have left it unsettled.
 #[derive(Drop)]
-pub struct RealShelf<'a, R: rt::Files + AllocGlobal + Clone + Drop> {
+pub struct RealShelf<'a, R: rt::Files<File = File> + AllocGlobal + Clone + Drop> {
     rt: &'a R,
     root: Text,
     changed: BTreeSet<Text>,
     faults: u64,
 }
 
-impl<'a, R: rt::Files + AllocGlobal + Clone + Drop> RealShelf<'a, R> {
+impl<'a, R: rt::Files<File = File> + AllocGlobal + Clone + Drop> RealShelf<'a, R> {
     ghost use Rattle.outside_real.specs.Shelf.{shelf_faults};
 
     /// The folder at a path of the system, which need not be there.
@@ -44,45 +47,54 @@ impl<'a, R: rt::Files + AllocGlobal + Clone + Drop> RealShelf<'a, R> {
         full_path(self.rt.alloc(), self.root.as_str(), name.as_text().as_str())
     }
 
-    fn bytes_at(&self, name: &FileName, limit: u64) -> Result<Option<Bytes>, ReadFault>
-        ensures { IfOk result (λ found. IfSome found (λ bytes. length bytes ≤ limit)) }
+    // The bytes of a file; where one has the name, the folders on the way to it are noted.
+    fn bytes_at(&mut self, name: &FileName, limit: u64) -> Result<Option<Bytes>, ReadFault>
+        ensures within { IfOk result (λ found. IfSome found (λ bytes. length bytes ≤ limit)) }
+        ensures faults { shelf_faults self.new ≡ shelf_faults self.old }
     {
         let path = self.path_of(name)?;
-        read_file(self.rt, self.rt.alloc(), path.as_str(), limit)
-    }
-
-    // Whether a file has the name.
-    fn is_file(&self, name: &FileName) -> Result<bool, DeviceFault> {
-        let path = self.path_of(name)?;
-        match self.rt.metadata(path.as_str()) {
-            Ok(metadata) => Ok(metadata.is_file()),
-            Err(e) => if is_absent(&e) {
-                Ok(false)
-            } else {
-                Err(fault_of(&e))
-            },
+        let bytes = read_file(self.rt, self.rt.alloc(), path.as_str(), limit)?;
+        if bytes.is_some() {
+            self.note(name)?;
         }
+        Ok(bytes)
     }
 
-    // Makes the name's folders and renames the file over it; the folders whose names change are noted first.
+    // Notes the folders on the way to a name.
+    fn note(&mut self, name: &FileName) -> Result<(), DeviceFault>
+        ensures { shelf_faults self.new ≡ shelf_faults self.old }
+    {
+        let alloc = self.rt.alloc();
+        note_way(alloc, self.root.as_str(), name.as_text().as_str(), &mut self.changed)
+    }
+
+    // Whether a file has the name; where one has, the folders on the way to it are noted.
+    fn is_file(&mut self, name: &FileName) -> Result<bool, DeviceFault>
+        ensures { shelf_faults self.new ≡ shelf_faults self.old }
+    {
+        let path = self.path_of(name)?;
+        let is_there = look::is_file(self.rt, path.as_str())?;
+        if is_there {
+            self.note(name)?;
+        }
+        Ok(is_there)
+    }
+
+    // Makes the name's folders and renames the file over it; the folders on the way to it are noted first.
     fn rename(&mut self, from: &str, name: &FileName) -> Result<(), DeviceFault>
         ensures { shelf_faults self.new ≡ shelf_faults self.old }
     {
-        let path = name.as_text();
-        if !is_inside(path.as_bytes()) {
+        if !is_inside(name.as_text().as_bytes()) {
             return Err(DeviceFault::Failed);
         }
         let to = self.path_of(name)?;
-        let folder = parent_of(to.as_str());
-        make_folders(self.rt, folder, &mut self.changed)?;
-        self.changed
-            .insert(Text::from_str(self.rt.alloc(), folder)?)
-            .map_err(|_| DeviceFault::Memory)?;
+        make_folders(self.rt, parent_of(to.as_str()), &mut self.changed)?;
+        self.note(name)?;
         self.rt.rename(from, to.as_str()).map_err(|e| fault_of(&e))
     }
 }
 
-impl<'a, R: rt::Files + AllocGlobal + Clone + Drop> Shelf for RealShelf<'a, R> {
+impl<'a, R: rt::Files<File = File> + AllocGlobal + Clone + Drop> Shelf for RealShelf<'a, R> {
     ghost use Rattle.std.specs.Prelude.{None, false};
 
     type Area = RealArea<'a, R>;

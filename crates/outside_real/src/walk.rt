@@ -1,87 +1,153 @@
-// The files below a folder of the system.
-use crate::fault::{fault_of, is_absent};
+// The files below a folder of the system. Links are followed; a folder isn't entered again on the way down from itself, so that a
+// circle of links ends where it closes.
+use crate::fault::fault_of;
 use crate::folders::full_path;
+use crate::look::found;
+use mvn_base::MOST_FILES;
 use mvn_outside::ListFault;
 use mvn_shared::{Mem, Text};
 use std::alloc::Global;
-use std::fs::DirEntry;
+use std::fs::Metadata;
+use std::os::unix::fs::MetadataExt;
 use std::{fs, rt};
 
-// A path below the root: a folder's, and a name in it.
-fn below(alloc: Global, folder: &str, name: &str) -> Mem<String> {
-    if folder.is_empty() {
-        return Ok(String::from_str(alloc, name)?);
-    }
-    Ok(format!(in alloc; "{folder}/{name}")?)
-}
+/// How many folders are entered at most: links may lead to one another on ever more ways.
+const MOST_FOLDERS: usize = MOST_FILES;
 
-// Whether a path of the system is a folder itself, and no link to one.
-fn is_folder<R: rt::Files>(rt: &R, path: &str) -> Result<bool, ListFault> {
-    match rt.symlink_metadata(path) {
-        Ok(metadata) => Ok(metadata.is_dir()),
-        Err(e) => if is_absent(&e) {
-            Ok(false)
-        } else {
-            Err(ListFault::from(fault_of(&e)))
-        },
-    }
-}
-
-// The files and the folders that were met, as paths below the root.
+// A folder to look into: its path below the root, the place of the folder that it was met in, and the device and the number by
+// which the system knows it, whatever path leads there.
 #[derive(Drop)]
-struct Found {
-    files: Vec<Text>,
-    folders: Vec<String>,
+struct Folder {
+    path: Text,
+    above: Option<usize>,
+    device: u64,
+    number: u64,
 }
 
-// Takes one entry of a folder in: a file or a folder; anything else, as a link, is left out.
-fn take_entry<R: rt::Files + Clone + Drop>(
-    alloc: Global,
-    found: &mut Found,
-    folder: &str,
-    entry: &DirEntry<R, Global>,
-    most: usize,
-) -> Result<(), ListFault> {
-    let kind = entry
-        .file_type()
-        .map_err(|e| ListFault::from(fault_of(&e)))?;
-    let path = below(alloc, folder, entry.file_name())?;
-    if kind.is_dir() {
-        return found.folders.push(path).map_err(|_| ListFault::Memory);
+// A path below the root: a folder's, and a name in it.
+fn below(alloc: Global, folder: &str, name: &str) -> Mem<Text> {
+    if folder.is_empty() {
+        return Text::from_str(alloc, name);
     }
-    if !kind.is_file() {
-        return Ok(());
-    }
-    if found.files.len() >= most {
-        return Err(ListFault::TooMany);
-    }
-    found
-        .files
-        .push(Text::of(path))
-        .map_err(|_| ListFault::Memory)
+    Ok(Text::of(format!(in alloc; "{folder}/{name}")?))
 }
 
-fn take_folder<R: rt::Files + AllocGlobal + Clone + Drop>(
-    rt: &R,
-    found: &mut Found,
-    root: &str,
-    folder: &str,
-    most: usize,
-) -> Result<(), ListFault> {
-    let alloc = rt.alloc();
-    let full = full_path(alloc, root, folder)?;
-    let entries = fs::read_dir(rt, full.as_str()).map_err(|e| ListFault::from(fault_of(&e)))?;
-    for entry in entries {
-        match entry {
-            Ok(entry) => take_entry(alloc, found, folder, &entry, most)?,
-            Err(e) => return Err(ListFault::from(fault_of(&e))),
+// Whether the folder at a place, or one of those that it was met in, is this one.
+fn is_on_way(folders: &[Folder], place: Option<usize>, metadata: &Metadata) -> bool {
+    let mut next = place;
+    for _ in 0..folders.len() {
+        let Some(place) = next else {
+            return false;
+        };
+        let Some(folder) = folders.get(place) else {
+            return false;
+        };
+        if folder.number == metadata.ino() && folder.device == metadata.dev() {
+            return true;
         }
+        next = folder.above;
     }
-    Ok(())
+    false
 }
 
-/// The files below a folder, as paths below the root, ascending by bytes; none where it is no folder. Links are left
-/// out. Costs one look at each entry, and a sort.
+// What was met so far below a root: the files, at most so many, and the folders, which are looked into one after another.
+#[derive(Drop)]
+struct Walk<'a, R: rt::Files + AllocGlobal + Clone + Drop> {
+    rt: &'a R,
+    root: &'a str,
+    most: usize,
+    files: Vec<Text>,
+    folders: Vec<Folder>,
+}
+
+impl<'a, R: rt::Files + AllocGlobal + Clone + Drop> Walk<'a, R> {
+    // Takes a file in.
+    fn take_file(&mut self, path: Text) -> Result<(), ListFault> {
+        if self.files.len() >= self.most {
+            return Err(ListFault::TooMany);
+        }
+        self.files.push(path).map_err(|_| ListFault::Memory)
+    }
+
+    // Takes a folder in, unless it is one of those that lead there.
+    fn take_folder(
+        &mut self,
+        path: Text,
+        above: Option<usize>,
+        metadata: &Metadata,
+    ) -> Result<(), ListFault> {
+        if is_on_way(self.folders.as_slice(), above, metadata) {
+            return Ok(());
+        }
+        if self.folders.len() >= MOST_FOLDERS {
+            return Err(ListFault::TooMany);
+        }
+        let folder = Folder {
+            path,
+            above,
+            device: metadata.dev(),
+            number: metadata.ino(),
+        };
+        self.folders.push(folder).map_err(|_| ListFault::Memory)
+    }
+
+    // Takes in what stands at a path, links followed. What is neither a file nor a folder, as a link that leads nowhere, is left out.
+    fn take(&mut self, path: Text, above: usize) -> Result<(), ListFault> {
+        let full = full_path(self.rt.alloc(), self.root, path.as_str())?;
+        let Some(metadata) = found(self.rt, full.as_str())? else {
+            return Ok(());
+        };
+        if metadata.is_dir() {
+            return self.take_folder(path, Some(above), &metadata);
+        }
+        if metadata.is_file() {
+            return self.take_file(path);
+        }
+        Ok(())
+    }
+
+    // Takes in the folder to begin with, where one stands there.
+    fn begin(&mut self, folder: &str) -> Result<(), ListFault> {
+        let alloc = self.rt.alloc();
+        let full = full_path(alloc, self.root, folder)?;
+        let Some(metadata) = found(self.rt, full.as_str())? else {
+            return Ok(());
+        };
+        if !metadata.is_dir() {
+            return Ok(());
+        }
+        self.take_folder(Text::from_str(alloc, folder)?, None, &metadata)
+    }
+
+    // Takes in what a folder has.
+    fn look_into(&mut self, folder: &str, place: usize) -> Result<(), ListFault> {
+        let alloc = self.rt.alloc();
+        let full = full_path(alloc, self.root, folder)?;
+        let entries =
+            fs::read_dir(self.rt, full.as_str()).map_err(|e| ListFault::from(fault_of(&e)))?;
+        for entry in entries {
+            match entry {
+                Ok(entry) => self.take(below(alloc, folder, entry.file_name())?, place)?,
+                Err(e) => return Err(ListFault::from(fault_of(&e))),
+            }
+        }
+        Ok(())
+    }
+
+    // Looks into the folder at a place, if there is one.
+    fn step(&mut self, place: usize) -> Result<bool, ListFault> {
+        let Some(folder) = self.folders.get(place) else {
+            return Ok(false);
+        };
+        let path = folder.path.clone().map_err(|_| ListFault::Memory)?;
+        self.look_into(path.as_str(), place)?;
+        Ok(true)
+    }
+}
+
+/// The files below a folder, as paths below the root, ascending by bytes; none where it is no folder. Links to files and folders are
+/// followed, as Maven follows them; where one leads back to a folder that it was met in, it is left out. `TooMany` where there are
+/// more than `most` files, or 65,536 folders. Costs one look at each entry, and a sort.
 pub(crate) fn files_below<R: rt::Files + AllocGlobal + Clone + Drop>(
     rt: &R,
     root: &str,
@@ -89,26 +155,20 @@ pub(crate) fn files_below<R: rt::Files + AllocGlobal + Clone + Drop>(
     most: usize,
 ) -> Result<Vec<Text>, ListFault> {
     let alloc = rt.alloc();
-    let mut found = Found {
+    let mut walk = Walk {
+        rt,
+        root,
+        most,
         files: Vec::new(alloc),
         folders: Vec::new(alloc),
     };
-    let full = full_path(alloc, root, folder)?;
-    if !is_folder(rt, full.as_str())? {
-        return Ok(found.files);
-    }
-    let first = String::from_str(alloc, folder).map_err(|_| ListFault::Memory)?;
-    found.folders.push(first).map_err(|_| ListFault::Memory)?;
-    for _ in 0..u64::MAX {
-        let Some(folder) = found.folders.pop() else {
+    walk.begin(folder)?;
+    for place in 0..MOST_FOLDERS {
+        if !walk.step(place)? {
             break;
-        };
-        take_folder(rt, &mut found, root, folder.as_str(), most)?;
+        }
     }
-    let Found {
-        mut files,
-        folders: _,
-    } = found;
+    let mut files = walk.files;
     files.sort().map_err(|_| ListFault::Memory)?;
     Ok(files)
 }

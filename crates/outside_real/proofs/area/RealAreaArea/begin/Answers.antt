@@ -9,8 +9,8 @@ no_value (Some v) e = cc
 pub returns-in-Ok-clause-fresh : goal.returns-in-Ok-clause-fresh
 returns-in-Ok-clause-fresh g c =
     let es = c.args.self.now.pieces.entries in
-    get_value es c.args.self.now.next ∙ no_value (value_of es c.args.self.now.next) (sym c.contains_key.ensures ∙ c.if-contains_key.false)
+    get_value es c.in_ok-piece.piece ∙ no_value (value_of es c.in_ok-piece.piece) (sym c.contains_key.ensures ∙ c.if-contains_key.false)
 
 pub returns-in-Ok-clause-open : goal.returns-in-Ok-clause-open
 returns-in-Ok-clause-open g c =
-    one_put c.args.self.now.pieces.entries c.insert.new.self.entries c.args.self.now.next false c.in-Ok.ensures.updates.0
+    one_put c.args.self.now.pieces.entries c.insert-2.new.self.entries c.in_ok-piece.piece false c.in-Ok.ensures.updates.0

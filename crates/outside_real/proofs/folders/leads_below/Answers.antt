@@ -2,7 +2,7 @@ use Rattle.std.proofs.Common.{rules, tests}
 use Rattle.std.proofs.lemmas.Iterator.Search.{all_from_yields_List}
 use Rattle.std.proofs.lemmas.Iterator.Splits.{YieldsList-from_slice_split}
 use Rattle.outside_real.specs.Paths.{is_slash, is_step}
-use Rattle.outside_real.proofs.folders.is_inside.Goals as goal
+use Rattle.outside_real.proofs.folders.leads_below.Goals as goal
 
 pub returns : goal.returns
 returns c =

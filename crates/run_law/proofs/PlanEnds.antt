@@ -1,4 +1,4 @@
--- Runs on the plan of `Plans` that end otherwise than built, each beside one that must not fit, though its events may come.
+-- Runs on the sample plan that end otherwise than built, each beside one that must not fit, though its events may come.
 use Rattle.std.proofs.Common.{◌≡◌, ℕ, ◌+◌, nat_le, true, false, List, [], ◌∷◌, length, replicate, Option, Some, None, is_some, refl, sym, ap, ◌∙◌}
 use Rattle.std.proofs.lemmas.Bool.{false≢true}
 use Rattle.std.proofs.lemmas.List.{length-replicate}

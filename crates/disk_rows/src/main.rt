@@ -1,12 +1,13 @@
 //! Rows about the objects of the system, over the folder where the program runs, each with its answer: what they do on a disk, which no
 //! clause can say. A line of standard input is a word and what it asks for; a line that begins with `#` is printed as it stands.
 //!
-//! - `has PATH`, `list PATH`, `read PATH`: what the tree answers, with a limit of 5 bytes
+//! - `has PATH`, `list PATH`, `read PATH`: what the tree answers, with a limit of 5 bytes; of bytes how many there are, and the bytes
 //! - `publish FOLDER BYTES`: whether the repository in the folder takes the bytes as the POM of org.demo:a:1.0; `full FOLDER`: the same
 //!   where the piece lies on a full disk
 //! - `fetch FOLDER x..`, `versions FOLDER`: what a remote in the folder answers of that POM, with a limit of so many bytes, and of that artifact
 #![tactic(auto)]
 
+mod shown;
 mod store;
 mod tree;
 
@@ -16,11 +17,11 @@ use std::fs;
 fn told(rt: &HostRuntime, kind: &str, rest: &str) -> anyhow::Result<String> {
     let (folder, word) = rest.split_once(' ').unwrap_or((rest, ""));
     match kind {
-        "publish" => store::publish(rt, folder, word),
+        "publish" => Ok(store::publish(rt, folder, word)?),
         "full" => store::publish_full(rt, folder),
-        "fetch" => store::fetch(rt, folder, word.len() as u64),
-        "versions" => store::versions(rt, folder),
-        _ => tree::told(rt, kind, rest),
+        "fetch" => Ok(store::fetch(rt, folder, word.len() as u64)?),
+        "versions" => Ok(store::versions(rt, folder)?),
+        _ => Ok(tree::told(rt, kind, rest)?),
     }
 }
 

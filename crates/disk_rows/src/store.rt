@@ -63,7 +63,7 @@ fn answer(alloc: Global, is_done: bool, word: &str) -> anyhow::Result<String> {
 }
 
 /// Whether a repository takes bytes as the POM of an artifact.
-pub fn publish(
+pub(crate) fn publish(
     rt: &HostRuntime,
     folder: &str,
     artifact: &str,
@@ -77,13 +77,13 @@ pub fn publish(
 }
 
 /// Whether a repository's first staging folder can be swept.
-pub fn swept(rt: &HostRuntime, folder: &str) -> anyhow::Result<String> {
+pub(crate) fn swept(rt: &HostRuntime, folder: &str) -> anyhow::Result<String> {
     let mut area = area(rt, folder, "one")?;
     answer(rt.alloc(), sweep(&mut area).is_ok(), "swept")
 }
 
 /// The same while another user of the folder holds a piece there.
-pub fn swept_beside(rt: &HostRuntime, folder: &str) -> anyhow::Result<String> {
+pub(crate) fn swept_beside(rt: &HostRuntime, folder: &str) -> anyhow::Result<String> {
     let mut other = area(rt, folder, "two")?;
     let is_held = other.begin().is_ok();
     let mut area = area(rt, folder, "one")?;
@@ -91,7 +91,7 @@ pub fn swept_beside(rt: &HostRuntime, folder: &str) -> anyhow::Result<String> {
 }
 
 /// What a remote gives of the POM of `a`.
-pub fn fetch(rt: &HostRuntime, folder: &str, limit: u64) -> anyhow::Result<String> {
+pub(crate) fn fetch(rt: &HostRuntime, folder: &str, limit: u64) -> anyhow::Result<String> {
     let mut remote = RealRemote::new(rt, Text::from_str(rt.alloc(), folder)?);
     let Some(name) = pom_name(rt.alloc(), "a")? else {
         return Ok(String::from_str(rt.alloc(), "no name")?);
@@ -106,7 +106,7 @@ pub fn fetch(rt: &HostRuntime, folder: &str, limit: u64) -> anyhow::Result<Strin
 }
 
 /// How many versions of the artifact `a` a remote lists.
-pub fn versions(rt: &HostRuntime, folder: &str) -> anyhow::Result<String> {
+pub(crate) fn versions(rt: &HostRuntime, folder: &str) -> anyhow::Result<String> {
     let gav = demo(rt.alloc(), "a")?;
     let mut remote = RealRemote::new(rt, Text::from_str(rt.alloc(), folder)?);
     if !valid_group(gav.group.as_bytes()) || !valid_name(gav.artifact.as_bytes()) {

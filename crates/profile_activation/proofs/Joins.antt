@@ -1,12 +1,11 @@
 -- The places by what was chosen of each profile, and what the program keeps against the definition.
-use Rattle.std.proofs.Common.{◌≡◌, ℕ, suc, Bool, false, not, ◌&&◌, ◌||◌, List, [], ◌∷◌, map, zip, Option, option_map, is_some, Result, IfOk, refl, ap, subst, ◌∙◌, if◌then◌else◌}
+use Rattle.std.proofs.Common.{◌≡◌, ℕ, suc, Bool, true, false, not, ◌&&◌, ◌||◌, List, [], ◌∷◌, map, zip, Option, option_map, option_to_list, is_some, Result, IfOk, refl, ap, subst, ◌∙◌, if◌then◌else◌}
 use Rattle.std.specs.List.{list_any}
 use Rattle.mvn_base.specs.declared.machine.Choice.{Choice}
 use Rattle.mvn_base.specs.declared.machine.Machine.{Machine}
 use Rattle.mvn_base.specs.declared.machine.Pair.{Pair}
 use Rattle.mvn_base.specs.declared.refusal.PomId.{PomId}
 use Rattle.mvn_base.specs.declared.refusal.PomId.TheVariants as ids
-use Rattle.model_types.specs.declared.model.RawModel.{RawModel}
 use Rattle.model_types.specs.declared.profile.Activation.{Activation}
 use Rattle.model_types.specs.declared.profile.Profile.{Profile}
 use Rattle.mvn_outside.specs.declared.fault.DeviceFault.{DeviceFault}
@@ -15,8 +14,8 @@ use Rattle.profile_activation.specs.declared.judge.Place.{Place}
 use Rattle.profile_activation.specs.FileTexts.{filled, path_of}
 use Rattle.profile_activation.specs.Known.{known_value}
 use Rattle.profile_activation.specs.Lookups.{property_of}
-use Rattle.profile_activation.specs.Activation.{active, all_hold, criteria, for_project, holds_in, is_active, named_path, needs_file, needs_files, places_from}
-use Rattle.profile_activation.specs.Judging.{Alone, Judges, active_in, asks_for_any, is_chosen_by, is_default_by, is_placed, place_of}
+use Rattle.profile_activation.specs.Activation.{active, all_hold, criteria, file_holds, for_project, given, holds_in, is_active, named_path, needs_file, needs_files, places_from}
+use Rattle.profile_activation.specs.Judging.{Alone, Judges, active_in, asks_for_any, criteria_by, holds_by, is_chosen_by, is_default_by, is_placed, named_by, place_of}
 
 -- the places by what was chosen of each
 places_same : (j : Judge) (chosen : Profile → Bool) (any : Bool) (place : ℕ) (profiles : List Profile)
@@ -35,6 +34,14 @@ places_active j world profiles chosen is =
     ap (λ l. places_from (is_placed j (list_any (λ b. b) l)) 0 (zip l profiles)) is
     ∙ ap (λ any. places_from (is_placed j any) 0 (zip (map (is_chosen_by j world) profiles) profiles)) (any_chosen (is_chosen_by j world) profiles)
     ∙ places_same j (is_chosen_by j world) (list_any (is_chosen_by j world) profiles) 0 profiles
+
+-- what is asked of an activation, by what was answered of its files
+pub judged : (j : Judge) (a : Activation) (world : List ℕ → Bool) (exists missing : Option Bool) (list kept : List Bool) (holds : Bool)
+    → exists ≡ option_map (λ t. file_holds false world (named_by j t)) a.exists → missing ≡ option_map (λ t. file_holds true world (named_by j t)) a.missing
+    → list ≡ criteria_by j a (option_to_list exists) (option_to_list missing) → kept ≡ list → holds ≡ all_hold kept → holds ≡ holds_by j world a
+judged j a world exists missing list kept holds there gone listed same all =
+    all ∙ ap all_hold (same ∙ listed ∙ ap (λ e. criteria_by j a (option_to_list e) (option_to_list missing)) there)
+    ∙ ap (λ m. all_hold (criteria_by j a (given (λ t. file_holds false world (named_by j t)) a.exists) (option_to_list m))) gone
 
 -- what a text names, and what holds, by the place of the POM
 abbrev pub named_at : Machine → (List ℕ → Option (List ℕ)) → Option Place → List ℕ → Option (Option (List ℕ))
@@ -67,14 +74,14 @@ needs_same machine choice (ids.Gav gav) place profiles stands = ap (λ p. is_som
 needs_same machine choice (ids.Path path) place profiles stands = ap (λ p. is_some p && list_any (needs_file choice.on choice.off) profiles) stands
 
 -- a judge whose properties and place are the definition's says what the definition says
-pub judges : (j : Judge) (defines : List Pair) (raw : RawModel) → j.pom.now ≡ raw.pom
+pub judges : (j : Judge) (defines : List Pair) (pom : PomId) (profiles : List Profile) → j.pom.now ≡ pom
     → ((name : List ℕ) → known_value j.known name ≡ property_of defines j.machine.now.system j.machine.now.env name) → j.place ≡ place_of j.machine.now j.pom.now
-    → Judges j j.machine.now defines j.choice.now raw
-judges j defines raw pom same stands = record {
+    → Judges j j.machine.now defines j.choice.now pom profiles
+judges j defines pom profiles is same stands = record {
   places = λ world.
-      active_same j.machine.now defines j.choice.now world j.pom.now raw.profiles (known_value j.known) j.place same stands
-      ∙ ap (λ p. active j.machine.now defines j.choice.now world p raw.profiles) pom;
-  none = λ none. needs_same j.machine.now j.choice.now j.pom.now j.place raw.profiles stands ∙ ap (λ p. needs_files j.choice.now p raw.profiles) pom ∙ none;
+      active_same j.machine.now defines j.choice.now world j.pom.now profiles (known_value j.known) j.place same stands
+      ∙ ap (λ p. active j.machine.now defines j.choice.now world p profiles) is;
+  none = λ none. needs_same j.machine.now j.choice.now j.pom.now j.place profiles stands ∙ ap (λ p. needs_files j.choice.now p profiles) is ∙ none;
 }
 
 -- an answer is what another equals
@@ -82,7 +89,7 @@ pub same_answer : (r : Result (List ℕ) DeviceFault) {a b : List ℕ} → IfOk 
 same_answer r is same = subst (λ y. IfOk r (λ x. x ≡ y)) same is
 
 -- so where no file is asked for
-pub alone_same : {j : Judge} {machine : Machine} {defines : List Pair} {choice : Choice} {raw : RawModel} (r : Result (List ℕ) DeviceFault) → Judges j machine defines choice raw
-    → Alone (asks_for_any j raw.profiles) r (λ world. active_in j world raw.profiles)
-    → needs_files choice raw.pom raw.profiles ≡ false → (world : List ℕ → Bool) → IfOk r (λ x. x ≡ active machine defines choice world raw.pom raw.profiles)
+pub alone_same : {j : Judge} {machine : Machine} {defines : List Pair} {choice : Choice} {pom : PomId} {profiles : List Profile} (r : Result (List ℕ) DeviceFault)
+    → Judges j machine defines choice pom profiles → Alone (asks_for_any j profiles) r (λ world. active_in j world profiles)
+    → needs_files choice pom profiles ≡ false → (world : List ℕ → Bool) → IfOk r (λ x. x ≡ active machine defines choice world pom profiles)
 alone_same r judge alone none world = same_answer r (alone.is (judge.none none) world) (judge.places world)

@@ -10,7 +10,6 @@ use Rattle.mvn_base.specs.declared.refusal.PomId.{PomId}
 use Rattle.mvn_base.specs.declared.refusal.PomId.TheVariants as ids
 use Rattle.mvn_outside.specs.Faults.{device_failed}
 use Rattle.mvn_outside.specs.declared.fault.DeviceFault.{DeviceFault}
-use Rattle.model_types.specs.declared.model.RawModel.{RawModel}
 use Rattle.model_types.specs.declared.profile.Activation.{Activation}
 use Rattle.model_types.specs.declared.profile.Profile.{Profile}
 use Rattle.mvn_base.specs.declared.machine.Choice.{Choice}
@@ -89,7 +88,7 @@ asks_for_any j profiles = is_some j.place && list_any (needs_file (on_by j) (off
 
 -- a judge of a POM: what it says of the POM's profiles is what the definition says
 pub record Judges (j : Judge) (machine : Machine) (defines : List Pair) (choice : Choice)
-    (raw : RawModel) : Type 0 where
+    (pom : PomId) (profiles : List Profile) : Type 0 where
   pub places : (world : List ℕ → Bool)
-    → active_in j world raw.profiles ≡ active machine defines choice world raw.pom raw.profiles
-  pub none : needs_files choice raw.pom raw.profiles ≡ false → asks_for_any j raw.profiles ≡ false
+    → active_in j world profiles ≡ active machine defines choice world pom profiles
+  pub none : needs_files choice pom profiles ≡ false → asks_for_any j profiles ≡ false

@@ -64,8 +64,8 @@ impl<'a> Judge<'a> {
         defines: &[Pair],
         choice: &'a Choice,
     ) -> Mem<Judge<'a>>
-        ensures { IfOk result (λ judge.
-            Judges judge machine.now defines.now choice.now raw.now) }
+        ensures { IfOk result (λ judge. Judges judge machine.now defines.now choice.now
+            raw.now.pom raw.now.profiles) }
     {
         let known = Known::of(alloc, defines, machine)?;
         let pom = raw.pom.value();

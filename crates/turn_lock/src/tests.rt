@@ -1,4 +1,6 @@
 // Workers who note numbers under a turn lock, in one thread and in several.
+ghost use Rattle.std.specs.Prelude.{◌<◌};
+
 use crate::tally::{Tally, Task, note_down, opened, tallied};
 use mvn_shared::Mem;
 use std::alloc::Global;

@@ -1,8 +1,9 @@
 //! Counts what workers note under a turn lock, each worker in a thread of its own. Each line of standard input is a number of workers, from 1 to
 //! 16, a number of notes for each, and a way or none; prints how many notes there are, and how many of them stand in their worker's order. The ways:
 //! `rounds`, each rests until all before it in its round have noted; `idle`, the same, and each sleeps for 20 ms before it notes; `held`, each sleeps
-//! for 20 ms in a turn of its own before it notes; `mutex`, all under a plain mutex in place of the lock. With `idle` and `held` it prints too whether
-//! the process needed less than a tenth of the time that was slept (`parked`), so that threads that wait do nothing, or not (`busy`).
+//! for 20 ms in a turn of its own before it notes; `turns`, as with none, and their order isn't looked at (it prints 0); `mutex`, the same under a
+//! plain mutex in place of the lock. With `idle` and `held` it prints too whether the process needed less than a tenth of the time that was slept
+//! (`parked`), so that threads that wait do nothing, or not (`busy`).
 #![tactic(auto)]
 
 mod plain;
@@ -55,7 +56,7 @@ fn in_order(tally: &Tally, workers: u32) -> u64 {
     sum
 }
 
-// How many notes there are, and how many in order; under a plain mutex their order isn't looked at.
+// How many notes there are, and how many in order.
 fn counts<R: Threads + Wait + Clock + Sync>(
     rt: &R,
     alloc: Global,
@@ -68,7 +69,8 @@ fn counts<R: Threads + Wait + Clock + Sync>(
         return Ok((plain::noted(rt, alloc, line.workers, line.count)?, 0));
     }
     let tally = tallied(rt, alloc, line.workers, &task(line))?;
-    Ok((tally.notes.len(), in_order(&tally, line.workers)))
+    let looked_at = if line.way == "turns" { 0 } else { line.workers };
+    Ok((tally.notes.len(), in_order(&tally, looked_at)))
 }
 
 // Whether the workers of a line used less than a tenth of the time that they slept.

@@ -34,9 +34,9 @@ module _ {V F E : Type 0} (fixed_of : V → F) (log_of : V → List E) (count_of
     pub fixed : F
     pub workers : ℕ
     pub holder : ℕ
-    pub waits : List ℕ
-    -- the first word is twice the length of the longest seen log, and one more while a turn is out; of the others, which count who waits, nothing is said
-    pub word : s.words ≡ (2 * length log + mark out) ∷ waits
+    pub others : List ℕ
+    -- the first word is twice the length of the longest seen log, and one more while a turn is out; of the others, on which threads ask to be called, nothing is said
+    pub word : s.words ≡ (2 * length log + mark out) ∷ others
     pub few : length log < 2 ^ 62
     pub longest : (id : ℕ) × (v : View F E) × IsPass s.views id v × (v.seen ≡ log)
     pub home : AtHome out s.homes log fixed workers
@@ -69,6 +69,6 @@ module _ {V F E : Type 0} (fixed_of : V → F) (log_of : V → List E) (count_of
   abbrev pub looked : Step (Option V) → Own → ℕ → Own → Type 0
   looked step m found m' = (m' ≡ m) × AllBegin m.0.parts m.0.seen
 
-  -- a word of those who wait changed
-  abbrev pub counted : Step (Option V) → Own → ℕ → Own → Type 0
-  counted step m found m' = m' ≡ m
+  -- a thread asked to be called, or one was
+  abbrev pub asked : Step (Option V) → Own → ℕ → Own → Type 0
+  asked step m found m' = m' ≡ m

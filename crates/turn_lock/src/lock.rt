@@ -6,7 +6,7 @@ ghost use Rattle.turn_lock.specs.Turns.{AddsOne, AllBegin, Begins, IsFresh, IsKn
 ghost use Rattle.turn_lock.specs.Passes.{lock_of, view_of, with_view};
 
 use crate::kept::Kept;
-use crate::plays::{Count, Give, Halves, Look, Take, TurnRule};
+use crate::plays::{Ask, Give, Halves, Look, Take, TurnRule};
 use crate::view::View;
 use atomic_table::{Seat, Table};
 use mvn_shared::Mem;
@@ -19,10 +19,11 @@ use std::sync::Wait;
 /// A value behind a lock. It may cross threads, and be shared by them, where the value may cross. Of waiting nothing is promised: not that a thread
 /// that waits is woken, nor that it is served at last or in its order, nor that threads with several locks don't wait for one another for ever. Own.
 //
-// The table's first word is twice the length of the log, and one more while a turn is out. The second counts the threads that wait for a turn; they
-// park on the first. The third counts 2^32 for each thread that rests, and one for each call to them; they park on it. Each step is sequentially
-// consistent, and who parks is counted before it looks at the first word again, while a giver writes that word before it looks at the counts. So
-// either the giver finds the thread counted, and wakes it, or the thread finds what was given, and doesn't park.
+// The table's first word is twice the length of the log, and one more while a turn is out. On the second those park that wait for a turn, on the third
+// those that rest. Each of these two is odd where a thread asked to be called, and a call makes it the next even number. Each step is sequentially
+// consistent; who parks asks before it looks at the first word again, and a giver writes that word before it looks whether one asked. So either the
+// giver finds that one asked, and calls, or the thread finds what was given, and doesn't park; and where the call comes in between, the word on which
+// the thread would park is another by then. A call for the turn wakes one thread, which asks again for those that may still be parked.
 #[derive(Drop)]
 pub struct TurnLock<V: Kept> {
     table: Table<Option<V>, View<V::Fixed, V::Entry>, Snapshot<V>, TurnRule<V>, Global>,
@@ -142,6 +143,7 @@ impl<V: Kept> TurnLock<V> {
     }
 
     // The value, where no turn is out.
+    #[inline]
     fn try_take(&self, pass: &mut Pass<V>) -> Option<V>
         requires own { lock_of pass.old ≡ self.now }
         requires free { (view_of pass.old).turn ≡ None }
@@ -156,26 +158,33 @@ impl<V: Kept> TurnLock<V> {
         Some(whole(self.table.shared.exchange(&mut pass.seat, 0, None)))
     }
 
-    // Adds to a word that counts who waits, and answers what it was.
-    fn count(&self, pass: &mut Pass<V>, word: usize, more: u64) -> u64
+    // Asks to be called: makes a word odd, and answers what its low half is then, to park on.
+    fn ask(&self, pass: &mut Pass<V>, word: usize) -> u32
         requires own { lock_of pass.old ≡ self.now }
         requires word { (0 < word) × (word < 3) }
         ensures { pass.new ≡ pass.old }
     {
-        self.table
+        let found = self
+            .table
             .shared
-            .fetch_add::<Count<V>>(&mut pass.seat, word, more)
+            .fetch_or::<Ask<V>>(&mut pass.seat, word, 1);
+        ((found | 1) & 0xffff_ffff) as u32
     }
 
-    // Takes from a word that counts who waits.
-    fn uncount(&self, pass: &mut Pass<V>, word: usize, less: u64)
+    // Whether a thread asked to be called; then the word is made even.
+    #[inline]
+    fn answer(&self, pass: &mut Pass<V>, word: usize) -> bool
         requires own { lock_of pass.old ≡ self.now }
         requires word { (0 < word) × (word < 3) }
         ensures { pass.new ≡ pass.old }
     {
+        if self.table.shared.peek(word) % 2 == 0 {
+            return false;
+        }
         self.table
             .shared
-            .fetch_sub::<Count<V>>(&mut pass.seat, word, less);
+            .fetch_add::<Ask<V>>(&mut pass.seat, word, 1);
+        true
     }
 
     // Whether the turn comes back at once: it looks a hundred times.
@@ -189,7 +198,8 @@ impl<V: Kept> TurnLock<V> {
         false
     }
 
-    // Looks for a moment, and parks while a turn is out, counted.
+    // Looks for a moment, and then parks while a turn is out.
+    #[inline(never)]
     fn wait<R: Wait>(&self, rt: &R, pass: &mut Pass<V>)
         requires { lock_of pass.old ≡ self.now }
         ensures { pass.new ≡ pass.old }
@@ -197,16 +207,16 @@ impl<V: Kept> TurnLock<V> {
         if self.comes_soon() {
             return;
         }
-        let _waiting = self.count(pass, 1, 1);
-        let word = self.table.shared.peek(0);
-        if word % 2 == 1 {
-            self.table.shared.park(rt, 0, (word & 0xffff_ffff) as u32);
+        let asked = self.ask(pass, 1);
+        if self.table.shared.peek(0) % 2 == 1 {
+            self.table.shared.park(rt, 1, asked);
+            let _for_others = self.ask(pass, 1);
         }
-        self.uncount(pass, 1, 1);
     }
 
     /// The value, when no other turn is out. May wait; a thread that waits parks until a turn is given. Takes no memory; two atomic steps besides
     /// waiting. That a thread that waits is woken or served isn't promised. Own.
+    #[inline]
     pub fn take<R: Wait>(&self, rt: &R, pass: &mut Pass<V>) -> Turn<V>
         requires own { lock_of pass.old ≡ self.now }
         requires free { (view_of pass.old).turn ≡ None }
@@ -222,26 +232,9 @@ impl<V: Kept> TurnLock<V> {
         unreachable!()
     }
 
-    // Wakes a thread that waits for a turn, if one does. It takes the turn and gives it, or finds one that is out, and then that giver wakes the next.
-    fn wake_next(&self) {
-        if self.table.shared.peek(1) != 0 {
-            self.table.shared.wake_one(0);
-        }
-    }
-
-    // Calls all that rest, if any do.
-    fn call(&self, pass: &mut Pass<V>)
-        requires { lock_of pass.old ≡ self.now }
-        ensures { pass.new ≡ pass.old }
-    {
-        if self.table.shared.peek(2) >> 32 != 0 {
-            let _calls = self.count(pass, 2, 1);
-            self.table.shared.wake_all(2);
-        }
-    }
-
     /// Gives the turn back that the pass took last, with at most one entry of the pass more. Wakes a thread that waits for a turn, and where there is
     /// an entry more all that rest. Takes no memory; two atomic steps, and calls of the system only where a thread waits or rests. Own.
+    #[inline]
     pub fn give(&self, pass: &mut Pass<V>, turn: Turn<V>)
         requires own { lock_of pass.old ≡ self.now }
         requires taken { (log : List V.Entry) × ((view_of pass.old).turn ≡ Some log) × AddsOne V.role (view_of pass.old).number log (V.log turn.value) }
@@ -257,9 +250,11 @@ impl<V: Kept> TurnLock<V> {
             .shared
             .swap::<Give<V>>(&mut pass.seat, 0, 2 * entries);
         pass.entries = entries;
-        self.wake_next();
-        if before / 2 != entries {
-            self.call(pass);
+        if self.answer(pass, 1) {
+            self.table.shared.wake_one(1);
+        }
+        if before / 2 != entries && self.answer(pass, 2) {
+            self.table.shared.wake_all(2);
         }
     }
 
@@ -278,11 +273,10 @@ impl<V: Kept> TurnLock<V> {
         if self.has_grown(pass) {
             return;
         }
-        let calls = self.count(pass, 2, 1 << 32);
+        let asked = self.ask(pass, 2);
         if !self.has_grown(pass) {
-            self.table.shared.park(rt, 2, (calls & 0xffff_ffff) as u32);
+            self.table.shared.park(rt, 2, asked);
         }
-        self.uncount(pass, 2, 1 << 32);
     }
 
     /// Cuts a pass in two that owes nothing and has at least two workers in its reach. The new one has the last half of the reach, rounded down,

@@ -1,6 +1,6 @@
 // The rule of the table, and what each step tells.
 ghost use Rattle.turn_lock.specs.Turns.{first_view, joined, left_of, right_of, spent};
-ghost use Rattle.turn_lock.specs.Rule.{IsTurned, counted, gave, looked, took};
+ghost use Rattle.turn_lock.specs.Rule.{IsTurned, asked, gave, looked, took};
 
 use crate::kept::Kept;
 use crate::view::View;
@@ -43,12 +43,12 @@ impl<V: Kept> Play<Option<V>, View<V::Fixed, V::Entry>> for Look<V> {
     ghost then = { looked V.fixed V.log V.count V.role };
 }
 
-pub(crate) struct Count<V> {
+pub(crate) struct Ask<V> {
     marker: PhantomData<V>,
 }
 
-impl<V: Kept> Play<Option<V>, View<V::Fixed, V::Entry>> for Count<V> {
-    ghost then = { counted V.fixed V.log V.count V.role };
+impl<V: Kept> Play<Option<V>, View<V::Fixed, V::Entry>> for Ask<V> {
+    ghost then = { asked V.fixed V.log V.count V.role };
 }
 
 pub(crate) struct Halves;

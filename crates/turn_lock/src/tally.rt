@@ -116,6 +116,7 @@ pub fn opened(alloc: Global, workers: u32) -> Mem<(TurnLock<Tally>, Pass<Tally>)
 }
 
 /// A note of a pass's worker, in a turn of its own. May wait. Where memory is missing nothing is noted. Own.
+#[inline]
 pub fn note_down<R: Wait>(
     rt: &R,
     lock: &TurnLock<Tally>,

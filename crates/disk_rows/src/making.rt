@@ -10,14 +10,14 @@ fn make_folders_above(rt: &HostRuntime, path: &str) -> anyhow::Result<()> {
 }
 
 /// Makes a file of five bytes.
-pub fn file(rt: &HostRuntime, path: &str) -> anyhow::Result<String> {
+pub(crate) fn file(rt: &HostRuntime, path: &str) -> anyhow::Result<String> {
     make_folders_above(rt, path)?;
     fs::write(rt, path, "bytes")?;
     Ok(String::from_str(rt.alloc(), "made")?)
 }
 
 /// Makes a link.
-pub fn link(rt: &HostRuntime, path: &str, target: &str) -> anyhow::Result<String> {
+pub(crate) fn link(rt: &HostRuntime, path: &str, target: &str) -> anyhow::Result<String> {
     make_folders_above(rt, path)?;
     symlink(rt, target, path)?;
     Ok(String::from_str(rt.alloc(), "made")?)

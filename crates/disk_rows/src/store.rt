@@ -1,9 +1,10 @@
 // Rows about repositories: what is published, and what a remote gives.
-use local_repo::{put, settle, stage, sweep};
+use crate::staging::area;
+use local_repo::{put, settle, stage};
 use mvn_base::{FileName, Gav, file_of, valid_group, valid_name, valid_version};
-use mvn_outside::{Area, ReadFault, Remote};
+use mvn_outside::{ReadFault, Remote};
 use mvn_shared::{Mem, Text};
-use outside_real::{RealArea, RealRemote, RealShelf};
+use outside_real::{RealRemote, RealShelf};
 use std::alloc::Global;
 
 fn demo(alloc: Global, artifact: &str) -> Mem<Gav> {
@@ -33,16 +34,6 @@ fn pom_name(alloc: Global, artifact: &str) -> Mem<Option<FileName>> {
     Ok(Some(file_of(alloc, &gav, &none, &pom)?))
 }
 
-// The first staging folder of the repository in a folder, as a process of this name uses it.
-fn area<'a>(
-    rt: &'a HostRuntime,
-    folder: &str,
-    process: &str,
-) -> Mem<RealArea<'a, HostRuntime>> {
-    let staging = Text::of(format!(in rt.alloc(); "{folder}/.staging/0")?);
-    Ok(RealArea::new(rt, staging, Text::from_str(rt.alloc(), process)?))
-}
-
 // Whether the repository takes the bytes under the name, and settles.
 fn takes(rt: &HostRuntime, folder: &str, name: &FileName, bytes: &[u8]) -> Mem<bool> {
     let root = Text::from_str(rt.alloc(), folder)?;
@@ -57,8 +48,8 @@ fn takes(rt: &HostRuntime, folder: &str, name: &FileName, bytes: &[u8]) -> Mem<b
     Ok(settle(&mut shelf).is_ok())
 }
 
-fn answer(alloc: Global, is_done: bool, word: &str) -> anyhow::Result<String> {
-    let word = if is_done { word } else { "a fault" };
+fn answer(alloc: Global, is_published: bool) -> anyhow::Result<String> {
+    let word = if is_published { "published" } else { "a fault" };
     Ok(String::from_str(alloc, word)?)
 }
 
@@ -73,21 +64,7 @@ pub fn publish(
         Some(name) => takes(rt, folder, &name, bytes.as_bytes())?,
         None => false,
     };
-    answer(rt.alloc(), taken, "published")
-}
-
-/// Whether a repository's first staging folder can be swept.
-pub fn swept(rt: &HostRuntime, folder: &str) -> anyhow::Result<String> {
-    let mut area = area(rt, folder, "one")?;
-    answer(rt.alloc(), sweep(&mut area).is_ok(), "swept")
-}
-
-/// The same while another user of the folder holds a piece there.
-pub fn swept_beside(rt: &HostRuntime, folder: &str) -> anyhow::Result<String> {
-    let mut other = area(rt, folder, "two")?;
-    let is_held = other.begin().is_ok();
-    let mut area = area(rt, folder, "one")?;
-    answer(rt.alloc(), is_held && sweep(&mut area).is_ok(), "swept")
+    answer(rt.alloc(), taken)
 }
 
 /// What a remote gives of the POM of `a`.

@@ -1,9 +1,9 @@
 #!/usr/bin/env bash
-# How the time of a build's events grows with their number, as ratios in one run of the built program `event_runs`: modules that have
+# How the time of a build's events grows with their number, as ratios in one run of the built program `bench_events`: modules that have
 # nothing but their POM, one after another, by one worker, and modules that wait for others. A ratio of the numbers is a constant time an
 # event.
 . "$(dirname "$0")/common.sh"
-want crates/event_runs/out/event_runs '(cd crates/event_runs && rt run)'
+want crates/bench_events/out/bench_events '(cd crates/bench_events && rt run)'
 once() { "$program" < in > out; }
 
 printf 'long 0\n' > in

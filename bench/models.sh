@@ -1,8 +1,8 @@
 #!/usr/bin/env bash
-# How the time of joining and filling models grows, as ratios in one run of the built program `model_join`: a POM over one of as many
+# How the time of joining and filling models grows, as ratios in one run of the built program `bench_models`: a POM over one of as many
 # dependencies, a POM with a profile, a chain of properties that name one another, and properties that name one of 65,536 bytes.
 . "$(dirname "$0")/common.sh"
-want crates/model_join/out/model_join '(cd crates/model_join && rt run)'
+want crates/bench_models/out/bench_models '(cd crates/bench_models && rt run)'
 once() { "$program" < in > out; }
 
 # LABEL, WORD, NUMBERS

@@ -1,8 +1,8 @@
 #!/usr/bin/env bash
 # How the time of ordering modules grows with the edges and with the modules, as ratios in one run of the built program
-# `module_list`. The edges are read as text, which is part of it; a ratio of the sizes is what near linear costs.
+# `bench_modules`. The edges are read as text, which is part of it; a ratio of the sizes is what near linear costs.
 . "$(dirname "$0")/common.sh"
-want crates/module_list/out/module_list '(cd crates/module_list && rt run)'
+want crates/bench_modules/out/bench_modules '(cd crates/bench_modules && rt run)'
 once() { "$program" < in > out; }
 
 # MODULES, EDGES: each edge from a module to one of a greater number, so that the last declared has to come first

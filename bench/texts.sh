@@ -1,9 +1,9 @@
 #!/usr/bin/env bash
-# How fast texts are read, in MB/s of the built program `element_count`, each of 1 MiB or just below: a POM like those that
+# How fast texts are read, in MB/s of the built program `bench_elements`, each of 1 MiB or just below: a POM like those that
 # people write, elements in 63 others, one long text, references alone, and one comment that doesn't end. A tenth of each is
 # measured beside it: ten times its time is what linear costs.
 . "$(dirname "$0")/common.sh"
-want crates/element_count/out/element_count '(cd crates/element_count && rt run)'
+want crates/bench_elements/out/bench_elements '(cd crates/bench_elements && rt run)'
 once() { "$program" < in > out; }
 
 # BYTES: a text of as many or a few less

@@ -1,8 +1,9 @@
 #!/usr/bin/env bash
-# How the time of turns under a turn lock grows with their number, and how it grows with the threads that want them, as ratios in one run of
-# the built program `turn_runs`. A ratio of the numbers is a constant time a turn; with more threads the number of turns stays the same.
+# How the time of turns under a turn lock grows with their number, and how they compare with the same notes under a plain mutex, one after the
+# other in one run of this script, as ratios: of the number of turns, and for each number of threads of the lock over the mutex. All with the
+# built program `bench_turns`. A ratio of the numbers is a constant time a turn; with more threads the number of turns stays the same.
 . "$(dirname "$0")/common.sh"
-want crates/turn_runs/out/turn_runs '(cd crates/turn_runs && rt run < stdin)'
+want crates/bench_turns/out/bench_turns '(cd crates/bench_turns && rt run < stdin)'
 once() { "$program" < in > out; }
 
 printf '1 0\n' > in
@@ -13,9 +14,11 @@ for number in 250000 500000 1000000 2000000; do
   row 'turns of one thread' "$number" $(($(least 5) - base))
 done
 
-# a million turns, by so many threads
-first=
+# a million notes by so many threads: under a mutex, and in turns of a lock
 for workers in 1 2 4 8 16; do
-  printf '%s %s\n' "$workers" $((1000000 / workers)) > in
-  row 'a million turns, threads' "$workers" $(($(least 5) - base))
+  first=
+  for way in mutex turns; do
+    printf '%s %s %s\n' "$workers" $((1000000 / workers)) "$way" > in
+    row "a million notes, $way, threads" "$workers" $(($(least 9) - base))
+  done
 done

@@ -1,8 +1,8 @@
 #!/usr/bin/env bash
 # How the time of comparing versions grows with their bytes, and that of finding the highest with their number, as ratios in
-# one run of the built program `version_list`. A ratio of the sizes is what one pass costs.
+# one run of the built program `bench_versions`. A ratio of the sizes is what one pass costs.
 . "$(dirname "$0")/common.sh"
-want crates/version_list/out/version_list '(cd crates/version_list && rt run)'
+want crates/bench_versions/out/bench_versions '(cd crates/bench_versions && rt run)'
 once() { "$program" < in > out; }
 
 printf '1\n1\n' > in

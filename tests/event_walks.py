@@ -1,6 +1,6 @@
 #!/usr/bin/env python3
 """Decides by the definition itself which events of a build may come, and why the others may not, slowly: where the build stands is worked
-out from the list of events at each question. Walks through builds as the program `event_runs` does, and prints the lines that it is to
+out from the list of events at each question. Walks through builds as the program `bench_events` does, and prints the lines that it is to
 print. usage: event_walks.py FIRST LAST"""
 import sys
 
@@ -394,5 +394,6 @@ def walk(seed):
     return total, len(events)
 
 
-for seed in range(int(sys.argv[1]), int(sys.argv[2]) + 1):
-    print('walk %d: %d %d' % ((seed,) + walk(seed)))
+if __name__ == '__main__':
+    for seed in range(int(sys.argv[1]), int(sys.argv[2]) + 1):
+        print('walk %d: %d %d' % ((seed,) + walk(seed)))

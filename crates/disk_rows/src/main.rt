@@ -10,7 +10,6 @@
 #![tactic(auto)]
 
 mod making;
-mod staging;
 mod store;
 mod tree;
 
@@ -24,8 +23,8 @@ fn told(rt: &HostRuntime, kind: &str, rest: &str) -> anyhow::Result<String> {
         "link" => making::link(rt, folder, word),
         "publish" => store::publish(rt, folder, "a", word),
         "hidden" => store::publish(rt, folder, ".staging", "pom"),
-        "sweep" => staging::swept(rt, folder),
-        "beside" => staging::swept_beside(rt, folder),
+        "sweep" => store::swept(rt, folder),
+        "beside" => store::swept_beside(rt, folder),
         "fetch" => store::fetch(rt, folder, word.len() as u64),
         "versions" => store::versions(rt, folder),
         _ => tree::told(rt, kind, rest),

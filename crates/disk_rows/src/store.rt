@@ -1,10 +1,9 @@
 // Rows about repositories: what is published, and what a remote gives.
-use crate::staging::area;
-use local_repo::{put, settle, stage};
+use local_repo::{put, settle, stage, sweep};
 use mvn_base::{FileName, Gav, file_of, valid_group, valid_name, valid_version};
-use mvn_outside::{ReadFault, Remote};
+use mvn_outside::{Area, ReadFault, Remote};
 use mvn_shared::{Mem, Text};
-use outside_real::{RealRemote, RealShelf};
+use outside_real::{RealArea, RealRemote, RealShelf};
 use std::alloc::Global;
 
 fn demo(alloc: Global, artifact: &str) -> Mem<Gav> {
@@ -34,6 +33,16 @@ fn pom_name(alloc: Global, artifact: &str) -> Mem<Option<FileName>> {
     Ok(Some(file_of(alloc, &gav, &none, &pom)?))
 }
 
+// The first staging folder of the repository in a folder, as a process of this name uses it.
+fn area<'a>(
+    rt: &'a HostRuntime,
+    folder: &str,
+    process: &str,
+) -> Mem<RealArea<'a, HostRuntime>> {
+    let staging = Text::of(format!(in rt.alloc(); "{folder}/.staging/0")?);
+    Ok(RealArea::new(rt, staging, Text::from_str(rt.alloc(), process)?))
+}
+
 // Whether the repository takes the bytes under the name, and settles.
 fn takes(rt: &HostRuntime, folder: &str, name: &FileName, bytes: &[u8]) -> Mem<bool> {
     let root = Text::from_str(rt.alloc(), folder)?;
@@ -48,13 +57,13 @@ fn takes(rt: &HostRuntime, folder: &str, name: &FileName, bytes: &[u8]) -> Mem<b
     Ok(settle(&mut shelf).is_ok())
 }
 
-fn answer(alloc: Global, is_published: bool) -> anyhow::Result<String> {
-    let word = if is_published { "published" } else { "a fault" };
+fn answer(alloc: Global, is_done: bool, word: &str) -> anyhow::Result<String> {
+    let word = if is_done { word } else { "a fault" };
     Ok(String::from_str(alloc, word)?)
 }
 
 /// Whether a repository takes bytes as the POM of an artifact.
-pub fn publish(
+pub(crate) fn publish(
     rt: &HostRuntime,
     folder: &str,
     artifact: &str,
@@ -64,11 +73,25 @@ pub fn publish(
         Some(name) => takes(rt, folder, &name, bytes.as_bytes())?,
         None => false,
     };
-    answer(rt.alloc(), taken)
+    answer(rt.alloc(), taken, "published")
+}
+
+/// Whether a repository's first staging folder can be swept.
+pub(crate) fn swept(rt: &HostRuntime, folder: &str) -> anyhow::Result<String> {
+    let mut area = area(rt, folder, "one")?;
+    answer(rt.alloc(), sweep(&mut area).is_ok(), "swept")
+}
+
+/// The same while another user of the folder holds a piece there.
+pub(crate) fn swept_beside(rt: &HostRuntime, folder: &str) -> anyhow::Result<String> {
+    let mut other = area(rt, folder, "two")?;
+    let is_held = other.begin().is_ok();
+    let mut area = area(rt, folder, "one")?;
+    answer(rt.alloc(), is_held && sweep(&mut area).is_ok(), "swept")
 }
 
 /// What a remote gives of the POM of `a`.
-pub fn fetch(rt: &HostRuntime, folder: &str, limit: u64) -> anyhow::Result<String> {
+pub(crate) fn fetch(rt: &HostRuntime, folder: &str, limit: u64) -> anyhow::Result<String> {
     let mut remote = RealRemote::new(rt, Text::from_str(rt.alloc(), folder)?);
     let Some(name) = pom_name(rt.alloc(), "a")? else {
         return Ok(String::from_str(rt.alloc(), "no name")?);
@@ -83,7 +106,7 @@ pub fn fetch(rt: &HostRuntime, folder: &str, limit: u64) -> anyhow::Result<Strin
 }
 
 /// How many versions of the artifact `a` a remote lists.
-pub fn versions(rt: &HostRuntime, folder: &str) -> anyhow::Result<String> {
+pub(crate) fn versions(rt: &HostRuntime, folder: &str) -> anyhow::Result<String> {
     let gav = demo(rt.alloc(), "a")?;
     let mut remote = RealRemote::new(rt, Text::from_str(rt.alloc(), folder)?);
     if !valid_group(gav.group.as_bytes()) || !valid_name(gav.artifact.as_bytes()) {

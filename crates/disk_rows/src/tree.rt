@@ -37,7 +37,7 @@ fn read(rt: &HostRuntime, path: &Text) -> anyhow::Result<String> {
 }
 
 /// What is told of a row.
-pub fn told(rt: &HostRuntime, kind: &str, path: &str) -> anyhow::Result<String> {
+pub(crate) fn told(rt: &HostRuntime, kind: &str, path: &str) -> anyhow::Result<String> {
     let path = Text::from_str(rt.alloc(), path)?;
     match kind {
         "has" => has(rt, &path),

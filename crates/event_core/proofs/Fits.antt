@@ -279,7 +279,7 @@ long_map f (x ∷ rows) = ap suc (long_map f rows)
 pub all_back : {X : Type 0} (f : X → List ℕ) (P : List ℕ → Type 0) (rows : List X) → All P (map f rows) → All (λ x. P (f x)) rows
 all_back f P rows all = λ k d low. subst P (get_map f rows k d) (All-get_or P (map f rows) k (f d) (omega (arith, low, long_map f rows)) all)
 
-fold_more : {A B : Type 0} (f : B → A → B) (xs : List A) (s : B) (x : A) → fold f s (xs ++ x ∷ []) ≡ f (fold f s xs) x
+pub fold_more : {A B : Type 0} (f : B → A → B) (xs : List A) (s : B) (x : A) → fold f s (xs ++ x ∷ []) ≡ f (fold f s xs) x
 fold_more f [] s x = refl
 fold_more f (y ∷ xs) s x = fold_more f xs (f s y) x
 

@@ -1,18 +1,19 @@
 mod Changes
-mod Climbs
-mod Dues
+pub mod Climbs
+pub mod Dues
 mod Firsts
-mod Fits
+pub mod Fits
 mod Follows
 mod Fronts
 mod Goings
-mod Holding
-mod Keeping
-mod Law
+pub mod Holding
+pub mod Keeping
+pub mod Law
 mod Most
-mod Places
+pub mod Places
 mod Readings
+pub mod Runs
 mod Stuck
 mod Taken
-mod Ties
-mod Weights
+pub mod Ties
+pub mod Weights

@@ -27,7 +27,7 @@ use Rattle.event_core.proofs.Weights.{nothing_is}
 
 -- ---- holds after one is changed
 
-row_same : (row : List (Option Mode)) (w : ℕ) (x : Option Mode) → w < length row → hold_in (set row w x) w ≡ x
+pub row_same : (row : List (Option Mode)) (w : ℕ) (x : Option Mode) → w < length row → hold_in (set row w x) w ≡ x
 row_same [] w x low = absurd (omega (arith, low))
 row_same (y ∷ row) zero x low = by x
   where
@@ -36,7 +36,7 @@ row_same (y ∷ row) zero x low = by x
     by (Some mode) = refl
 row_same (y ∷ row) (suc w) x low = row_same row w x (omega (arith, low))
 
-row_other : (row : List (Option Mode)) (w v : ℕ) (x : Option Mode) → (v ≡ w → ⊥) → hold_in (set row w x) v ≡ hold_in row v
+pub row_other : (row : List (Option Mode)) (w v : ℕ) (x : Option Mode) → (v ≡ w → ⊥) → hold_in (set row w x) v ≡ hold_in row v
 row_other [] w v x other = refl
 row_other (y ∷ row) zero zero x other = absurd (other refl)
 row_other (y ∷ row) zero (suc v) x other = refl
@@ -62,7 +62,7 @@ row_length (r ∷ rows) (suc n) w x width low all = row_length rows n w x width 
 
 -- ---- what is listed behind a change
 
-listed_split : (xs : List ℕ) (k n : ℕ) → is_listed k (xs ++ n ∷ []) ≡ true → (k ≡ n) ⊎ (is_listed k xs ≡ true)
+pub listed_split : (xs : List ℕ) (k n : ℕ) → is_listed k (xs ++ n ∷ []) ≡ true → (k ≡ n) ⊎ (is_listed k xs ≡ true)
 listed_split [] k n is = by (nat_eq n k) refl is
   where
     by : (b : Bool) → nat_eq n k ≡ b → (b || false) ≡ true → (k ≡ n) ⊎ (false ≡ true)
@@ -74,7 +74,7 @@ listed_split (x ∷ xs) k n is = by (nat_eq x k) is (listed_split xs k n)
     by true h again = inr refl
     by false h again = again h
 
-listed_left : (xs : List ℕ) (k n : ℕ) → is_listed k (but n xs) ≡ true → ((k ≡ n) → ⊥) × (is_listed k xs ≡ true)
+pub listed_left : (xs : List ℕ) (k n : ℕ) → is_listed k (but n xs) ≡ true → ((k ≡ n) → ⊥) × (is_listed k xs ≡ true)
 listed_left [] k n is = absurd (false≢true is)
 listed_left (x ∷ xs) k n is = by (nat_eq x n) refl is (nat_eq x k) refl (listed_left xs k n)
   where
@@ -84,17 +84,17 @@ listed_left (x ∷ xs) k n is = by (nat_eq x n) refl is (nat_eq x k) refl (liste
     by false e h true f again = (λ same. false≢true (sym e ∙ ap (nat_eq x) (sym same) ∙ f), refl)
     by false e h false f again = again (sym (ap (λ b. b || is_listed k (but n xs)) f) ∙ h)
 
-set_far : {X : Type 0} (xs : List X) (i : ℕ) (x : X) → length xs ≤ i → set xs i x ≡ xs
+pub set_far : {X : Type 0} (xs : List X) (i : ℕ) (x : X) → length xs ≤ i → set xs i x ≡ xs
 set_far [] i x far = refl
 set_far (y ∷ xs) zero x far = absurd (omega (arith, far))
 set_far (y ∷ xs) (suc i) x far = ap (λ t. y ∷ t) (set_far xs i x (omega (arith, far)))
 
-some_same : (a b : ℕ) → Some a ≡ Some b → a ≡ b
+pub some_same : (a b : ℕ) → Some a ≡ Some b → a ≡ b
 some_same a b e = ap (λ o. unwrap_or o 0) e
 
 -- ---- modules that run
 
-deed_module : (there : List Bool) (held : List ℕ) (d : Deed) (answered : Option ℕ) (course : Course) → module_of (after_deed there held d answered course) ≡ module_of course
+pub deed_module : (there : List Bool) (held : List ℕ) (d : Deed) (answered : Option ℕ) (course : Course) → module_of (after_deed there held d answered course) ≡ module_of course
 deed_module there held d answered idle = refl
 deed_module there held d answered (off_course m file gathered) = refl
 deed_module there held d answered (on_course m script last) = by (done script d)
@@ -103,7 +103,7 @@ deed_module there held d answered (on_course m script last) = by (done script d)
     by None = refl
     by (Some rest) = refl
 
-free_module : (o : Outline) (there : List Bool) (held : List ℕ) (course : Course) → module_of (after_free o there held course) ≡ module_of course
+pub free_module : (o : Outline) (there : List Bool) (held : List ℕ) (course : Course) → module_of (after_free o there held course) ≡ module_of course
 free_module o there held idle = refl
 free_module o there held (off_course m file gathered) = refl
 free_module o there held (on_course m script last) = by (done script deed.Free)
@@ -132,7 +132,7 @@ turned_runs o now w course fit tied same m v is = by (same_or_not v w) (tied.run
     by (inr other) run = (run.0, ap module_of (get_or-set_other now.courses w v course idle other) ∙ run.1)
 
 -- a course that is put at a worker's place with the module that its own has
-turned_module : (now : Now) (w v : ℕ) (course : Course) → module_of course ≡ module_of (course_of now w) → module_of (get_or (set now.courses w course) v idle) ≡ module_of (course_of now v)
+pub turned_module : (now : Now) (w v : ℕ) (course : Course) → module_of course ≡ module_of (course_of now w) → module_of (get_or (set now.courses w course) v idle) ≡ module_of (course_of now v)
 turned_module now w v course same = by (below_or_not w (length now.courses)) (same_or_not v w)
   where
     by : (w < length now.courses) ⊎ (length now.courses ≤ w) → (v ≡ w) ⊎ ((v ≡ w) → ⊥) → module_of (get_or (set now.courses w course) v idle) ≡ module_of (course_of now v)
@@ -153,7 +153,7 @@ runs_not : (p : Progress) (w : ℕ) → is_waiting p ≡ true → p ≡ Running 
 runs_not p w waits runs = false≢true (sym (ap is_waiting runs) ∙ waits)
 
 -- a module that waits is no worker's
-waits_alone : (o : Outline) (now : Now) (m v k : ℕ) → IsTied o now → is_waiting (progress_of now.progress m) ≡ true → module_of (course_of now v) ≡ Some k → k ≡ m → ⊥
+pub waits_alone : (o : Outline) (now : Now) (m v k : ℕ) → IsTied o now → is_waiting (progress_of now.progress m) ≡ true → module_of (course_of now v) ≡ Some k → k ≡ m → ⊥
 waits_alone o now m v k tied waits at same = runs_not (progress_of now.progress m) v waits (ap (progress_of now.progress) (sym same) ∙ tied.busy v k at)
 
 abbrev runs_of : Progress → Bool
@@ -164,7 +164,7 @@ abbrev worker_of : Progress → ℕ
 worker_of (Running v) = v
 worker_of other = 0
 
-not_running : (ps : List Progress) (m : ℕ) (p : Progress) (w : ℕ) → (p ≡ Running w → ⊥) → progress_of (set ps m p) m ≡ Running w → ⊥
+pub not_running : (ps : List Progress) (m : ℕ) (p : Progress) (w : ℕ) → (p ≡ Running w → ⊥) → progress_of (set ps m p) m ≡ Running w → ⊥
 not_running [] m p w isnt is = wait w is
   where
     wait : (w : ℕ) → Waiting ≡ Running w → ⊥
@@ -198,7 +198,7 @@ none_listed zero w k is = false≢true is
 none_listed (suc n) zero k is = false≢true is
 none_listed (suc n) (suc w) k is = none_listed n w k is
 
-any_idle : (n w : ℕ) → get_or (replicate n idle) w idle ≡ idle
+pub any_idle : (n w : ℕ) → get_or (replicate n idle) w idle ≡ idle
 any_idle zero w = refl
 any_idle (suc n) zero = refl
 any_idle (suc n) (suc w) = any_idle n w

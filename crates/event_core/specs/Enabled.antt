@@ -13,7 +13,7 @@ use Rattle.event_core.specs.declared.deed.Deed.TheVariants as deed
 use Rattle.event_core.specs.declared.outline.Outline.{Outline}
 use Rattle.event_core.specs.declared.outline.ModuleOutline.{ModuleOutline}
 use Rattle.event_core.specs.Scripts.{Script, done, is_gathered, is_to_install, may_end, wanted}
-use Rattle.event_core.specs.Standing.{Course, Now, course_of, first_lost, first_not_built, goals_of, held_by, idle, is_waiting, module_of, now_of, off_course, on_course, progress_of}
+use Rattle.event_core.specs.Standing.{CanSkip, CanStart, Course, Now, course_of, fail_at_end, goals_of, held_by, idle, is_waiting, module_of, now_of, off_course, on_course, progress_of}
 
 -- whether a deed is the next one of a worker's script
 abbrev pub is_due : Course → Deed → Bool
@@ -61,8 +61,8 @@ ending_in_range o course other = true
 
 -- the event may come now
 abbrev pub IsEnabled : Outline → Now → Event → Type 0
-IsEnabled o now (event.Start w m) = (w < o.workers) × (m < length o.modules) × (is_waiting (progress_of now.progress m) ≡ true) × (first_not_built o now.progress m ≡ None) × (module_of (course_of now w) ≡ None)
-IsEnabled o now (event.Skip m) = (m < length o.modules) × (is_waiting (progress_of now.progress m) ≡ true) × (is_some (first_lost o now.progress m) ≡ true)
+IsEnabled o now (event.Start w m) = (w < o.workers) × (m < length o.modules) × (is_waiting (progress_of now.progress m) ≡ true) × CanStart fail_at_end o now.progress m × (module_of (course_of now w) ≡ None)
+IsEnabled o now (event.Skip m) = (m < length o.modules) × (is_waiting (progress_of now.progress m) ≡ true) × CanSkip fail_at_end o now.progress m
 IsEnabled o now (event.Take w n mode) = (w < o.workers) × (n < o.names) × (blocker now.locks n w mode ≡ None) × (list_all (λ h. nat_lt h n) (held_by now w) ≡ true) × (is_due (course_of now w) (deed.Take mode n) ≡ true)
 IsEnabled o now (event.Free w n) = (w < o.workers) × (n < o.names) × (is_some (hold now.locks n w) ≡ true)
 IsEnabled o now (event.Read w f) = (w < o.workers) × (f < length o.present) × (is_due (course_of now w) (deed.Read f) ≡ true)

@@ -27,10 +27,10 @@ use Rattle.event_core.specs.Worlds.{AllFit, Fits, HandTold}
 
 -- a jar's bytes are [7], those of its POM [1]; the gate answers so, and the module's files are named [65] and [66]
 module _ (gav : Gav) where
-  abbrev call : GoalCall
+  abbrev pub call : GoalCall
   call = record { group = []; artifact = []; version = []; goal = []; execution = []; phase = Package; configuration = []; slot = slot.Main; need = need.Nothing }
 
-  abbrev jar : PlanModule
+  abbrev pub jar : PlanModule
   jar = record {
     gav = gav;
     upstream = [];
@@ -47,7 +47,7 @@ module _ (gav : Gav) where
     needs_artifact = true;
   }
 
-  abbrev plan : Plan
+  abbrev pub plan : Plan
   plan = record { modules = jar ∷ []; names = (9 ∷ []) ∷ []; files = (65 ∷ []) ∷ (66 ∷ []) ∷ []; present = false ∷ false ∷ []; workers = 1; events = 11 }
 
   abbrev entry : Event → Carried → RunEntry
@@ -62,14 +62,14 @@ module _ (gav : Gav) where
   abbrev taken : List RunEntry
   taken = entry (event.Start 0 0) carried.Nothing ∷ entry (event.Answer 0 0) (carried.Answered (Produced (7 ∷ []))) ∷ entry (event.Take 0 0 Exclusive) carried.Nothing ∷ []
 
-  abbrev built : List RunEntry
+  abbrev pub built : List RunEntry
   built =
       entry (event.Start 0 0) carried.Nothing ∷ entry (event.Answer 0 0) (carried.Answered (Produced (7 ∷ []))) ∷ entry (event.Take 0 0 Exclusive) carried.Nothing
       ∷ entry (event.Publish 0 0) (carried.Published (1 ∷ [])) ∷ entry (event.Publish 0 1) (carried.Published (7 ∷ []))
       ∷ entry (event.Free 0 0) carried.Nothing ∷ entry (event.End 0 ending.Built) carried.Nothing ∷ []
 
   abbrev hands : ℕ → HandTold
-  hands w = record { remote = None; gate = None }
+  hands w = record { remote = None; area = true; gate = None }
 
   -- the answer is kept, and its output; the files are put
   kept_is : answers_in plan built ≡ (record { «module» = 0; goal = 0; answer = Produced (7 ∷ []) }) ∷ []
@@ -84,17 +84,21 @@ module _ (gav : Gav) where
   contents_are start = refl
 
   -- the run is complete and quiet
-  complete : IsComplete plan built
+  pub complete : IsComplete plan built
   unfolding after
   complete = refl
 
-  quiet : IsQuiet built
+  pub quiet : IsQuiet built
   quiet = refl
 
-  -- and fits
-  fits : (start : Files) → AllFit plan start hands [] built
+  -- and fits, also over a repository that tells nothing
+  fits : (start : Files) → AllFit plan (Some start) hands [] built
   unfolding after
-  fits start = (tt, ((refl, refl, tt), ((refl, refl, refl), (refl, (refl, (tt, ((refl, refl, refl), tt)))))))
+  fits start = ((refl, tt), ((refl, (refl, refl, tt)), ((refl, (refl, refl, refl)), ((refl, ((refl, refl, refl), refl)), ((refl, ((refl, refl, refl), refl)), ((refl, tt), ((refl, (refl, refl, refl, refl)), tt)))))))
+
+  fits_untold : AllFit plan None hands [] built
+  unfolding after
+  fits_untold = ((refl, tt), ((refl, (tt, refl, tt)), ((refl, (tt, refl, refl)), ((refl, (tt, refl, refl)), ((refl, (tt, refl, refl)), ((refl, tt), ((refl, (tt, refl, refl, refl)), tt)))))))
 
   -- ---- and what doesn't fit
 
@@ -103,35 +107,60 @@ module _ (gav : Gav) where
   first_is n other = false
 
   -- other bytes than the slot's
-  other_bytes : (start : Files) → Fits plan start hands taken (entry (event.Publish 0 1) (carried.Published (8 ∷ []))) → ⊥
+  other_bytes : (start : Files) → Fits plan (Some start) hands taken (entry (event.Publish 0 1) (carried.Published (8 ∷ []))) → ⊥
   unfolding after
-  other_bytes start is = false≢true (ap (first_is 8) is)
+  other_bytes start is = false≢true (ap (first_is 8) is.1.1)
+
+  -- none, where they are told
+  no_bytes : (start : Files) → Fits plan (Some start) hands taken (entry (event.Publish 0 1) carried.Nothing) → ⊥
+  no_bytes start is = false≢true is.0
 
   -- an end without the jar
   abbrev pom_only : List RunEntry
   pom_only = taken ++ entry (event.Publish 0 0) (carried.Published (1 ∷ [])) ∷ entry (event.Free 0 0) carried.Nothing ∷ []
 
-  left_out : (start : Files) → Fits plan start hands pom_only (entry (event.End 0 ending.Built) carried.Nothing) → ⊥
+  left_out : (start : Files) → Fits plan (Some start) hands pom_only (entry (event.End 0 ending.Built) carried.Nothing) → ⊥
   unfolding after
-  left_out start is = false≢true is.2
+  left_out start is = false≢true is.1.2
 
   -- another answer than the gate's
   abbrev is_done : GoalAnswer → Bool
   is_done Done = true
   is_done other = false
 
-  other_answer : (start : Files) → Fits plan start (λ w. record { remote = None; gate = Some (λ asked answer. is_done answer) }) begun (entry (event.Answer 0 0) (carried.Answered (Produced (7 ∷ [])))) → ⊥
+  abbrev strict : ℕ → HandTold
+  strict w = record { remote = None; area = true; gate = Some (λ asked answer. is_done answer) }
+
+  other_answer : (start : Files) → Fits plan (Some start) strict begun (entry (event.Answer 0 0) (carried.Answered (Produced (7 ∷ [])))) → ⊥
   unfolding after
-  other_answer start is = false≢true is.2
+  other_answer start is = false≢true is.1.2
 
   -- installing after a goal failed
   abbrev failed : List RunEntry
   failed = begun ++ entry (event.Answer 0 0) (carried.Answered (Failed [])) ∷ []
 
-  after_failure : (start : Files) → Fits plan start hands failed (entry (event.Take 0 0 Exclusive) carried.Nothing) → ⊥
+  after_failure : (start : Files) → Fits plan (Some start) hands failed (entry (event.Take 0 0 Exclusive) carried.Nothing) → ⊥
   unfolding after
-  after_failure start is = false≢true is.1
+  after_failure start is = false≢true is.1.1
 
   -- and a fault is not quiet
   loud : IsQuiet (begun ++ entry (event.End 0 (ending.Fault Gate)) carried.Nothing ∷ []) → ⊥
   loud is = false≢true is
+
+  -- ---- an answer that isn't told: the first of two goals carries nothing, the second failed, and the module is built
+
+  abbrev two_goals : Plan
+  two_goals = record plan { modules = (record jar { goals = call ∷ call ∷ []; installs = false }) ∷ [] }
+
+  abbrev silent : List RunEntry
+  silent =
+      entry (event.Start 0 0) carried.Nothing ∷ entry (event.Answer 0 0) carried.Nothing ∷ entry (event.Answer 0 1) (carried.Answered (Failed []))
+      ∷ entry (event.End 0 ending.Built) carried.Nothing ∷ []
+
+  silent_ends : IsComplete two_goals silent
+  unfolding after
+  silent_ends = refl
+
+  -- whatever is told
+  silent_unfit : (start : Option Files) (told : ℕ → HandTold) → AllFit two_goals start told [] silent → ⊥
+  silent_unfit start told is = false≢true is.1.0.0

@@ -1,5 +1,5 @@
 -- Runs of a build: events with the bytes that they published and the answers that they kept, and what stands after them. Own.
-use Rattle.std.specs.Prelude.{◌≡◌, ℕ, suc, Bool, true, false, ◌==◌, List, [], ◌∷◌, ◌++◌, length, take, map, filter, fold, Option}
+use Rattle.std.specs.Prelude.{◌≡◌, ℕ, suc, Bool, true, false, List, [], ◌∷◌, ◌++◌, map, fold, Option, Some, None}
 use Rattle.std.specs.List.{list_all}
 use Rattle.std.specs.Option.{option_map_or}
 use Rattle.std.specs.FinMap as finite
@@ -46,9 +46,18 @@ IsQuiet entries = list_all (λ (e : RunEntry). is_quiet_event e.event) entries �
 
 -- ---- the repository
 
+-- the name that an event writes
+abbrev pub writes_of : Plan → Event → Option (List ℕ)
+writes_of plan (event.Publish w file) = Some (name_of plan file)
+writes_of plan other = None
+
+-- what is carried stands under the name that is written
+abbrev pub put_under : Files → Option (List ℕ) → Carried → Files
+put_under files (Some name) (carried.Published bytes) = finite.insert files name bytes
+put_under files name what = files
+
 abbrev pub put_carried : Plan → Files → Event → Carried → Files
-put_carried plan files (event.Publish w file) (carried.Published bytes) = finite.insert files (name_of plan file) bytes
-put_carried plan files other what = files
+put_carried plan files e what = put_under files (writes_of plan e) what
 
 -- the repository's files after a run, one publish after another
 abbrev pub contents : Plan → Files → List RunEntry → Files
@@ -73,13 +82,9 @@ answers_from plan past (e ∷ entries) = kept_by plan past e.event e.carried ++ 
 abbrev pub answers_in : Plan → List RunEntry → List Answered
 answers_in plan entries = answers_from plan [] entries
 
--- how many goals of a module were answered
-abbrev pub count_of : List Answered → ℕ → ℕ
-count_of kept m = length (filter (λ (a : Answered). a.«module» == m) kept)
-
--- how those goals ended, with the outputs that are kept
+-- how a module's goals ended so far, with the outputs that are kept: a goal that isn't answered yet counts as done, which changes nothing
 abbrev pub goals_in : List Answered → ℕ → PlanModule → GoalsEnd
-goals_in kept number m = run_goals m.budget (answer_at kept number) 0 (take (count_of kept number) m.goals) []
+goals_in kept number m = run_goals m.budget (answer_at kept number) 0 m.goals []
 
 abbrev pub outputs_from : List Answered → ℕ → List PlanModule → List (List OwnBytes)
 outputs_from kept number [] = []

@@ -1,5 +1,5 @@
 -- Where a build stands after some events. Own.
-use Rattle.std.specs.Prelude.{ℕ, Bool, true, false, not, ◌&&◌, List, [], ◌∷◌, ◌++◌, length, find, fold, replicate, slice_get, slice_set, Option, Some, None, is_none, is_some, unwrap_or}
+use Rattle.std.specs.Prelude.{◌≡◌, ℕ, Bool, true, false, not, ◌&&◌, List, [], ◌∷◌, ◌++◌, length, find, fold, replicate, slice_get, slice_set, Option, Some, None, is_none, is_some, unwrap_or}
 use Rattle.std.specs.List.{list_all, slice_index_or}
 use Rattle.std.specs.Option.{option_map_or}
 use Rattle.name_locks.specs.declared.mode.Mode.{Mode}
@@ -164,6 +164,17 @@ first_lost o progress m = find (λ u. is_lost (progress_of progress u)) (upstrea
 
 abbrev pub first_not_built : Outline → List Progress → ℕ → Option ℕ
 first_not_built o progress m = find (λ u. not (is_done (progress_of progress u))) (upstream_of o m)
+
+-- what becomes of other modules where one fails: those that don't need it go on. Guide to Building Multiple Modules, "fail at end".
+pub data FailMode : Type 0 where
+  fail_at_end : FailMode
+
+-- a module that waits may begin, and may be skipped
+abbrev pub CanStart : FailMode → Outline → List Progress → ℕ → Type 0
+CanStart fail_at_end o progress m = first_not_built o progress m ≡ None
+
+abbrev pub CanSkip : FailMode → Outline → List Progress → ℕ → Type 0
+CanSkip fail_at_end o progress m = is_some (first_lost o progress m) ≡ true
 
 -- a module may begin where all its upstreams are built, and is skipped where one is lost
 abbrev pub is_ready : Outline → List Progress → ℕ → Bool

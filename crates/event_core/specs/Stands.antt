@@ -1,9 +1,10 @@
 -- The program's own word: where a build stands, by what a core keeps of it.
-use Rattle.std.specs.Prelude.{◌≡◌, ℕ, ◌+◌, ◌<◌, ◌≤◌, ◌^◌, List, length, map}
+use Rattle.std.specs.Prelude.{◌≡◌, ℕ, ◌+◌, ◌<◌, ◌≤◌, ◌^◌, List, [], length, map}
 use Rattle.build_core.specs.declared.event.Event.{Event}
 use Rattle.event_core.specs.declared.outline.Outline.{Outline}
 use Rattle.event_core.specs.declared.stand.Stand.{Stand}
 use Rattle.event_core.specs.Bounds.{events_left}
+use Rattle.event_core.specs.Enabled.{IsRun}
 use Rattle.event_core.specs.Fitting.{IsFit, IsTied}
 use Rattle.event_core.specs.Fronts.{upstreams}
 use Rattle.event_core.specs.Holding.{AllHold}
@@ -22,6 +23,7 @@ pub record IsHolding (o : Outline) (stand : Stand) : Type 0 where
 -- a core's parts belong together: it stands where its events lead, and there is room for what may come
 pub record IsCore (o : Outline) (events : List Event) (stand : Stand) (capacity : ℕ) : Type 0 where
   pub same : now_in o stand ≡ now_of o events
+  pub run : IsRun o [] events
   pub fit : IsFit o (now_of o events)
   pub tied : IsTied o (now_of o events)
   pub holding : IsHolding o stand

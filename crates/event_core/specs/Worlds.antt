@@ -1,11 +1,11 @@
 -- What of a run fits what stands outside: the bytes that it publishes, the answers that it keeps, and why modules end. Own.
-use Rattle.std.specs.Prelude.{◌≡◌, ℕ, Bool, true, false, not, ◌||◌, ◌==◌, nat_eq, nat_le, List, [], ◌∷◌, ◌++◌, map, find, slice_get, Option, Some, None, is_some, option_and_then, IfSome}
+use Rattle.std.specs.Prelude.{◌≡◌, ℕ, Bool, true, false, not, ◌&&◌, ◌||◌, ◌==◌, nat_eq, nat_le, List, [], ◌∷◌, ◌++◌, map, find, slice_get, Option, Some, None, is_some, option_and_then, option_map, IfSome}
 use Rattle.std.specs.List.{list_all, list_any}
+use Rattle.std.specs.Option.{option_map_or}
 use Rattle.mvn_shared.specs.Files.{Files}
 use Rattle.goal_types.specs.declared.goal.GoalAnswer.{GoalAnswer}
 use Rattle.goal_types.specs.declared.goal.GoalRequest.{GoalRequest}
 use Rattle.goal_types.specs.declared.goal.OwnBytes.{OwnBytes}
-use Rattle.goal_types.specs.declared.goal.Slot.TheVariants.{Main}
 use Rattle.build_core.specs.declared.plan.Plan.{Plan}
 use Rattle.build_core.specs.declared.plan.PlanModule.{PlanModule}
 use Rattle.build_core.specs.declared.plan.OwnFile.{OwnFile}
@@ -13,7 +13,7 @@ use Rattle.build_core.specs.declared.event.Event.{Event}
 use Rattle.build_core.specs.declared.event.Event.TheVariants as event
 use Rattle.build_core.specs.declared.ending.Ending.{Ending}
 use Rattle.build_core.specs.declared.ending.Ending.TheVariants as ending
-use Rattle.build_core.specs.Slots.{GoalsEnd, all_answered, goal_failed, kept_of, output_too_large, slot_bytes}
+use Rattle.build_core.specs.Slots.{GoalsEnd, all_answered, goal_failed, kept_of, output_too_large}
 use Rattle.build_core.specs.OneThread.{entries_len, lacks_artifact, most_classpath, name_of, own_bytes, path_entry, remote_bytes, request}
 use Rattle.event_core.specs.declared.entry.Carried.{Carried}
 use Rattle.event_core.specs.declared.entry.Carried.TheVariants as carried
@@ -23,44 +23,74 @@ use Rattle.event_core.specs.Outlines.{is_listed}
 use Rattle.event_core.specs.Runs.{answers_in, contents, goals_in, module_by, now_after, outputs_in}
 use Rattle.event_core.specs.Standing.{course_of}
 
--- what the hand of a worker tells: its remote's files, and a test for its gate's answers
+-- what the hand of a worker tells: its remote's files, whether its staging area tells the bytes of a piece, and a test for its gate's
+-- answers
 pub record HandTold : Type 0 where
   pub remote : Option Files
+  pub area : Bool
   pub gate : Option (GoalRequest → GoalAnswer → Bool)
 
--- the bytes that an entry tells are these
+-- ---- what an entry carries
+
+abbrev pub is_answered : Carried → Bool
+is_answered (carried.Answered answer) = true
+is_answered other = false
+
+abbrev pub is_published : Carried → Bool
+is_published (carried.Published bytes) = true
+is_published other = false
+
+abbrev pub is_bare : Carried → Bool
+is_bare carried.Nothing = true
+is_bare other = false
+
+-- an answer is carried always, published bytes where they are told, and nothing by any other event
+abbrev pub is_told : (told : Bool) → Event → Carried → Bool
+is_told told (event.Answer w goal) what = is_answered what
+is_told true (event.Publish w file) what = is_published what
+is_told false (event.Publish w file) what = not (is_answered what)
+is_told told other what = is_bare what
+
+-- the bytes that an entry carries are these; of one that carries none nothing is said: `is_told` says when it must
 abbrev pub TellsBytes : Carried → Option (List ℕ) → Type 0
 TellsBytes (carried.Published bytes) wanted = wanted ≡ Some bytes
 TellsBytes other wanted = Unit {0}
 
--- the answer that an entry tells passes a test
+-- the answer that an entry carries passes a test
 abbrev pub TellsAnswer : Carried → (GoalAnswer → Bool) → Type 0
 TellsAnswer (carried.Answered answer) test = test answer ≡ true
-TellsAnswer other test = Unit {0}
+TellsAnswer other test = ⊥
 
 -- ---- a module, as a run stands
 
+-- the repository's files are there where it tells them
 pub record Stood : Type 0 where
   pub plan : Plan
   pub «module» : PlanModule
   pub past : List RunEntry
-  pub files : Files
+  pub files : Option Files
   pub outputs : List (List OwnBytes)
   pub goals : GoalsEnd
 
-abbrev pub stood : Plan → Files → List RunEntry → ℕ → PlanModule → Stood
+abbrev pub stood : Plan → Option Files → List RunEntry → ℕ → PlanModule → Stood
 stood plan start past number m = record {
   plan = plan;
   «module» = m;
   past = past;
-  files = contents plan start past;
+  files = option_map (λ files. contents plan files past) start;
   outputs = outputs_in plan past;
   goals = goals_in (answers_in plan past) number m;
 }
 
--- the bytes of its entries are within the limit
-abbrev pub is_within : Stood → Bool
-is_within at = nat_le (entries_len (map (path_entry at.plan at.files at.outputs) at.«module».entries)) most_classpath
+-- the bytes of its entries are within the limit, over these files
+abbrev pub is_within : Stood → Files → Bool
+is_within at files = nat_le (entries_len (map (path_entry at.plan files at.outputs) at.«module».entries)) most_classpath
+
+abbrev pub IsWithin : Stood → Type 0
+IsWithin at = IfSome at.files (λ files. is_within at files ≡ true)
+
+abbrev pub IsBeyond : Stood → Type 0
+IsBeyond at = IfSome at.files (λ files. is_within at files ≡ false)
 
 -- no answer failed or made too much
 abbrev pub is_good : GoalsEnd → Bool
@@ -77,53 +107,75 @@ is_too_large_at i other = false
 
 -- the bytes of an own file
 abbrev pub own_of : Stood → ℕ → Option (List ℕ)
-own_of at file = option_and_then (λ (o : OwnFile). own_bytes at.«module» (kept_of at.goals) o.slot) (find (λ (o : OwnFile). o.file == file) at.«module».own)
+own_of at file =
+    option_and_then (λ (o : OwnFile). own_bytes at.«module» (kept_of at.goals) o.slot) (find (λ (o : OwnFile). o.file == file) at.«module».own)
+
+-- it is to be installed, needs a main output, and has none
+abbrev pub is_lacking : Stood → Bool
+is_lacking at = at.«module».installs && lacks_artifact at.«module» (kept_of at.goals)
 
 abbrev pub publishes : ℕ → Event → Bool
 publishes file (event.Publish w other) = nat_eq other file
 publishes file other = false
 
+abbrev pub was_published : List RunEntry → ℕ → Bool
+was_published past file = list_any (λ (e : RunEntry). publishes file e.event) past
+
 -- each own file that there are bytes for was published
 abbrev pub is_installed : Stood → Bool
-is_installed at = list_all (λ (o : OwnFile). not (is_some (own_bytes at.«module» (kept_of at.goals) o.slot)) || list_any (λ (e : RunEntry). publishes o.file e.event) at.past) at.«module».own
+is_installed at =
+    list_all (λ (o : OwnFile). not (is_some (own_bytes at.«module» (kept_of at.goals) o.slot)) || was_published at.past o.file) at.«module».own
+
+-- nothing stands against installing it: its classpath is within the limit, all answers are good, and it doesn't lack its artifact
+abbrev pub IsInstallable : Stood → Type 0
+IsInstallable at = IsWithin at × (is_good at.goals ≡ true) × (lacks_artifact at.«module» (kept_of at.goals) ≡ false)
 
 -- ---- what fits, event by event
 
--- a publish has the remote's bytes, or where the file is the module's own the POM's or its slot's
-abbrev pub FitsPublish : Stood → HandTold → ℕ → Carried → Type 0
-FitsPublish at hand file what = by (is_listed file at.«module».fetch)
-  where
-    by : Bool → Type 0
-    by true = IfSome hand.remote (λ remote. TellsBytes what (remote_bytes remote (name_of at.plan file)))
-    by false = TellsBytes what (own_of at file)
+-- whether the bytes of a publish are told: by the repository, and by the area from which it is made
+abbrev pub tells_bytes : Stood → HandTold → Bool
+tells_bytes at hand = is_some at.files && hand.area
 
--- an answer is given where those before it are good, and is the gate's to the request of its goal
+-- a publish has the remote's bytes; or where the file is the module's own, which may be installed then, the POM's or its slot's
+abbrev pub FitsBytes : (told fetches : Bool) → Stood → HandTold → ℕ → Carried → Type 0
+FitsBytes false true at hand file what = Unit {0}
+FitsBytes false false at hand file what = IsInstallable at
+FitsBytes true true at hand file what = IfSome hand.remote (λ remote. TellsBytes what (remote_bytes remote (name_of at.plan file)))
+FitsBytes true false at hand file what = IsInstallable at × TellsBytes what (own_of at file)
+
+abbrev pub FitsPublish : Stood → HandTold → ℕ → Carried → Type 0
+FitsPublish at hand file what = FitsBytes (tells_bytes at hand) (is_listed file at.«module».fetch) at hand file what
+
+-- the answer is the gate's to the request of its goal, as far as gate and repository tell
+abbrev pub IsGates : Stood → HandTold → ℕ → Carried → Type 0
+IsGates at hand goal what =
+    IfSome hand.gate (λ test. IfSome at.files (λ files. IfSome (slice_get at.«module».goals goal) (λ call.
+    TellsAnswer what (test (request at.plan files at.outputs at.«module» call (kept_of at.goals))))))
+
+-- an answer is given where those before it are good
 abbrev pub FitsAnswer : Stood → HandTold → ℕ → Carried → Type 0
-FitsAnswer at hand goal what = (is_within at ≡ true) × (is_good at.goals ≡ true)
-    × IfSome hand.gate (λ test. IfSome (slice_get at.«module».goals goal) (λ call. TellsAnswer what (test (request at.plan at.files at.outputs at.«module» call (kept_of at.goals)))))
+FitsAnswer at hand goal what = IsWithin at × (is_good at.goals ≡ true) × IsGates at hand goal what
 
 -- installing begins where nothing stands against it
-abbrev pub FitsTake : Stood → ℕ → Type 0
-FitsTake at stage = by (nat_eq stage 6)
-  where
-    by : Bool → Type 0
-    by true = (is_within at ≡ true) × (is_good at.goals ≡ true) × (lacks_artifact at.«module» (kept_of at.goals) ≡ false)
-    by false = Unit {0}
+abbrev pub FitsTake : (installs : Bool) → Stood → Type 0
+FitsTake true at = IsInstallable at
+FitsTake false at = Unit {0}
 
 abbrev pub FitsEnd : Stood → HandTold → Ending → Type 0
-FitsEnd at hand ending.Built = (is_within at ≡ true) × (is_good at.goals ≡ true) × ((not at.«module».installs || is_installed at) ≡ true)
+FitsEnd at hand ending.Built =
+    IsWithin at × (is_good at.goals ≡ true) × ((not at.«module».installs || is_installed at) ≡ true) × (is_lacking at ≡ false)
 FitsEnd at hand (ending.Missing file) = IfSome hand.remote (λ remote. remote_bytes remote (name_of at.plan file) ≡ None)
-FitsEnd at hand ending.ClasspathTooLarge = is_within at ≡ false
+FitsEnd at hand ending.ClasspathTooLarge = IsBeyond at
 FitsEnd at hand (ending.Goal i) = has_failed_at i at.goals ≡ true
 FitsEnd at hand (ending.OutputTooLarge i) = is_too_large_at i at.goals ≡ true
-FitsEnd at hand ending.NoArtifact = (is_good at.goals ≡ true) × (slot_bytes (kept_of at.goals) Main ≡ None)
+FitsEnd at hand ending.NoArtifact = IsWithin at × (is_good at.goals ≡ true) × (is_lacking at ≡ true)
 FitsEnd at hand (ending.Fault device) = Unit {0}
 FitsEnd at hand ending.Memory = Unit {0}
 
 abbrev pub FitsModule : Stood → HandTold → (stage : ℕ) → Event → Carried → Type 0
 FitsModule at hand stage (event.Publish w file) what = FitsPublish at hand file what
 FitsModule at hand stage (event.Answer w goal) what = FitsAnswer at hand goal what
-FitsModule at hand stage (event.Take w n mode) what = FitsTake at stage
+FitsModule at hand stage (event.Take w n mode) what = FitsTake (nat_eq stage 6) at
 FitsModule at hand stage (event.End w e) what = FitsEnd at hand e
 FitsModule at hand stage other what = Unit {0}
 
@@ -137,13 +189,22 @@ worker_of (event.Publish w file) = Some w
 worker_of (event.Answer w goal) = Some w
 worker_of (event.End w e) = Some w
 
--- an entry fits behind others, where its worker's hand tells this
-abbrev pub Fits : Plan → Files → (ℕ → HandTold) → (past : List RunEntry) → RunEntry → Type 0
-Fits plan start hands past e =
-    IfSome (worker_of e.event) (λ w. IfSome (module_by plan past w) (λ number. IfSome (slice_get plan.modules number) (λ m.
+-- whether the bytes that an entry publishes are told
+abbrev pub is_told_by : Option Files → (ℕ → HandTold) → Event → Bool
+is_told_by start hands e = is_some start && option_map_or (λ w. (hands w).area) (worker_of e) false
+
+-- an entry's row, where its worker builds a module
+abbrev pub FitsBehind : Plan → Option Files → (ℕ → HandTold) → (past : List RunEntry) → RunEntry → Option ℕ → Type 0
+FitsBehind plan start hands past e worker =
+    IfSome worker (λ w. IfSome (module_by plan past w) (λ number. IfSome (slice_get plan.modules number) (λ m.
     FitsModule (stood plan start past number m) (hands w) (stage_at (course_of (now_after plan past) w)) e.event e.carried)))
 
+-- an entry fits behind others, where the repository told these files at the start, or none, and its worker's hand tells this: it carries
+-- what it has to, and its row holds
+abbrev pub Fits : Plan → Option Files → (ℕ → HandTold) → (past : List RunEntry) → RunEntry → Type 0
+Fits plan start hands past e = (is_told (is_told_by start hands e.event) e.event e.carried ≡ true) × FitsBehind plan start hands past e (worker_of e.event)
+
 -- and each of a run
-abbrev pub AllFit : Plan → Files → (ℕ → HandTold) → (past : List RunEntry) → List RunEntry → Type 0
+abbrev pub AllFit : Plan → Option Files → (ℕ → HandTold) → (past : List RunEntry) → List RunEntry → Type 0
 AllFit plan start hands past [] = Unit {0}
 AllFit plan start hands past (e ∷ entries) = Fits plan start hands past e × AllFit plan start hands (past ++ e ∷ []) entries

@@ -3,7 +3,7 @@ ghost use Rattle.std.specs.Prelude.{◌≡◌, ◌<◌, ◌≤◌, ◌^◌, vec_
 ghost use Rattle.name_locks.specs.Locks.{below};
 ghost use Rattle.event_core.specs.Bounds.{most_events};
 ghost use Rattle.event_core.specs.Causes.{cause_now};
-ghost use Rattle.event_core.specs.Enabled.{Enabled};
+ghost use Rattle.event_core.specs.Enabled.{Enabled, IsRun};
 ghost use Rattle.event_core.specs.Fitting.{IsFit};
 ghost use Rattle.event_core.specs.Going.{NeverLocked, NeverWaits};
 ghost use Rattle.event_core.specs.Outlines.{outline_of};
@@ -123,6 +123,15 @@ impl Core {
     pub fn never_stuck(&self)
         ensures lock { NeverLocked self.now.0 (now_of self.now.0 self.now.1) }
         ensures wait { NeverWaits self.now.0 (now_of self.now.0 self.now.1) }
+    {
+        let _events = self.history.len();
+    }
+
+    /// A law: the events of a core are a run, in which each could follow those before it, and there are no more of them than its plan
+    /// reserves. Does nothing. Own.
+    pub fn runs_within_bound(&self)
+        ensures run { IsRun self.now.0 [] self.now.1 }
+        ensures bound { length self.now.1 ≤ self.now.0.events }
     {
         let _events = self.history.len();
     }

@@ -1,5 +1,5 @@
 // A walk of 20 events. What is answered to the events of a build worked out by hand, and at all moments of generated ones, is rows of
-// `event_runs`.
+// `bench_events`.
 use crate::{Core, ModuleOutline, NotEnabled, Outline};
 use build_core::{Ending, Event, State};
 use mvn_shared::{List, Mem};

@@ -3,22 +3,29 @@ use goal_types::{GoalAnswer, answer_bytes, read_answer};
 use mvn_shared::{Bytes, Mem, Text};
 use std::alloc::Global;
 
-// The answer that a row names.
-fn answer(alloc: Global, kind: &[u8], bytes: &[u8]) -> Mem<GoalAnswer> {
-    if kind == b"produced".as_slice() {
-        return Ok(GoalAnswer::Produced(Bytes::from_slice(alloc, bytes)?));
-    }
-    match Text::from_slice(alloc, bytes) {
-        Ok(text) => Ok(GoalAnswer::Failed(text)),
-        Err(_) => Ok(GoalAnswer::Done),
+// The bytes of an answer that has produced these bytes.
+fn produced(alloc: Global, bytes: &[u8]) -> Mem<Bytes> {
+    let bytes = Bytes::from_slice(alloc, bytes)?;
+    answer_bytes(alloc, &GoalAnswer::Produced(bytes))
+}
+
+// The bytes of an answer that has failed with this text.
+fn failed(alloc: Global, text: &[u8]) -> Mem<Bytes> {
+    match Text::from_slice(alloc, text) {
+        Ok(text) => answer_bytes(alloc, &GoalAnswer::Failed(text)),
+        Err(_) => Bytes::from_slice(alloc, b"no text"),
     }
 }
 
 /// The bytes of an answer.
 pub(crate) fn written(alloc: Global, fields: &[Bytes]) -> Mem<Bytes> {
     match fields {
-        [kind, bytes] => answer_bytes(alloc, &answer(alloc, kind.as_slice(), bytes.as_slice())?),
-        _ => answer_bytes(alloc, &GoalAnswer::Done),
+        [kind] if kind.as_slice() == b"done".as_slice() => answer_bytes(alloc, &GoalAnswer::Done),
+        [kind, bytes] if kind.as_slice() == b"produced".as_slice() => {
+            produced(alloc, bytes.as_slice())
+        }
+        [kind, text] if kind.as_slice() == b"failed".as_slice() => failed(alloc, text.as_slice()),
+        _ => Bytes::from_slice(alloc, b"no such row"),
     }
 }
 

@@ -29,7 +29,8 @@ fn told(alloc: Global, kind: &str, rest: &str) -> Mem<Bytes> {
         "line" => table::line(alloc, fields.as_slice()),
         "written" => answers::written(alloc, fields.as_slice()),
         "spaced" => answers::spaced(alloc, rest),
-        _ => answers::read(alloc, fields.as_slice()),
+        "read" => answers::read(alloc, fields.as_slice()),
+        _ => Bytes::from_slice(alloc, b"no such row"),
     }
 }
 

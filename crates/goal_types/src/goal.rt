@@ -5,7 +5,7 @@ use mvn_base::{FileName, Gav, Phase, Setting};
 use mvn_shared::{Bytes, List, Text};
 
 /// What a goal's output is kept as.
-#[derive(Clone, Copy, Debug, PartialEq, Eq, PartialOrd, Ord, Hash)]
+#[derive(Clone, Copy, Debug, PartialEq, Eq)]
 pub enum Slot {
     /// Among the answers alone.
     Nowhere,
@@ -19,7 +19,7 @@ pub enum Slot {
 }
 
 /// Which classpath a goal is given.
-#[derive(Clone, Copy, Debug, PartialEq, Eq, PartialOrd, Ord, Hash)]
+#[derive(Clone, Copy, Debug, PartialEq, Eq)]
 pub enum Need {
     Nothing,
     Compile,
@@ -28,7 +28,7 @@ pub enum Need {
 }
 
 /// One goal of a module's plan.
-#[derive(Clone, Debug, Drop)]
+#[derive(Clone, Drop)]
 pub struct GoalCall {
     /// The plugin's group.
     pub group: Text,
@@ -46,28 +46,28 @@ pub struct GoalCall {
 }
 
 /// A kept output of the module itself.
-#[derive(Clone, Debug, Drop, PartialEq, Eq)]
+#[derive(Drop)]
 pub struct OwnBytes {
     pub slot: Slot,
     pub bytes: Bytes,
 }
 
 /// An entry of a classpath, with its bytes where there are any.
-#[derive(Clone, Debug, Drop, PartialEq, Eq)]
+#[derive(Drop)]
 pub struct PathEntry {
     pub name: FileName,
     pub bytes: Option<Bytes>,
 }
 
 /// A file with its bytes, its path relative to the project's root.
-#[derive(Clone, Debug, Drop, PartialEq, Eq)]
+#[derive(Clone, Drop)]
 pub struct SourceFile {
     pub path: Text,
     pub bytes: Bytes,
 }
 
 /// What a goal is asked.
-#[derive(Debug, Drop)]
+#[derive(Drop)]
 pub struct GoalRequest {
     pub module: Gav,
     pub call: GoalCall,
@@ -79,7 +79,7 @@ pub struct GoalRequest {
 }
 
 /// What a goal answers.
-#[derive(Clone, Debug, Drop, PartialEq, Eq)]
+#[derive(Clone, Debug, Drop)]
 pub enum GoalAnswer {
     Done,
     Produced(Bytes),

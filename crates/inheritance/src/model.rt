@@ -9,19 +9,24 @@ use std::alloc::Global;
 
 // The child's coordinates with what it takes over.
 #[tactic(auto, unfolding(crate::specs::Inherit::inherit_coordinates))]
-fn inherit_coordinates(child: &Coordinates, parent: &Coordinates) -> Mem<Coordinates>
+fn inherit_coordinates(
+    alloc: Global,
+    child: &Coordinates,
+    parent: &Coordinates,
+) -> Mem<Shared<Coordinates>>
     ensures { IfOk result (λ both. both ≡ inherit_coordinates child.now parent.now) }
 {
     let group = stated(&child.group, &parent.group)?;
     let artifact = child.artifact.clone()?;
     let version = stated(&child.version, &parent.version)?;
     let packaging = child.packaging.clone()?;
-    Ok(Coordinates {
+    let both = Coordinates {
         group,
         artifact,
         version,
         packaging,
-    })
+    };
+    Shared::new(alloc, both)
 }
 
 // The child's modules, and the lists that are joined by their keys.
@@ -51,36 +56,38 @@ fn inherit_base(alloc: Global, child: &ModelBase, parent: &ModelBase) -> Mem<Mod
 
 // Where the child's build puts what it makes.
 #[tactic(auto, unfolding(crate::specs::Inherit::inherit_outputs))]
-fn inherit_outputs(child: &Outputs, parent: &Outputs) -> Mem<Outputs>
+fn inherit_outputs(alloc: Global, child: &Outputs, parent: &Outputs) -> Mem<Shared<Outputs>>
     ensures { IfOk result (λ both. both ≡ inherit_outputs child.now parent.now) }
 {
     let directory = stated(&child.directory, &parent.directory)?;
     let output = stated(&child.output, &parent.output)?;
     let test_output = stated(&child.test_output, &parent.test_output)?;
     let final_name = stated(&child.final_name, &parent.final_name)?;
-    Ok(Outputs {
+    let both = Outputs {
         directory,
         output,
         test_output,
         final_name,
-    })
+    };
+    Shared::new(alloc, both)
 }
 
 // Where the child's build finds what it reads.
 #[tactic(auto, unfolding(crate::specs::Inherit::inherit_sources))]
-fn inherit_sources(child: &Sources, parent: &Sources) -> Mem<Sources>
+fn inherit_sources(alloc: Global, child: &Sources, parent: &Sources) -> Mem<Shared<Sources>>
     ensures { IfOk result (λ both. both ≡ inherit_sources child.now parent.now) }
 {
     let source = stated(&child.source, &parent.source)?;
     let test_source = stated(&child.test_source, &parent.test_source)?;
     let resources = stated_list(&child.resources, &parent.resources)?;
     let test_resources = stated_list(&child.test_resources, &parent.test_resources)?;
-    Ok(Sources {
+    let both = Sources {
         source,
         test_source,
         resources,
         test_resources,
-    })
+    };
+    Shared::new(alloc, both)
 }
 
 // The child's plugins with what it takes over.
@@ -105,8 +112,8 @@ fn inherit_build_base(alloc: Global, child: &BuildBase, parent: &BuildBase) -> M
 fn inherit_build(alloc: Global, child: &Build, parent: &Build) -> Mem<Build>
     ensures { IfOk result (λ both. both ≡ inherit_build child.now parent.now) }
 {
-    let outputs = Shared::new(alloc, inherit_outputs(&child.outputs, &parent.outputs)?)?;
-    let sources = Shared::new(alloc, inherit_sources(&child.sources, &parent.sources)?)?;
+    let outputs = inherit_outputs(alloc, &child.outputs, &parent.outputs)?;
+    let sources = inherit_sources(alloc, &child.sources, &parent.sources)?;
     let base = Shared::new(alloc, inherit_build_base(alloc, &child.base, &parent.base)?)?;
     let extensions = with_others(
         alloc,
@@ -133,10 +140,7 @@ fn same_parent(parent: &Option<Shared<Parent>>) -> Mem<Option<Shared<Parent>>>
 pub fn inherit(alloc: Global, child: &RawModel, parent: &RawModel) -> Mem<RawModel>
     ensures { IfOk result (λ model. model ≡ inherit child.now parent.now) }
 {
-    let coordinates = Shared::new(
-        alloc,
-        inherit_coordinates(&child.coordinates, &parent.coordinates)?,
-    )?;
+    let coordinates = inherit_coordinates(alloc, &child.coordinates, &parent.coordinates)?;
     let base = Shared::new(alloc, inherit_base(alloc, &child.base, &parent.base)?)?;
     let build = Shared::new(alloc, inherit_build(alloc, &child.build, &parent.build)?)?;
     let pom = child.pom.share()?;

@@ -25,36 +25,38 @@ fn folder(alloc: Global, text: &str) -> Mem<List<Text>>
 
 // Where a build puts what it makes unless a POM says otherwise.
 #[tactic(auto, unfolding(crate::specs::SuperPom::super_outputs))]
-fn super_outputs(alloc: Global) -> Mem<Outputs>
+fn super_outputs(alloc: Global) -> Mem<Shared<Outputs>>
     ensures { IfOk result (λ outputs. outputs ≡ super_outputs) }
 {
     let directory = stated(alloc, "${project.basedir}/target")?;
     let output = stated(alloc, "${project.build.directory}/classes")?;
     let test_output = stated(alloc, "${project.build.directory}/test-classes")?;
     let final_name = stated(alloc, "${project.artifactId}-${project.version}")?;
-    Ok(Outputs {
+    let outputs = Outputs {
         directory,
         output,
         test_output,
         final_name,
-    })
+    };
+    Shared::new(alloc, outputs)
 }
 
 // Where a build finds what it reads unless a POM says otherwise.
 #[tactic(auto, unfolding(crate::specs::SuperPom::super_sources))]
-fn super_sources(alloc: Global) -> Mem<Sources>
+fn super_sources(alloc: Global) -> Mem<Shared<Sources>>
     ensures { IfOk result (λ sources. sources ≡ super_sources) }
 {
     let source = stated(alloc, "${project.basedir}/src/main/java")?;
     let test_source = stated(alloc, "${project.basedir}/src/test/java")?;
     let resources = folder(alloc, "${project.basedir}/src/main/resources")?;
     let test_resources = folder(alloc, "${project.basedir}/src/test/resources")?;
-    Ok(Sources {
+    let sources = Sources {
         source,
         test_source,
         resources,
         test_resources,
-    })
+    };
+    Shared::new(alloc, sources)
 }
 
 // Where files lie unless a POM says otherwise; no plugins.
@@ -62,8 +64,8 @@ fn super_sources(alloc: Global) -> Mem<Sources>
 fn super_build(alloc: Global) -> Mem<Build>
     ensures { IfOk result (λ build. build ≡ super_build) }
 {
-    let outputs = Shared::new(alloc, super_outputs(alloc)?)?;
-    let sources = Shared::new(alloc, super_sources(alloc)?)?;
+    let outputs = super_outputs(alloc)?;
+    let sources = super_sources(alloc)?;
     let base = BuildBase {
         plugins: List::new(alloc),
         managed_plugins: List::new(alloc),

@@ -42,6 +42,7 @@ exit_gives whole known new fault handed r is same fails = subst (λ r. Gives kno
 
 -- a property's value is filled
 pub property_done : (known : List Pair) (p : Pair) (name value : List ℕ) → name ≡ p.name → text_of known name p.value ≡ Ok value → fill_property known p ≡ Ok (record { name = name; value = value })
+unfolding fill_property
 property_done known p name value named has =
     chain _ (ap (λ n. text_of known n p.value) (sym named) ∙ has) refl ∙ (λ i. Ok (record { name = sym named i; value = value }))
 

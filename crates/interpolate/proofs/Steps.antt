@@ -76,14 +76,17 @@ module _ (known : List Pair) (seen : List (List ℕ)) where
 
   -- the table knows the name: its value is there, it is on the way, or nothing can be met
   pub known_value : (filler : Filler) (name t : List ℕ) → IsTable known seen filler → begun_in filler name ≡ Some (Some t) → IsWay known seen name → value known seen name ≡ Ok t
+  unfolding IsTable
   known_value filler name t table has way =
       let fits : Fits known seen name (Some (Some t)) (fresh_in filler name) = subst (λ b. Fits known seen name b (fresh_in filler name)) has (table name) in
       hit known fits.0 seen name t fits.1 way
 
   pub known_cycle : (filler : Filler) (name : List ℕ) → IsTable known seen filler → begun_in filler name ≡ Some None → value known seen name ≡ again name
+  unfolding IsTable
   known_cycle filler name table has = met_again known seen name (subst (λ b. Fits known seen name b (fresh_in filler name)) has (table name))
 
   pub not_begun : (filler : Filler) (name : List ℕ) → IsTable known seen filler → begun_in filler name ≡ None → Fits known seen name None (fresh_in filler name)
+  unfolding IsTable
   not_begun filler name table has = subst (λ b. Fits known seen name b (fresh_in filler name)) has (table name)
 
   pub known_unknown : (filler : Filler) (name : List ℕ) → IsTable known seen filler → begun_in filler name ≡ None → fresh_in filler name ≡ None → value known seen name ≡ Ok (spelled (Name name))
@@ -99,6 +102,7 @@ module _ (known : List Pair) (seen : List (List ℕ)) where
   -- a name is begun in the table
   pub table_begun : (old new : Filler) (name : List ℕ) → IsTable known seen old → begun_in old name ≡ None
       → ((q : List ℕ) → begun_in new q ≡ (if bytes_eq name q then Some None else begun_in old q)) → ((q : List ℕ) → fresh_in new q ≡ (if bytes_eq name q then None else fresh_in old q)) → IsTable known (name ∷ seen) new
+  unfolding IsTable
   table_begun old new name table none begins opens q = by (bytes_eq name q) refl
     where
       others : bytes_eq name q ≡ false → (b : Option (Option (List ℕ))) → Fits known seen q b (fresh_in old q) → Fits known (name ∷ seen) q b (fresh_in old q)
@@ -115,6 +119,7 @@ module _ (known : List Pair) (seen : List (List ℕ)) where
   -- a name is finished in the table
   pub table_ended : (old new : Filler) (name t : List ℕ) → IsTable known (name ∷ seen) old → value known seen name ≡ Ok t
       → ((q : List ℕ) → begun_in new q ≡ (if bytes_eq name q then Some (Some t) else begun_in old q)) → ((q : List ℕ) → fresh_in new q ≡ fresh_in old q) → IsTable known seen new
+  unfolding IsTable
   table_ended old new name t table has begins opens q = by (bytes_eq name q) refl
     where
       others : bytes_eq name q ≡ false → (b : Option (Option (List ℕ))) → Fits known (name ∷ seen) q b (fresh_in old q) → Fits known seen q b (fresh_in old q)

@@ -66,30 +66,30 @@ with_groups raw coordinates base build = record { pom = raw.pom; parent = raw.pa
 
 module _ (known : List Pair) where
   -- the text of an element of this name
-  abbrev pub text_of : List ℕ → List ℕ → Filled (List ℕ)
+  unfoldable pub text_of : List ℕ → List ℕ → Filled (List ℕ)
   text_of element text = filled element (value known []) text
 
   -- and of one that says which artifact is meant, or its version or scope
-  abbrev pub name_of : List ℕ → List ℕ → Filled (List ℕ)
+  unfoldable pub name_of : List ℕ → List ℕ → Filled (List ℕ)
   name_of element text = text_of element text >>= resolved
 
-  abbrev pub fill_property : Pair → Filled Pair
+  unfoldable pub fill_property : Pair → Filled Pair
   fill_property p = text_of p.name p.value >>= (λ value. Ok (record { name = p.name; value = value }))
 
-  abbrev pub fill_exclusion : Exclusion → Filled Exclusion
+  unfoldable pub fill_exclusion : Exclusion → Filled Exclusion
   fill_exclusion e =
       name_of (codes "groupId") e.group >>= (λ group.
       name_of (codes "artifactId") e.artifact >>= (λ artifact.
       Ok (record { group = group; artifact = artifact })))
 
-  abbrev pub fill_extension : Gav → Filled Gav
+  unfoldable pub fill_extension : Gav → Filled Gav
   fill_extension g =
       name_of (codes "groupId") g.group >>= (λ group.
       name_of (codes "artifactId") g.artifact >>= (λ artifact.
       name_of (codes "version") g.version >>= (λ version.
       Ok (record { group = group; artifact = artifact; version = version }))))
 
-  abbrev pub fill_dependency : Dependency → Filled Dependency
+  unfoldable pub fill_dependency : Dependency → Filled Dependency
   fill_dependency d =
       name_of (codes "groupId") d.group >>= (λ group.
       name_of (codes "artifactId") d.artifact >>= (λ artifact.
@@ -111,7 +111,7 @@ module _ (known : List Pair) where
   abbrev pub fill_setting : Setting → Filled Setting
   fill_setting = fold-Setting (Filled Setting) setting_step
 
-  abbrev pub fill_execution : Execution → Filled Execution
+  unfoldable pub fill_execution : Execution → Filled Execution
   fill_execution e =
       text_of (codes "id") e.id >>= (λ id.
       if_there (text_of (codes "phase")) e.phase >>= (λ phase.
@@ -119,7 +119,7 @@ module _ (known : List Pair) where
       each fill_setting e.configuration >>= (λ configuration.
       Ok (record { id = id; phase = phase; goals = goals; inherited = e.inherited; configuration = configuration })))))
 
-  abbrev pub fill_plugin : Plugin → Filled Plugin
+  unfoldable pub fill_plugin : Plugin → Filled Plugin
   fill_plugin p =
       name_of (codes "groupId") p.group >>= (λ group.
       name_of (codes "artifactId") p.artifact >>= (λ artifact.
@@ -129,7 +129,7 @@ module _ (known : List Pair) where
       each fill_setting p.configuration >>= (λ configuration.
       Ok (record { group = group; artifact = artifact; version = version; inherited = p.inherited; dependencies = dependencies; executions = executions; configuration = configuration })))))))
 
-  abbrev pub fill_coordinates : Coordinates → Filled Coordinates
+  unfoldable pub fill_coordinates : Coordinates → Filled Coordinates
   fill_coordinates c =
       if_there (name_of (codes "groupId")) c.group >>= (λ group.
       name_of (codes "artifactId") c.artifact >>= (λ artifact.
@@ -137,7 +137,7 @@ module _ (known : List Pair) where
       text_of (codes "packaging") c.packaging >>= (λ packaging.
       Ok (record { group = group; artifact = artifact; version = version; packaging = packaging })))))
 
-  abbrev pub fill_outputs : Outputs → Filled Outputs
+  unfoldable pub fill_outputs : Outputs → Filled Outputs
   fill_outputs o =
       if_there (text_of (codes "directory")) o.directory >>= (λ directory.
       if_there (text_of (codes "outputDirectory")) o.output >>= (λ output.
@@ -145,7 +145,7 @@ module _ (known : List Pair) where
       if_there (text_of (codes "finalName")) o.final_name >>= (λ final_name.
       Ok (record { directory = directory; output = output; test_output = test_output; final_name = final_name })))))
 
-  abbrev pub fill_sources : Sources → Filled Sources
+  unfoldable pub fill_sources : Sources → Filled Sources
   fill_sources s =
       if_there (text_of (codes "sourceDirectory")) s.source >>= (λ source.
       if_there (text_of (codes "testSourceDirectory")) s.test_source >>= (λ test_source.
@@ -154,27 +154,27 @@ module _ (known : List Pair) where
       Ok (record { source = source; test_source = test_source; resources = resources; test_resources = test_resources })))))
 
   -- what is managed, and the dependencies; the properties are filled before
-  abbrev pub fill_base : ModelBase → List Pair → Filled ModelBase
+  unfoldable pub fill_base : ModelBase → List Pair → Filled ModelBase
   fill_base b properties =
       each fill_dependency b.managed >>= (λ managed.
       each fill_dependency b.dependencies >>= (λ dependencies.
       Ok (with_items b properties managed dependencies)))
 
-  abbrev pub fill_build_base : BuildBase → Filled BuildBase
+  unfoldable pub fill_build_base : BuildBase → Filled BuildBase
   fill_build_base b =
       each fill_plugin b.managed_plugins >>= (λ managed_plugins.
       each fill_plugin b.plugins >>= (λ plugins.
       Ok (record { plugins = plugins; managed_plugins = managed_plugins })))
 
   -- the plugins and the extensions; the folders and the final name are filled before
-  abbrev pub fill_build : Build → Outputs → Sources → Filled Build
+  unfoldable pub fill_build : Build → Outputs → Sources → Filled Build
   fill_build b outputs sources =
       fill_build_base b.base >>= (λ base.
       each fill_extension b.extensions >>= (λ extensions.
       Ok (record { outputs = outputs; sources = sources; base = base; extensions = extensions })))
 
   -- a model of this base and build
-  abbrev pub fill_groups : RawModel → ModelBase → Build → Filled RawModel
+  unfoldable pub fill_groups : RawModel → ModelBase → Build → Filled RawModel
   fill_groups raw base build =
       each fill_property base.properties >>= (λ properties.
       fill_coordinates raw.coordinates >>= (λ coordinates.

@@ -4,6 +4,8 @@ use Rattle.mvn_base.specs.declared.gav.Gav.{Gav}
 use Rattle.mvn_base.specs.declared.machine.Machine.{Machine}
 use Rattle.mvn_base.specs.declared.machine.Pair.{Pair}
 use Rattle.model_types.specs.declared.build.Build.{Build}
+use Rattle.model_types.specs.declared.build.Outputs.{Outputs}
+use Rattle.model_types.specs.declared.build.Sources.{Sources}
 use Rattle.model_types.specs.declared.model.Parent.{Parent}
 use Rattle.model_types.specs.declared.model.RawModel.{RawModel}
 
@@ -30,14 +32,18 @@ abbrev pub parent_fields : Option Parent → List Pair
 parent_fields None = []
 parent_fields (Some parent) = coordinate_fields parent.gav
 
+abbrev pub output_fields : Outputs → List Pair
+output_fields outputs =
+    field (codes "build.directory") outputs.directory
+    ++ field (codes "build.outputDirectory") outputs.output
+    ++ field (codes "build.testOutputDirectory") outputs.test_output
+    ++ field (codes "build.finalName") outputs.final_name
+
+abbrev pub source_fields : Sources → List Pair
+source_fields sources = field (codes "build.sourceDirectory") sources.source ++ field (codes "build.testSourceDirectory") sources.test_source
+
 abbrev pub build_fields : Build → List Pair
-build_fields build =
-    field (codes "build.directory") build.outputs.directory
-    ++ field (codes "build.outputDirectory") build.outputs.output
-    ++ field (codes "build.testOutputDirectory") build.outputs.test_output
-    ++ field (codes "build.finalName") build.outputs.final_name
-    ++ field (codes "build.sourceDirectory") build.sources.source
-    ++ field (codes "build.testSourceDirectory") build.sources.test_source
+build_fields build = output_fields build.outputs ++ source_fields build.sources
 
 -- the fields of a model
 abbrev pub fields : RawModel → Option (List ℕ) → List Pair

@@ -120,7 +120,7 @@ module _ (known : List Pair) where
   Fits seen name (Some None) text_of = is_on name seen ≡ true
   Fits seen name None text_of = (text_of ≡ last_named known name) × (is_on name seen ≡ false)
 
-  abbrev pub IsTable : List (List ℕ) → Filler → Type 0
+  unfoldable pub IsTable : List (List ℕ) → Filler → Type 0
   IsTable seen filler = (name : List ℕ) → Fits seen name (begun_in filler name) (fresh_in filler name)
 
   -- the names that wait for another's value, the innermost first; the last one is the whole's

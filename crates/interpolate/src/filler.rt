@@ -148,6 +148,7 @@ fn add(fresh: &mut HashMap<Text, Text>, pair: Pair) -> Mem<()>
 
 impl Filler {
     /// All that can be named, of equal names the last one, and nothing begun. Costs the names, on the average.
+    #[tactic(auto, unfolding(crate::specs::Tables::IsTable))]
     pub(crate) fn of(alloc: Global, pairs: List<Pair>) -> Mem<Filler>
         ensures { IfOk result (IsTable pairs []) }
     {
@@ -181,6 +182,7 @@ impl Filler {
     }
 
     // A name that is begun, where it can be named.
+    #[tactic(auto, unfolding(crate::specs::Tables::IsTable))]
     fn begin(&mut self, alloc: Global, name: &Text) -> Result<Asked, FillFault>
         ensures says { (known : Items pairs.Pair) (seen : Items (Items ℕ)) → IsTable known seen self.old → begun_in self.old name.now ≡ None → IsWay known seen name.now → Asks known seen name.now self.new result }
         ensures count { AskCounts (fresh_count self.old) (fresh_count self.new) result }
@@ -345,6 +347,7 @@ impl Filler {
     }
 
     /// A text with values in the place of its expressions. Costs what it comes to, and the texts that haven't been asked for before.
+    #[tactic(auto, unfolding(crate::specs::Filling::text_of))]
     pub(crate) fn text(
         &mut self,
         alloc: Global,
@@ -365,6 +368,7 @@ impl Filler {
     }
 
     /// A text in which no expression may be left.
+    #[tactic(auto, unfolding(crate::specs::Filling::name_of))]
     pub(crate) fn name(
         &mut self,
         alloc: Global,

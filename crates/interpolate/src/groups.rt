@@ -14,6 +14,7 @@ use std::alloc::Global;
 impl Fill for Coordinates {
     ghost filled = { fill_coordinates };
 
+    #[tactic(auto, unfolding(crate::specs::Filling::fill_coordinates))]
     fn fill(&self, alloc: Global, filler: &mut Filler) -> Result<Coordinates, FillFault> {
         let group = name_if(alloc, filler, "groupId", &self.group)?;
         let artifact = filler.name(alloc, "artifactId", &self.artifact)?;
@@ -31,6 +32,7 @@ impl Fill for Coordinates {
 impl Fill for Outputs {
     ghost filled = { fill_outputs };
 
+    #[tactic(auto, unfolding(crate::specs::Filling::fill_outputs))]
     fn fill(&self, alloc: Global, filler: &mut Filler) -> Result<Outputs, FillFault> {
         let directory = text_if(alloc, filler, "directory", &self.directory)?;
         let output = text_if(alloc, filler, "outputDirectory", &self.output)?;
@@ -48,6 +50,7 @@ impl Fill for Outputs {
 impl Fill for Sources {
     ghost filled = { fill_sources };
 
+    #[tactic(auto, unfolding(crate::specs::Filling::fill_sources))]
     fn fill(&self, alloc: Global, filler: &mut Filler) -> Result<Sources, FillFault> {
         let source = text_if(alloc, filler, "sourceDirectory", &self.source)?;
         let test_source = text_if(alloc, filler, "testSourceDirectory", &self.test_source)?;
@@ -65,6 +68,7 @@ impl Fill for Sources {
 impl Fill for BuildBase {
     ghost filled = { fill_build_base };
 
+    #[tactic(auto, unfolding(crate::specs::Filling::fill_build_base))]
     fn fill(&self, alloc: Global, filler: &mut Filler) -> Result<BuildBase, FillFault> {
         let managed_plugins = fill_each(alloc, filler, &self.managed_plugins)?;
         let plugins = fill_each(alloc, filler, &self.plugins)?;
@@ -97,6 +101,7 @@ fn with_items(
 
 /// What is managed and the dependencies with their texts filled, beside properties that are filled already. Costs what
 /// these come to.
+#[tactic(auto, unfolding(crate::specs::Filling::fill_base))]
 pub(crate) fn fill_base(
     alloc: Global,
     filler: &mut Filler,
@@ -114,6 +119,7 @@ pub(crate) fn fill_base(
 
 /// The plugins and extensions with their texts filled, beside folders and a final name that are filled already. Costs what
 /// these come to.
+#[tactic(auto, unfolding(crate::specs::Filling::fill_build))]
 pub(crate) fn fill_build(
     alloc: Global,
     filler: &mut Filler,

@@ -118,6 +118,7 @@ impl<T: Fill> Fill for Shared<T> {
 impl Fill for Pair {
     ghost filled = { fill_property };
 
+    #[tactic(auto, unfolding(crate::specs::Filling::fill_property))]
     fn fill(&self, alloc: Global, filler: &mut Filler) -> Result<Pair, FillFault> {
         let name = self.name.clone()?;
         match filler.text(alloc, name.as_str(), &self.value) {
@@ -130,6 +131,7 @@ impl Fill for Pair {
 impl Fill for Exclusion {
     ghost filled = { fill_exclusion };
 
+    #[tactic(auto, unfolding(crate::specs::Filling::fill_exclusion))]
     fn fill(&self, alloc: Global, filler: &mut Filler) -> Result<Exclusion, FillFault> {
         let group = filler.name(alloc, "groupId", &self.group)?;
         let artifact = filler.name(alloc, "artifactId", &self.artifact)?;
@@ -140,6 +142,7 @@ impl Fill for Exclusion {
 impl Fill for Gav {
     ghost filled = { fill_extension };
 
+    #[tactic(auto, unfolding(crate::specs::Filling::fill_extension))]
     fn fill(&self, alloc: Global, filler: &mut Filler) -> Result<Gav, FillFault> {
         let group = filler.name(alloc, "groupId", &self.group)?;
         let artifact = filler.name(alloc, "artifactId", &self.artifact)?;
@@ -155,6 +158,7 @@ impl Fill for Gav {
 impl Fill for Dependency {
     ghost filled = { fill_dependency };
 
+    #[tactic(auto, unfolding(crate::specs::Filling::fill_dependency))]
     fn fill(&self, alloc: Global, filler: &mut Filler) -> Result<Dependency, FillFault> {
         let group = filler.name(alloc, "groupId", &self.group)?;
         let artifact = filler.name(alloc, "artifactId", &self.artifact)?;
@@ -180,6 +184,7 @@ impl Fill for Dependency {
 impl Fill for Execution {
     ghost filled = { fill_execution };
 
+    #[tactic(auto, unfolding(crate::specs::Filling::fill_execution))]
     fn fill(&self, alloc: Global, filler: &mut Filler) -> Result<Execution, FillFault> {
         let id = filler.text(alloc, "id", &self.id)?;
         let phase = text_if(alloc, filler, "phase", &self.phase)?;
@@ -198,6 +203,7 @@ impl Fill for Execution {
 impl Fill for Plugin {
     ghost filled = { fill_plugin };
 
+    #[tactic(auto, unfolding(crate::specs::Filling::fill_plugin))]
     fn fill(&self, alloc: Global, filler: &mut Filler) -> Result<Plugin, FillFault> {
         let group = filler.name(alloc, "groupId", &self.group)?;
         let artifact = filler.name(alloc, "artifactId", &self.artifact)?;

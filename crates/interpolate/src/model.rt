@@ -40,6 +40,7 @@ fn with_groups(
 }
 
 // A model of this base and build, with its texts filled.
+#[tactic(auto, unfolding(crate::specs::Filling::fill_groups))]
 fn fill_groups(
     alloc: Global,
     filler: &mut Filler,

@@ -1,8 +1,8 @@
 ghost use Rattle.std.specs.Prelude.{◌≡◌, ◌++◌, OnOk, IfOk};
 ghost use Rattle.std.specs.Option.{option_copied};
-ghost use Rattle.interpolate.specs.Named.{behind, build_fields, coordinate_fields, field, fields, named, own_fields, parent_fields};
+ghost use Rattle.interpolate.specs.Named.{behind, build_fields, coordinate_fields, field, fields, named, output_fields, own_fields, parent_fields, source_fields};
 
-use model_types::{Build, Parent, RawModel};
+use model_types::{Build, Outputs, Parent, RawModel, Sources};
 use mvn_base::{Gav, Machine, Pair};
 use mvn_shared::{List, Mem, Shared, Text};
 use std::alloc::Global;
@@ -48,46 +48,50 @@ fn push_parent(alloc: Global, list: &mut List<Pair>, parent: &Option<Shared<Pare
     }
 }
 
-// The folders and the name of a build, behind a list.
-fn push_build(alloc: Global, list: &mut List<Pair>, build: &Build) -> Mem<()>
-    ensures { OnOk result (list.new ≡ list.old ++ build_fields build.now) }
+// The folders that a build fills, and its name, behind a list.
+fn push_outputs(alloc: Global, list: &mut List<Pair>, outputs: &Outputs) -> Mem<()>
+    ensures { OnOk result (list.new ≡ list.old ++ output_fields outputs.now) }
 {
-    push_field(
-        alloc,
-        list,
-        "build.directory",
-        build.outputs.directory.as_ref(),
-    )?;
+    push_field(alloc, list, "build.directory", outputs.directory.as_ref())?;
     push_field(
         alloc,
         list,
         "build.outputDirectory",
-        build.outputs.output.as_ref(),
+        outputs.output.as_ref(),
     )?;
     push_field(
         alloc,
         list,
         "build.testOutputDirectory",
-        build.outputs.test_output.as_ref(),
+        outputs.test_output.as_ref(),
     )?;
-    push_field(
-        alloc,
-        list,
-        "build.finalName",
-        build.outputs.final_name.as_ref(),
-    )?;
+    push_field(alloc, list, "build.finalName", outputs.final_name.as_ref())
+}
+
+// The folders that a build reads, behind a list.
+fn push_sources(alloc: Global, list: &mut List<Pair>, sources: &Sources) -> Mem<()>
+    ensures { OnOk result (list.new ≡ list.old ++ source_fields sources.now) }
+{
     push_field(
         alloc,
         list,
         "build.sourceDirectory",
-        build.sources.source.as_ref(),
+        sources.source.as_ref(),
     )?;
     push_field(
         alloc,
         list,
         "build.testSourceDirectory",
-        build.sources.test_source.as_ref(),
+        sources.test_source.as_ref(),
     )
+}
+
+// The folders and the name of a build, behind a list.
+fn push_build(alloc: Global, list: &mut List<Pair>, build: &Build) -> Mem<()>
+    ensures { OnOk result (list.new ≡ list.old ++ build_fields build.now) }
+{
+    push_outputs(alloc, list, &build.outputs)?;
+    push_sources(alloc, list, &build.sources)
 }
 
 // The fields of a model.

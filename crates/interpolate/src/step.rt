@@ -45,6 +45,15 @@ impl Step {
     }
 }
 
+// A text behind another.
+fn joined(done: Text, more: &Text) -> Mem<Text>
+    ensures { IfOk result (λ text. text ≡ done ++ more.now) }
+{
+    let mut text = done.into_string();
+    text.push_str(more.as_str())?;
+    Ok(Text::of(text))
+}
+
 /// A text behind another, where both are no longer than a filled text may be. Costs the second.
 pub(crate) fn longer(alloc: Global, place: &str, done: Text, more: &Text) -> Result<Text, FillFault>
     ensures { Tells (limited place.now (done ++ more.now)) result }
@@ -52,7 +61,6 @@ pub(crate) fn longer(alloc: Global, place: &str, done: Text, more: &Text) -> Res
     if done.len() > LONGEST || more.len() > LONGEST - done.len() {
         return Err(refused(alloc, Rule::TooLarge, place));
     }
-    let mut text = done.into_string();
-    text.push_str(more.as_str())?;
-    Ok(Text::of(text))
+    let text = joined(done, more)?;
+    Ok(text)
 }

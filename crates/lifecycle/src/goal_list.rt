@@ -15,7 +15,7 @@ use mvn_shared::{List, Mem, Shared, Text};
 use std::alloc::Global;
 
 /// The goals that run up to a phase.
-#[derive(Debug, Drop)]
+#[derive(Drop)]
 pub struct GoalList {
     pub calls: List<GoalCall>,
     /// The goals without a phase, each as `artifact:goal execution`.

@@ -42,9 +42,17 @@ module _ {T : Type 0} (key : T → Key) where
     abbrev pub underlaid : List T → T → T
     underlaid parent c = option_map_or (λ p. merge c p) (item_of parent (key c)) c
 
+    -- the parent's items in order, each merged with the child's of its key
+    abbrev pub merged_over : List T → List T → List T
+    merged_over child parent = map (overlaid (settled child)) parent
+
+    -- the child's items in order, each merged with the parent's of its key
+    abbrev pub merged_under : List T → List T → List T
+    merged_under child parent = map (underlaid (settled parent)) child
+
     -- the parent's items in order, each merged with the child's of its key, and then the child's others
     abbrev pub merged_lists : List T → List T → List T
-    merged_lists child parent = map (overlaid (settled child)) (settled parent) ++ others (settled parent) (settled child)
+    merged_lists child parent = merged_over child (settled parent) ++ others (settled parent) (settled child)
 
     -- an item more: merged with the one of its key, in its place, or at the end
     abbrev pub absorb : List T → T → List T

@@ -1,7 +1,7 @@
 ghost use Rattle.std.specs.Prelude.{◌≡◌, ◌++◌, List, map, is_none, IfOk, OnOk};
 ghost use Rattle.std.specs.Option.{option_copied};
 ghost use Rattle.mvn_base.specs.declared.key.Key as keys;
-ghost use Rattle.model_merge.specs.Keyed.{absorb, absorbed, item_of, keyed, merged_lists, others, overlaid, put, settled, underlaid, with_others};
+ghost use Rattle.model_merge.specs.Keyed.{absorb, absorbed, item_of, keyed, merged_lists, merged_over, merged_under, others, overlaid, put, settled, underlaid, with_others};
 
 use crate::keyed::{Item, Mergeable};
 use indexmap::IndexMap;
@@ -172,7 +172,7 @@ pub fn merged_under<T: Mergeable>(
     child: &[Shared<T>],
     parent: &[Shared<T>],
 ) -> Mem<List<Shared<T>>>
-    ensures { IfOk result (λ list. list ≡ map (underlaid T.key_of T.merge (settled T.key_of parent.now)) child.now) }
+    ensures { IfOk result (λ list. list ≡ merged_under T.key_of T.merge child.now parent.now) }
 {
     let parents = index_of(alloc, parent)?;
     let mut list = List::new(alloc);
@@ -225,7 +225,7 @@ pub fn merged_over<T: Mergeable>(
     child: &[Shared<T>],
     parent: List<Shared<T>>,
 ) -> Mem<List<Shared<T>>>
-    ensures { IfOk result (λ list. list ≡ map (overlaid T.key_of T.merge (settled T.key_of child.now)) parent) }
+    ensures { IfOk result (λ list. list ≡ merged_over T.key_of T.merge child.now parent) }
 {
     let children = index_of(alloc, child)?;
     all_overlaid(alloc, &children, parent)

@@ -5,8 +5,10 @@ use crate::poms::{at_path, behind, by_coordinates, named};
 use crate::shown::{push_base, push_build_base};
 use model_types::RawModel;
 use mvn_base::{Choice, ModelError, PomId};
+use mvn_outside::DeviceFault as ActiveFault;
 use mvn_shared::{List, Mem};
-use profile_rules::{ActiveFault, active, inject};
+use profile_activation::active;
+use profile_injection::inject;
 use std::alloc::Global;
 
 const FILES: &str = "app/src/x top";

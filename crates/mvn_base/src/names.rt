@@ -1,6 +1,6 @@
 // Which texts may name a group, an artifact or a version. POM Reference, "Maven Coordinates".
-ghost use Rattle.std.specs.Prelude.{◌≡◌};
-ghost use Rattle.std.specs.List.{list_all, slice_split};
+ghost use Rattle.std.specs.Prelude.{◌≡◌, ◌==◌};
+ghost use Rattle.std.specs.List.{list_all, list_any, slice_split};
 ghost use Rattle.mvn_base.specs.Names.{is_name_byte, is_name, is_group, is_dot, is_filled, is_version_byte, is_version, has_expression};
 
 // One of the bytes of a name: an ASCII letter or digit, `_`, `-` or `.`.
@@ -43,12 +43,19 @@ pub fn valid_group(bytes: &[u8]) -> bool
     valid_name(bytes) && has_no_empty_part(bytes)
 }
 
+// Whether a byte is one of these.
+fn is_among(bytes: &[u8], b: u8) -> bool
+    ensures { result ≡ list_any (λ c. c == b) bytes.now }
+{
+    bytes.contains(&b)
+}
+
 // One of the bytes of a version: above 0x20, and none that a path, a range or an expression uses.
 #[tactic(auto, unfolding(crate::specs::Names::is_version_byte))]
 fn is_version_byte(b: u8) -> bool
     ensures { result ≡ is_version_byte b }
 {
-    b > 0x20 && !b"\\/:\"<>|?*[](),".contains(&b)
+    b > 0x20 && !is_among(b"\\/:\"<>|?*[](),", b)
 }
 
 fn has_version_bytes(text: &[u8]) -> bool

@@ -23,18 +23,30 @@ const HANDS: usize = 16;
 type RealHand<'a> = Hand<RealRemote<'a, HostRuntime>, RealArea<'a, HostRuntime>, Builtin>;
 
 const HELP: &str = "\
-mvn builds a Maven project (POM model 4.0.0).
+mvn builds a Maven project (POM model 4.0.0). It is not Apache Maven.
 
-Usage: mvn WORDS
+Usage: mvn WORD
 
-Words that work today:
-  validate        read pom.xml in the current folder and report its module
-  install         also run the goals of a jar, and put the POM and the jar into
-                  the repository: .m2/repository, or the folder MVN_REPO
+Words:
+  validate        read and check pom.xml in the current folder, and report its module
+  install         also run the goals of a jar, and put the POM and the jar into the
+                  local repository
   -h, --help      print this help
   -v, --version   print the version
 
-Exit status: 0 built, 1 some module isn't built, 2 refused, 3 a device failed, 4 out of memory.
+mvn does not compile: the output of a goal is a SHA-256 digest of its input. Don't
+point MVN_REPO at a repository that Maven uses.
+
+Anything else is answered by `not built yet`. So is a POM that needs more than a group,
+an artifact, a version and the packaging jar.
+
+Environment:
+  MVN_REPO        the local repository (by default .m2/repository in the project)
+  MVN_REMOTE      a folder that stands for a remote repository (by default .m2/remote
+                  in the project); nothing is fetched yet
+
+Exit status: 0 built, 1 a goal failed, 2 refused or not built yet, 3 reading or
+writing failed, 4 out of memory.
 
 Example:
   cd examples/hello && mvn install

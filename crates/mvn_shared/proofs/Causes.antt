@@ -1,6 +1,6 @@
 -- Counts of faults that rise several times.
-use Rattle.std.proofs.Common.{◌≡◌, ℕ, ◌+◌, ◌≤◌, arith}
-use Rattle.mvn_shared.specs.Cause.{HasRisen, RoseBy, last_count}
+use Rattle.std.proofs.Common.{ℕ, ◌+◌, arith}
+use Rattle.mvn_shared.specs.Cause.{HasRisen, RoseBy}
 
 -- a count that rose is one that rose by one
 pub rose_by_one : (before now : ℕ) → HasRisen before now → RoseBy 1 before now

@@ -147,9 +147,9 @@ fn call_hand<T: Tree, R, S: Shelf, G: Gate, O: Sink>(
 /// first hand builds: its area is swept first of all calls to it, and its remote isn't asked. What was published is settled
 /// once, before the report is written. Own rule.
 ///
-/// The POM is read once; the sources are read once, and only where goals run. Each goal's request is made of the sources
-/// that were read, without a copy of them. Costs what reading, the goals and publishing cost, and memory for the sources
-/// twice, for the module's outputs twice, and for the report.
+/// The POM is read once; the sources are read once, and only where goals run. They are copied once, into the request that
+/// all goals share. Costs what reading, the goals and publishing cost, and memory for the sources twice, for the module's
+/// outputs twice, and for the report.
 pub fn mvn<T: Tree, R, S: Shelf, G: Gate, O: Sink>(
     alloc: Global,
     words: &[Bytes],

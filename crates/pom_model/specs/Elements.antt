@@ -1,5 +1,5 @@
 -- How what stands in an element is found. POM Reference; white space round texts is no part of them.
-use Rattle.std.specs.Prelude.{ℕ, ◌-◌, List, [], ◌∷◌, length, take, drop, flat_map, Option, Some, None, option_and_then, slice_get, unwrap_or, if◌then◌else◌}
+use Rattle.std.specs.Prelude.{ℕ, ◌-◌, ◌==◌, List, [], ◌∷◌, length, take, drop, flat_map, Option, Some, None, option_and_then, slice_get, unwrap_or, if◌then◌else◌}
 use Rattle.std.specs.Char.{is_ascii_whitespace}
 use Rattle.std.specs.List.{prefix_len, suffix_len}
 use Rattle.std.specs.Str.{bytes_eq}
@@ -21,7 +21,7 @@ children None = []
 abbrev pub if_named : List ℕ → Node → Option Node
 if_named name node = if bytes_eq node.name name then Some node else None
 
-abbrev pub named : List Node → List ℕ → ℕ → Option Node
+unfoldable pub named : List Node → List ℕ → ℕ → Option Node
 named nodes name k = option_and_then (if_named name) (slice_get nodes k)
 
 abbrev pub listed : {A : Type 0} → Option A → List A
@@ -40,20 +40,19 @@ first [] = None
 first (x ∷ xs) = Some x
 
 -- the first of a name in an element
-abbrev pub child : List Node → List ℕ → Option Node → Option Node
+unfoldable pub child : List Node → List ℕ → Option Node → Option Node
 child nodes name node = first (items nodes name node)
 
 -- a text that is not empty
-abbrev pub filled : List ℕ → Option (List ℕ)
-filled [] = None
-filled (c ∷ text) = Some (c ∷ text)
+abbrev pub non_empty : List ℕ → Option (List ℕ)
+non_empty text = if length text == 0 then None else Some text
 
 abbrev pub own_text : Node → List ℕ
 own_text node = trimmed node.text
 
 -- the text of the first of a name, where it isn't empty
-abbrev pub text_of : List Node → List ℕ → Option Node → Option (List ℕ)
-text_of nodes name node = option_and_then (λ n. filled (own_text n)) (child nodes name node)
+unfoldable pub text_of : List Node → List ℕ → Option Node → Option (List ℕ)
+text_of nodes name node = option_and_then (λ n. non_empty (own_text n)) (child nodes name node)
 
 -- or a default
 abbrev pub text_or : List Node → List ℕ → List ℕ → Option Node → List ℕ

@@ -2,6 +2,7 @@
 use Rattle.std.specs.Prelude.{ℕ, zero, suc, Bool, not, List, [], ◌∷◌, map, flat_map, fold, codes, Option, Some, None, option_map, slice_get, if◌then◌else◌}
 use Rattle.std.specs.Str.{bytes_eq}
 use Rattle.mvn_base.specs.declared.gav.Gav.{Gav}
+use Rattle.mvn_base.specs.declared.key.Key.{Key}
 use Rattle.mvn_base.specs.declared.machine.Pair.{Pair}
 use Rattle.mvn_base.specs.declared.refusal.PomId.{PomId}
 use Rattle.mvn_base.specs.declared.setting.Setting.{Setting}
@@ -65,13 +66,22 @@ configuration nodes node = settings_within 64 nodes (children (child nodes (code
 unfoldable pub exclusion : List Node → Node → Exclusion
 exclusion nodes node = record { group = text_or nodes (codes "groupId") (codes "*") (Some node); artifact = text_or nodes (codes "artifactId") (codes "*") (Some node) }
 
-unfoldable pub dependency : List Node → Node → Dependency
-dependency nodes node = record {
+-- what a dependency is told apart by
+unfoldable pub dependency_key : List Node → Node → Key
+dependency_key nodes node = record {
   group = text_or nodes (codes "groupId") [] (Some node);
   artifact = text_or nodes (codes "artifactId") [] (Some node);
-  version = text_of nodes (codes "version") (Some node);
   kind = text_or nodes (codes "type") (codes "jar") (Some node);
   classifier = text_or nodes (codes "classifier") [] (Some node);
+}
+
+unfoldable pub dependency : List Node → Node → Dependency
+dependency nodes node = record {
+  group = (dependency_key nodes node).group;
+  artifact = (dependency_key nodes node).artifact;
+  version = text_of nodes (codes "version") (Some node);
+  kind = (dependency_key nodes node).kind;
+  classifier = (dependency_key nodes node).classifier;
   scope = text_of nodes (codes "scope") (Some node);
   optional = text_or nodes (codes "optional") [] (Some node);
   exclusions = list_in exclusion nodes (codes "exclusions") (codes "exclusion") (Some node);
@@ -89,10 +99,14 @@ execution nodes node = record {
   configuration = configuration nodes (Some node);
 }
 
+-- what a plugin is told apart by
+unfoldable pub plugin_name : List Node → Node → List ℕ × List ℕ
+plugin_name nodes node = (text_or nodes (codes "groupId") maven_plugins (Some node), text_or nodes (codes "artifactId") [] (Some node))
+
 unfoldable pub plugin : List Node → Node → Plugin
 plugin nodes node = record {
-  group = text_or nodes (codes "groupId") maven_plugins (Some node);
-  artifact = text_or nodes (codes "artifactId") [] (Some node);
+  group = (plugin_name nodes node).0;
+  artifact = (plugin_name nodes node).1;
   version = text_of nodes (codes "version") (Some node);
   inherited = not (text_is nodes (codes "inherited") (codes "false") (Some node));
   dependencies = dependencies nodes (Some node);
@@ -153,7 +167,7 @@ build nodes node = record {
 }
 
 -- when a profile is active by itself; a property without a name is no criterion
-abbrev pub property : List Node → Option Node → Option Property
+unfoldable pub property : List Node → Option Node → Option Property
 property nodes node = option_map (λ name. record { name = name; value = text_of nodes (codes "value") node }) (text_of nodes (codes "name") node)
 
 abbrev pub os : List Node → Node → Os
@@ -164,7 +178,7 @@ os nodes node = record {
   version = text_of nodes (codes "version") (Some node);
 }
 
-abbrev pub file_text : List Node → List ℕ → Node → Option (List ℕ)
+unfoldable pub file_text : List Node → List ℕ → Node → Option (List ℕ)
 file_text nodes name node = text_of nodes name (child nodes (codes "file") (Some node))
 
 unfoldable pub activation : List Node → Node → Activation

@@ -41,64 +41,72 @@ fn directories(
 
 // Where a build puts what it makes.
 #[tactic(auto, unfolding(crate::specs::Fields::outputs))]
-fn outputs(alloc: Global, nodes: &[Node], node: Option<&Node>) -> Mem<Outputs>
+fn outputs(alloc: Global, nodes: &[Node], node: Option<&Node>) -> Mem<Shared<Outputs>>
     ensures { IfOk result (λ value. value ≡ outputs nodes.now (option_copied node.entry)) }
 {
     let directory = text_of(alloc, nodes, node, "directory")?;
     let output = text_of(alloc, nodes, node, "outputDirectory")?;
     let test_output = text_of(alloc, nodes, node, "testOutputDirectory")?;
     let final_name = text_of(alloc, nodes, node, "finalName")?;
-    Ok(Outputs {
+    let outputs = Outputs {
         directory,
         output,
         test_output,
         final_name,
-    })
+    };
+    Shared::new(alloc, outputs)
 }
 
 // Where it finds what it reads.
 #[tactic(auto, unfolding(crate::specs::Fields::sources))]
-fn sources(alloc: Global, nodes: &[Node], node: Option<&Node>) -> Mem<Sources>
+fn sources(alloc: Global, nodes: &[Node], node: Option<&Node>) -> Mem<Shared<Sources>>
     ensures { IfOk result (λ value. value ≡ sources nodes.now (option_copied node.entry)) }
 {
     let source = text_of(alloc, nodes, node, "sourceDirectory")?;
     let test_source = text_of(alloc, nodes, node, "testSourceDirectory")?;
     let resources = directories(alloc, nodes, node, "resources", "resource")?;
     let test_resources = directories(alloc, nodes, node, "testResources", "testResource")?;
-    Ok(Sources {
+    let sources = Sources {
         source,
         test_source,
         resources,
         test_resources,
-    })
+    };
+    Shared::new(alloc, sources)
 }
 
 /// The plugins of a `build`, or of an absent one.
 #[tactic(auto, unfolding(crate::specs::Fields::build_base))]
-pub(crate) fn build_base(alloc: Global, nodes: &[Node], node: Option<&Node>) -> Mem<BuildBase>
+pub(crate) fn build_base(
+    alloc: Global,
+    nodes: &[Node],
+    node: Option<&Node>,
+) -> Mem<Shared<BuildBase>>
     ensures { IfOk result (λ value. value ≡ build_base nodes.now (option_copied node.entry)) }
 {
     let plugins = plugins(alloc, nodes, node)?;
     let managed_plugins = managed_plugins(alloc, nodes, node)?;
-    Ok(BuildBase {
+    let base = BuildBase {
         plugins,
         managed_plugins,
-    })
+    };
+    Shared::new(alloc, base)
 }
 
 /// What a `build` says, or an absent one.
 #[tactic(auto, unfolding(crate::specs::Fields::build))]
-pub(crate) fn build(alloc: Global, nodes: &[Node], node: Option<&Node>) -> Mem<Build>
+pub(crate) fn build(alloc: Global, nodes: &[Node], node: Option<&Node>) -> Mem<Shared<Build>>
     ensures { IfOk result (λ value. value ≡ build nodes.now (option_copied node.entry)) }
 {
-    let outputs = Shared::new(alloc, outputs(alloc, nodes, node)?)?;
-    let sources = Shared::new(alloc, sources(alloc, nodes, node)?)?;
-    let base = Shared::new(alloc, build_base(alloc, nodes, node)?)?;
+    let outputs = outputs(alloc, nodes, node)?;
+    let sources = sources(alloc, nodes, node)?;
+    let base = build_base(alloc, nodes, node)?;
     let extensions = list_in(alloc, nodes, node, "extensions", "extension")?;
-    Ok(Build {
+    let build = Build {
         outputs,
         sources,
         base,
         extensions,
-    })
+    };
+    Shared::new(alloc, build)
 }

@@ -1,9 +1,10 @@
 ghost use Rattle.std.specs.Prelude.{◌≡◌, IfOk};
-ghost use Rattle.pom_model.specs.Fields.{dependency, exclusion};
+ghost use Rattle.pom_model.specs.Fields.{dependency, dependency_key, exclusion};
 
 use crate::element::{text_of, text_or};
 use crate::item::{Item, list_in};
 use model_types::{Dependency, Exclusion};
+use mvn_base::Key;
 use mvn_shared::Mem;
 use pom_text::Node;
 use std::alloc::Global;
@@ -19,19 +20,38 @@ impl Item for Exclusion {
     }
 }
 
+// What a dependency is told apart by.
+#[tactic(auto, unfolding(crate::specs::Fields::dependency_key))]
+fn dependency_key(alloc: Global, nodes: &[Node], node: &Node) -> Mem<Key>
+    ensures { IfOk result (λ key. key ≡ dependency_key nodes.now node.now) }
+{
+    let group = text_or(alloc, nodes, Some(node), "groupId", "")?;
+    let artifact = text_or(alloc, nodes, Some(node), "artifactId", "")?;
+    let kind = text_or(alloc, nodes, Some(node), "type", "jar")?;
+    let classifier = text_or(alloc, nodes, Some(node), "classifier", "")?;
+    Ok(Key {
+        group,
+        artifact,
+        kind,
+        classifier,
+    })
+}
+
 impl Item for Dependency {
     ghost value = { dependency };
 
     #[tactic(auto, unfolding(crate::specs::Fields::dependency))]
     fn read(alloc: Global, nodes: &[Node], node: &Node) -> Mem<Dependency> {
-        let group = text_or(alloc, nodes, Some(node), "groupId", "")?;
-        let artifact = text_or(alloc, nodes, Some(node), "artifactId", "")?;
         let version = text_of(alloc, nodes, Some(node), "version")?;
-        let kind = text_or(alloc, nodes, Some(node), "type", "jar")?;
-        let classifier = text_or(alloc, nodes, Some(node), "classifier", "")?;
         let scope = text_of(alloc, nodes, Some(node), "scope")?;
         let optional = text_or(alloc, nodes, Some(node), "optional", "")?;
         let exclusions = list_in(alloc, nodes, Some(node), "exclusions", "exclusion")?;
+        let Key {
+            group,
+            artifact,
+            kind,
+            classifier,
+        } = dependency_key(alloc, nodes, node)?;
         Ok(Dependency {
             group,
             artifact,

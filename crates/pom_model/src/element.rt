@@ -1,6 +1,7 @@
 ghost use Rattle.std.specs.Prelude.{◌≡◌, option_map, is_some, slice_get, IfOk, Some};
 ghost use Rattle.std.specs.Option.{option_copied};
-ghost use Rattle.pom_model.specs.Elements.{child, named, text_of, text_or, trimmed};
+ghost use Rattle.std.specs.Str.{bytes_eq};
+ghost use Rattle.pom_model.specs.Elements.{child, named, non_empty, text_of, text_or, trimmed};
 ghost use Rattle.pom_model.specs.Fields.{text_is};
 
 use mvn_shared::{Mem, Text};
@@ -14,6 +15,20 @@ fn trimmed(text: &str) -> &str
     text.trim_ascii()
 }
 
+// Whether two texts are the same.
+fn same(text: &str, other: &str) -> bool
+    ensures { result ≡ bytes_eq text.now other.now }
+{
+    text == other
+}
+
+// A text that isn't empty.
+fn non_empty(text: &str) -> Option<&str>
+    ensures { option_map (λ text. text.now) result ≡ non_empty text.now }
+{
+    if text.is_empty() { None } else { Some(text) }
+}
+
 /// The element of a number.
 pub(crate) fn at(nodes: &[Node], k: u32) -> Option<&Node>
     ensures { option_copied result ≡ slice_get nodes.now k }
@@ -22,16 +37,20 @@ pub(crate) fn at(nodes: &[Node], k: u32) -> Option<&Node>
 }
 
 /// The element of a number, where it has this name.
+#[tactic(auto, unfolding(crate::specs::Elements::named))]
 pub(crate) fn named<'a>(nodes: &'a [Node], k: u32, name: &str) -> Option<&'a Node>
     ensures { option_copied result ≡ named nodes.now name.now k }
 {
-    match nodes.get(k as usize) {
-        Some(node) if node.name.as_str() == name => Some(node),
-        _ => None,
+    let node = at(nodes, k)?;
+    if same(node.name.as_str(), name) {
+        Some(node)
+    } else {
+        None
     }
 }
 
 /// The first element of a name in another, or in none. Costs the number of elements in it.
+#[tactic(auto, unfolding(crate::specs::Elements::child))]
 pub(crate) fn child<'a>(nodes: &'a [Node], node: Option<&'a Node>, name: &str) -> Option<&'a Node>
     ensures { option_copied result ≡ child nodes.now name.now (option_copied node.entry) }
 {
@@ -51,11 +70,19 @@ pub(crate) fn own_text(alloc: Global, node: &Node) -> Mem<Text>
 }
 
 // The text of the first element of a name, where it isn't empty.
+#[tactic(auto, unfolding(crate::specs::Elements::text_of))]
 fn filled<'a>(nodes: &'a [Node], node: Option<&'a Node>, name: &str) -> Option<&'a str>
     ensures { option_map (λ text. text.now) result ≡ text_of nodes.now name.now (option_copied node.entry) }
 {
-    let text = trimmed(child(nodes, node, name)?.text.as_str());
-    if text.is_empty() { None } else { Some(text) }
+    let child = child(nodes, node, name)?;
+    non_empty(trimmed(child.text.as_str()))
+}
+
+// Or a default.
+fn filled_or<'a>(nodes: &'a [Node], node: Option<&'a Node>, name: &str, default: &'a str) -> &'a str
+    ensures { result.now ≡ text_or nodes.now name.now default.now (option_copied node.entry) }
+{
+    filled(nodes, node, name).unwrap_or(default)
 }
 
 /// The text of the first element of a name, where it isn't empty. Costs the number of elements, and the text.
@@ -83,7 +110,7 @@ pub(crate) fn text_or(
 ) -> Mem<Text>
     ensures { IfOk result (λ text. text ≡ text_or nodes.now name.now default.now (option_copied node.entry)) }
 {
-    Text::from_str(alloc, filled(nodes, node, name).unwrap_or(default))
+    Text::from_str(alloc, filled_or(nodes, node, name, default))
 }
 
 /// Whether the first element of a name has a text that isn't empty.
@@ -97,5 +124,5 @@ pub(crate) fn is_filled(nodes: &[Node], node: &Node, name: &str) -> bool
 pub(crate) fn text_is(nodes: &[Node], node: Option<&Node>, name: &str, value: &str) -> bool
     ensures { result ≡ text_is nodes.now name.now value.now (option_copied node.entry) }
 {
-    filled(nodes, node, name).unwrap_or("") == value
+    same(filled_or(nodes, node, name, ""), value)
 }

@@ -7,14 +7,14 @@ use mvn_shared::{Mem, Text};
 use std::alloc::Global;
 
 /// What a refusal names: an element, by its path from another, or a text of the POM.
-#[derive(Debug, Drop)]
+#[derive(Drop)]
 pub(crate) enum Spot {
     Path(Text),
     Own(Text),
 }
 
 /// A rule that isn't met, and where.
-#[derive(Debug, Drop)]
+#[derive(Drop)]
 pub(crate) struct Fault {
     pub(crate) rule: Rule,
     pub(crate) spot: Spot,

@@ -1,13 +1,13 @@
 ghost use Rattle.std.specs.Prelude.{◌≡◌, IfOk};
 ghost use Rattle.std.specs.Option.{option_copied};
-ghost use Rattle.pom_model.specs.Fields.{execution, gav, managed_plugins, plugin, plugins};
+ghost use Rattle.pom_model.specs.Fields.{execution, gav, managed_plugins, plugin, plugin_name, plugins};
 
 use crate::element::{child, text_is, text_of, text_or};
 use crate::item::{Item, list_in};
 use crate::setting::configuration;
 use model_types::{Execution, Plugin};
 use mvn_base::{Gav, MAVEN_PLUGINS};
-use mvn_shared::{List, Mem, Shared};
+use mvn_shared::{List, Mem, Shared, Text};
 use pom_text::Node;
 use std::alloc::Global;
 
@@ -47,18 +47,27 @@ impl Item for Execution {
     }
 }
 
+// What a plugin is told apart by.
+#[tactic(auto, unfolding(crate::specs::Fields::plugin_name))]
+fn plugin_name(alloc: Global, nodes: &[Node], node: &Node) -> Mem<(Text, Text)>
+    ensures { IfOk result (λ name. name ≡ plugin_name nodes.now node.now) }
+{
+    let group = text_or(alloc, nodes, Some(node), "groupId", MAVEN_PLUGINS)?;
+    let artifact = text_or(alloc, nodes, Some(node), "artifactId", "")?;
+    Ok((group, artifact))
+}
+
 impl Item for Plugin {
     ghost value = { plugin };
 
     #[tactic(auto, unfolding(crate::specs::Fields::plugin))]
     fn read(alloc: Global, nodes: &[Node], node: &Node) -> Mem<Plugin> {
         let inherited = !text_is(nodes, Some(node), "inherited", "false");
-        let group = text_or(alloc, nodes, Some(node), "groupId", MAVEN_PLUGINS)?;
-        let artifact = text_or(alloc, nodes, Some(node), "artifactId", "")?;
         let version = text_of(alloc, nodes, Some(node), "version")?;
         let dependencies = list_in(alloc, nodes, Some(node), "dependencies", "dependency")?;
         let executions = list_in(alloc, nodes, Some(node), "executions", "execution")?;
         let configuration = configuration(alloc, nodes, Some(node))?;
+        let (group, artifact) = plugin_name(alloc, nodes, node)?;
         Ok(Plugin {
             group,
             artifact,

@@ -12,6 +12,7 @@ use pom_text::Node;
 use std::alloc::Global;
 
 // A property that has to be defined; one without a name is no criterion.
+#[tactic(auto, unfolding(crate::specs::Fields::property))]
 fn property(alloc: Global, nodes: &[Node], node: Option<&Node>) -> Mem<Option<Property>>
     ensures { IfOk result (λ value. value ≡ property nodes.now (option_copied node.entry)) }
 {
@@ -85,8 +86,8 @@ impl Item for Profile {
         let build = child(nodes, Some(node), "build");
         let id = text_or(alloc, nodes, Some(node), "id", "default")?;
         let activation = activation_in(alloc, nodes, node)?;
-        let base = Shared::new(alloc, model_base(alloc, nodes, Some(node))?)?;
-        let build = Shared::new(alloc, build_base(alloc, nodes, build)?)?;
+        let base = model_base(alloc, nodes, Some(node))?;
+        let build = build_base(alloc, nodes, build)?;
         Ok(Profile {
             id,
             activation,

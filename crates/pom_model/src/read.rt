@@ -1,7 +1,8 @@
-ghost use Rattle.std.specs.Prelude.{◌≡◌, slice_get, IfOk};
+ghost use Rattle.std.specs.Prelude.{◌≡◌, codes, slice_get, Some, IfOk};
 ghost use Rattle.std.specs.Option.{option_copied};
 ghost use Rattle.mvn_base.specs.Says.{Says};
-ghost use Rattle.pom_model.specs.Fields.{coordinates, model, parent, parent_in};
+ghost use Rattle.pom_model.specs.Elements.{child};
+ghost use Rattle.pom_model.specs.Fields.{coordinates, model, parent, parent_in, path_text};
 ghost use Rattle.pom_model.specs.Raw.{raw, refusal};
 
 use crate::base::model_base;
@@ -19,43 +20,52 @@ use std::alloc::Global;
 /// Where a parent is looked for first, where its child doesn't say.
 const PARENT_PATH: &str = "../pom.xml";
 
+// Where a parent is looked for first: an empty path is kept.
+fn relative_path(alloc: Global, nodes: &[Node], node: &Node) -> Mem<Text>
+    ensures { IfOk result (λ text. text ≡ path_text (child nodes.now (codes "relativePath") (Some node.now))) }
+{
+    match child(nodes, Some(node), "relativePath") {
+        Some(path) => own_text(alloc, path),
+        None => Text::from_str(alloc, PARENT_PATH),
+    }
+}
+
 // The POM that a POM builds on.
 #[tactic(auto, unfolding(crate::specs::Fields::parent))]
-fn parent(alloc: Global, nodes: &[Node], node: &Node) -> Mem<Parent>
+fn parent(alloc: Global, nodes: &[Node], node: &Node) -> Mem<Shared<Parent>>
     ensures { IfOk result (λ value. value ≡ parent nodes.now node.now) }
 {
-    let relative_path = match child(nodes, Some(node), "relativePath") {
-        Some(path) => own_text(alloc, path)?,
-        None => Text::from_str(alloc, PARENT_PATH)?,
-    };
+    let relative_path = relative_path(alloc, nodes, node)?;
     let gav = Gav::read(alloc, nodes, node)?;
-    Ok(Parent { gav, relative_path })
+    let parent = Parent { gav, relative_path };
+    Shared::new(alloc, parent)
 }
 
 fn parent_in(alloc: Global, nodes: &[Node], node: Option<&Node>) -> Mem<Option<Shared<Parent>>>
     ensures { IfOk result (λ value. value ≡ parent_in nodes.now (option_copied node.entry)) }
 {
     match child(nodes, node, "parent") {
-        Some(node) => Ok(Some(Shared::new(alloc, parent(alloc, nodes, node)?)?)),
+        Some(node) => Ok(Some(parent(alloc, nodes, node)?)),
         None => Ok(None),
     }
 }
 
 // The coordinates that a POM states, and its packaging.
 #[tactic(auto, unfolding(crate::specs::Fields::coordinates))]
-fn coordinates(alloc: Global, nodes: &[Node], node: Option<&Node>) -> Mem<Coordinates>
+fn coordinates(alloc: Global, nodes: &[Node], node: Option<&Node>) -> Mem<Shared<Coordinates>>
     ensures { IfOk result (λ value. value ≡ coordinates nodes.now (option_copied node.entry)) }
 {
     let group = text_of(alloc, nodes, node, "groupId")?;
     let artifact = text_or(alloc, nodes, node, "artifactId", "")?;
     let version = text_of(alloc, nodes, node, "version")?;
     let packaging = text_or(alloc, nodes, node, "packaging", "jar")?;
-    Ok(Coordinates {
+    let coordinates = Coordinates {
         group,
         artifact,
         version,
         packaging,
-    })
+    };
+    Shared::new(alloc, coordinates)
 }
 
 // What a POM says that breaks no rule.
@@ -65,9 +75,9 @@ fn model(alloc: Global, nodes: &[Node], pom: &PomId, node: Option<&Node>) -> Mem
 {
     let pom = Shared::new(alloc, pom.clone()?)?;
     let parent = parent_in(alloc, nodes, node)?;
-    let coordinates = Shared::new(alloc, coordinates(alloc, nodes, node)?)?;
-    let base = Shared::new(alloc, model_base(alloc, nodes, node)?)?;
-    let build = Shared::new(alloc, build(alloc, nodes, child(nodes, node, "build"))?)?;
+    let coordinates = coordinates(alloc, nodes, node)?;
+    let base = model_base(alloc, nodes, node)?;
+    let build = build(alloc, nodes, child(nodes, node, "build"))?;
     let profiles = Shared::new(alloc, list_in(alloc, nodes, node, "profiles", "profile")?)?;
     Ok(RawModel {
         pom,

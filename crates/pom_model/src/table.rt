@@ -2,7 +2,7 @@ ghost use Rattle.std.specs.Prelude.{◌≡◌, map, find, option_map};
 ghost use Rattle.pom_model.specs.Table.{found, is_row, kind_number, row_view, table};
 
 /// What an element of a POM is read as.
-#[derive(Clone, Copy, Debug, PartialEq, Eq)]
+#[derive(Clone, Copy)]
 pub(crate) enum Kind {
     Project,
     Parent,
@@ -37,7 +37,7 @@ pub(crate) enum Kind {
 }
 
 /// How often an element may stand under its parent.
-#[derive(Clone, Copy, Debug, PartialEq, Eq)]
+#[derive(Clone, Copy)]
 pub(crate) enum Times {
     /// Once, or not at all.
     Optional,

@@ -4,7 +4,7 @@ use mvn_base::{FileName, Gav};
 use mvn_shared::{Bytes, List, Text};
 
 /// How a module ended, with what its line names.
-#[derive(Clone, Debug, Drop)]
+#[derive(Drop)]
 pub enum RowEnd {
     Built,
     /// A goal failed: its plugin, name and execution, and what it says.
@@ -21,7 +21,7 @@ pub enum RowEnd {
 }
 
 /// What is told of a module besides, where all is asked for.
-#[derive(Clone, Debug, Drop)]
+#[derive(Drop)]
 pub struct FullPart {
     /// The effective model, as JSON.
     pub model: Bytes,
@@ -31,7 +31,7 @@ pub struct FullPart {
 }
 
 /// A module's part of the report.
-#[derive(Clone, Debug, Drop)]
+#[derive(Drop)]
 pub struct ReportRow {
     pub gav: Gav,
     pub end: RowEnd,

@@ -9,21 +9,15 @@
 //!   how it compares with each of all texts of four bytes of `01a.-`
 //! - `admits REQUIREMENT VERSION ..`: whether it is hard, and which versions it admits; `highest REQUIREMENT VERSION ..`: the place of
 //!   the highest
-//! - `words HANDS WORD ..`: what a command line asks for
 //! - `parts TEXT`: the parts of a text with expressions; `value NAME NAME=VALUE ..`; `path FOLDER PATH`: the path in the folder
-//! - `name TEXT`, `version TEXT`: whether it is a valid one; `phase WORD`; `type TYPE`; `setting NAME CHILD ..`: a copy of it
-//! - `file GROUP ARTIFACT VERSION CLASSIFIER EXTENSION`, `version-in GROUP ARTIFACT PATH`, `key GROUP ARTIFACT TYPE CLASSIFIER`, `lock
-//!   GROUP ARTIFACT VERSION`, and the refusals `at-name RULE PATH NAME` and `at-byte RULE GROUP ARTIFACT VERSION BYTE`
 #![tactic(auto)]
 
-mod lines;
-mod names;
 mod poms;
 mod values;
 mod versions;
 
-use mvn_shared::{Bytes, Mem, Text};
-use row_fields::{escaped, fields, texts, unescaped};
+use mvn_shared::{Mem, Text};
+use row_fields::{escaped, texts, unescaped};
 use std::alloc::Global;
 
 // What is told of a row whose fields are texts.
@@ -32,34 +26,30 @@ fn told_of_texts(alloc: Global, kind: &str, texts: &[Text]) -> Mem<String> {
         "sorted" | "order" | "among-short" | "admits" | "highest" => {
             versions::told(alloc, kind, texts)
         }
-        "parts" | "value" | "path" => values::told(alloc, kind, texts),
-        "name" | "version" | "phase" | "type" | "setting" => names::words(alloc, kind, texts),
-        _ => names::files(alloc, kind, texts),
+        _ => values::told(alloc, kind, texts),
     }
 }
 
-// What is told of a row whose fields are bytes.
+// What is told of a row whose field is bytes.
 fn told_of_bytes(alloc: Global, kind: &str, rest: &str) -> Mem<String> {
     match kind {
         "pom" => poms::outline(alloc, unescaped(alloc, rest)?.as_slice()),
-        "count" => poms::count(alloc, unescaped(alloc, rest)?.as_slice()),
-        _ => lines::told(alloc, fields(alloc, rest)?.as_slice()),
+        _ => poms::count(alloc, unescaped(alloc, rest)?.as_slice()),
     }
 }
 
 // What is told of a row.
-fn told(alloc: Global, kind: &str, rest: &str) -> anyhow::Result<Bytes> {
-    let answer = match kind {
-        "pom" | "count" | "words" => told_of_bytes(alloc, kind, rest)?,
-        _ => told_of_texts(alloc, kind, texts(alloc, rest)?.as_slice())?,
-    };
-    Ok(Bytes::of(answer.into_bytes()))
+fn told(alloc: Global, kind: &str, rest: &str) -> anyhow::Result<String> {
+    match kind {
+        "pom" | "count" => Ok(told_of_bytes(alloc, kind, rest)?),
+        _ => Ok(told_of_texts(alloc, kind, texts(alloc, rest)?.as_slice())?),
+    }
 }
 
 fn print_told(rt: &HostRuntime, line: &str) -> anyhow::Result<()> {
     let (kind, rest) = line.split_once(' ').unwrap_or((line, ""));
     let answer = told(rt.alloc(), kind, rest)?;
-    let shown = escaped(rt.alloc(), answer.as_slice())?;
+    let shown = escaped(rt.alloc(), answer.as_bytes())?;
     println!(rt; "{shown}")?;
     Ok(())
 }

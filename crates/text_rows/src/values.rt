@@ -5,17 +5,18 @@ use mvn_shared::{List, Mem, Text};
 use pom_paths::joined;
 use std::alloc::Global;
 
+fn push_text(shown: &mut String, front: &str, text: &Text, back: &str) -> Mem<()> {
+    shown.push_str(front)?;
+    shown.push_str(text.as_str())?;
+    shown.push_str(back)?;
+    Ok(())
+}
+
 fn push_part(shown: &mut String, part: &Part) -> Mem<()> {
     match part {
-        Part::Plain(text) => shown.push_str(text.as_str())?,
-        Part::Name(name) => {
-            shown.push('<')?;
-            shown.push_str(name.as_str())?;
-            shown.push('>')?;
-        }
+        Part::Plain(text) => push_text(shown, "", text, "|"),
+        Part::Name(name) => push_text(shown, "<", name, ">|"),
     }
-    shown.push('|')?;
-    Ok(())
 }
 
 // The parts of a text, an expression in angle brackets, each with a bar behind it.
@@ -27,18 +28,19 @@ fn split(alloc: Global, text: &Text) -> Mem<String> {
     Ok(shown)
 }
 
-// A name and a value with `=` between.
-fn pair(alloc: Global, text: &Text) -> Mem<Pair> {
-    let (name, value) = text.as_str().split_once('=').unwrap_or(("", ""));
+fn pair(alloc: Global, name: &str, value: &str) -> Mem<Pair> {
     let name = Text::from_str(alloc, name)?;
     let value = Text::from_str(alloc, value)?;
     Ok(Pair { name, value })
 }
 
+// The values of texts that have an `=` between a name and its value.
 fn values(alloc: Global, texts: &[Text]) -> Mem<Values> {
     let mut pairs = List::new(alloc);
     for text in texts {
-        pairs.push(pair(alloc, text)?)?;
+        if let Some((name, value)) = text.as_str().split_once('=') {
+            pairs.push(pair(alloc, name, value)?)?;
+        }
     }
     Values::of(alloc, pairs.as_slice())
 }

@@ -46,29 +46,25 @@ pub(crate) fn sorted(alloc: Global, texts: &[Text]) -> Mem<String> {
 pub(crate) fn order(alloc: Global, a: &Text, b: &Text) -> Mem<String> {
     let a = Version::parse(alloc, a)?;
     let b = Version::parse(alloc, b)?;
-    let mut shown = String::new(alloc);
-    shown.push(mark(&a, &b))?;
-    Ok(shown)
+    let mark = mark(&a, &b);
+    Ok(format!(in alloc; "{mark}")?)
 }
 
-// One of five bytes among which versions split in each way.
-fn letter(number: u32) -> char {
-    match number % 5 {
-        0 => '0',
-        1 => '1',
-        2 => 'a',
-        3 => '.',
-        _ => '-',
-    }
+// Five bytes among which versions split in each way.
+const LETTERS: [char; 5] = ['0', '1', 'a', '.', '-'];
+
+fn push_letter(text: &mut String, number: u32) -> Mem<()> {
+    text.push(LETTERS[(number % 5) as usize])?;
+    Ok(())
 }
 
 // The text of a number below 625: four of these bytes.
 fn short_text(alloc: Global, number: u32) -> Mem<Text> {
     let mut text = String::new(alloc);
-    text.push(letter(number / 125))?;
-    text.push(letter(number / 25))?;
-    text.push(letter(number / 5))?;
-    text.push(letter(number))?;
+    push_letter(&mut text, number / 125)?;
+    push_letter(&mut text, number / 25)?;
+    push_letter(&mut text, number / 5)?;
+    push_letter(&mut text, number)?;
     Ok(Text::of(text))
 }
 
@@ -86,23 +82,19 @@ pub(crate) fn among_short(alloc: Global, text: &Text) -> Mem<String> {
 fn marks(alloc: Global, requirement: &Requirement, versions: &[Version]) -> Mem<String> {
     let mut shown = String::new(alloc);
     for version in versions {
-        shown.push(if requirement.admits(version) {
-            '+'
-        } else {
-            '.'
-        })?;
+        shown.push_str(word_for(requirement.admits(version), "+", "."))?;
     }
     Ok(shown)
+}
+
+fn word_for(holds: bool, yes: &'static str, no: &'static str) -> &'static str {
+    if holds { yes } else { no }
 }
 
 fn marked(alloc: Global, requirement: &Requirement, texts: &[Text]) -> Mem<String> {
     let versions = versions(alloc, texts)?;
     let marks = marks(alloc, requirement, versions.as_slice())?;
-    let kind = if requirement.is_hard() {
-        "hard"
-    } else {
-        "soft"
-    };
+    let kind = word_for(requirement.is_hard(), "hard", "soft");
     Ok(format!(in alloc; "{kind} {marks}")?)
 }
 

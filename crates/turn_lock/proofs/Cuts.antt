@@ -266,6 +266,7 @@ module _ {V F E : Type 0} (fixed_of : V → F) (log_of : V → List E) (count_of
       fixed = r.fixed;
       workers = r.workers;
       holder = r.holder;
+      others = r.others;
       word = r.word;
       few = r.few;
       longest = longest_cut;
@@ -429,6 +430,7 @@ module _ {V F E : Type 0} (fixed_of : V → F) (log_of : V → List E) (count_of
       fixed = r.fixed;
       workers = r.workers;
       holder = r.holder;
+      others = r.others;
       word = r.word;
       few = r.few;
       longest = longest_one;

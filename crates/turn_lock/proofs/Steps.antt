@@ -10,13 +10,13 @@ use Rattle.std.proofs.lemmas.Nat.Bits.{bit_at_lowest, bit_at_or, bit_at-suc, bit
 use mathlib.Core.Option as core
 use mathlib.Core.Option.{some-injective, some-ne-none}
 use lib.ListN.{get_elem?}
-use Rattle.atomic_table.specs.Table.{Act, Me, State, Valid, carried_after, gives, keeps, opening, put_back, rest, step, stepped, takes}
+use Rattle.atomic_table.specs.Table.{Act, Me, State, Step, Valid, carried_after, gives, keeps, opening, put_back, rest, step, stepped, takes}
 use Rattle.atomic_table.proofs.Lists.{at_set, set_again, set_else, set_here}
 use Rattle.turn_lock.specs.declared.kept.Role.{Role}
 use Rattle.turn_lock.specs.declared.kept.Role.TheVariants.{Nobody, Opens, GoesOn, Closes}
 use Rattle.turn_lock.specs.declared.view.View.{View}
 use Rattle.turn_lock.specs.Turns.{AddsOne, Begins, IsFresh, IsKnown, MayAdd, entries_of, given, is_nobodys, is_of, first_view, open_of, opened_by, with_turn}
-use Rattle.turn_lock.specs.Rule.{AtHome, IsPass, IsTurned, gave, looked, mark, took, weight_of, weights}
+use Rattle.turn_lock.specs.Rule.{AtHome, IsPass, IsTurned, asked, gave, looked, mark, took, weight_of, weights}
 
 -- ---- the word
 
@@ -196,7 +196,7 @@ module _ {V F E : Type 0} (fixed_of : V → F) (log_of : V → List E) (count_of
   -- ---- a turn taken
 
   module _ (id : ℕ) (m : Own) (free : m.0.turn ≡ None) (own : m.0.spent ≡ false) (s : State (Option V) (View F E)) (r : Holds s) (at : get_elem? s.views id ≡ core.some m.0) where
-    first_word : (n : ℕ) → s.words ≡ n ∷ [] → get_or s.words 0 0 ≡ n
+    first_word : (n : ℕ) → s.words ≡ n ∷ r.others → get_or s.words 0 0 ≡ n
     first_word n e = ap (λ ws. get_or ws 0 0) e
 
     taken : (x : V) → r.out ≡ false → s.homes ≡ core.some (Some x) ∷ [] → fixed_of x ≡ r.fixed → log_of x ≡ r.log → count_of x ≡ r.workers
@@ -204,14 +204,15 @@ module _ {V F E : Type 0} (fixed_of : V → F) (log_of : V → List E) (count_of
     taken x home homes fixed log count =
         let w = with_turn m.0 (log_of x) in
         let change : Changes s.views id m.0 w = record { before = at; there = own; stays = own; number = refl; reach = refl; weight = refl } in
-        let word : s.words ≡ (2 * length r.log) ∷ [] = r.word ∙ ap (λ b. (2 * length r.log + mark b) ∷ []) home ∙ ap (λ n. n ∷ []) (omega arith) in
+        let word : s.words ≡ (2 * length r.log) ∷ r.others = r.word ∙ ap (λ b. (2 * length r.log + mark b) ∷ r.others) home ∙ ap (λ n. n ∷ r.others) (omega arith) in
         record {
           log = r.log;
           out = true;
           fixed = r.fixed;
           workers = r.workers;
           holder = id;
-          word = ap (λ ws. set ws 0 (bit_or (get_or ws 0 0) 1)) word ∙ ap (λ n. n ∷ []) (even_or (length r.log));
+          others = r.others;
+          word = ap (λ ws. set ws 0 (bit_or (get_or ws 0 0) 1)) word ∙ ap (λ n. n ∷ r.others) (even_or (length r.log));
           few = r.few;
           longest = seen_after s.views id m.0 w change r.log refl r.longest;
           home = ap (λ hs. set hs 0 core.none) homes;
@@ -258,7 +259,7 @@ module _ {V F E : Type 0} (fixed_of : V → F) (log_of : V → List E) (count_of
             )
         by true home there =
             let word : get_or s.words 0 0 ≡ 2 * length r.log + 1 = first_word (2 * length r.log + mark r.out) r.word ∙ ap (λ b. 2 * length r.log + mark b) home in
-            let same_word : set s.words 0 (bit_or (get_or s.words 0 0) 1) ≡ s.words = ap (λ ws. set ws 0 (bit_or (get_or ws 0 0) 1)) r.word ∙ ap (λ n. n ∷ []) (ap (λ b. bit_or (2 * length r.log + mark b) 1) home ∙ odd_or (length r.log) ∙ ap (λ b. 2 * length r.log + mark b) (sym home)) ∙ sym r.word in (
+            let same_word : set s.words 0 (bit_or (get_or s.words 0 0) 1) ≡ s.words = ap (λ ws. set ws 0 (bit_or (get_or ws 0 0) 1)) r.word ∙ ap (λ n. n ∷ r.others) (ap (λ b. bit_or (2 * length r.log + mark b) 1) home ∙ odd_or (length r.log) ∙ ap (λ b. 2 * length r.log + mark b) (sym home)) ∙ sym r.word in (
               m.0,
               keeps,
               tt,
@@ -273,6 +274,36 @@ module _ {V F E : Type 0} (fixed_of : V → F) (log_of : V → List E) (count_of
   looks_only id m own s r at =
       let same_word : set s.words 0 (get_or s.words 0 0) ≡ s.words = ap (λ ws. set ws 0 (get_or ws 0 0)) r.word ∙ sym r.word in
       (m.0, keeps, tt, subst Holds (λ i. record { words = sym same_word i; homes = s.homes; views = sym (set_again s.views id m.0 at) i }) r, (refl, (r.known id m.0 (at, own)).parts))
+
+  -- ---- another word than the first
+
+  -- what is so of a table is so where another word than the first is changed
+  others_only : (i n : ℕ) (s : State (Option V) (View F E)) → Holds s → Holds record { words = set s.words (suc i) n; homes = s.homes; views = s.views }
+  others_only i n s r = record {
+    log = r.log;
+    out = r.out;
+    fixed = r.fixed;
+    workers = r.workers;
+    holder = r.holder;
+    others = set r.others i n;
+    word = ap (λ ws. set ws (suc i) n) r.word;
+    few = r.few;
+    longest = r.longest;
+    home = r.home;
+    known = r.known;
+    turns = r.turns;
+    held = r.held;
+    apart = r.apart;
+    closed = r.closed;
+    whole = r.whole;
+  }
+
+  -- a step on it keeps the rule, and the pass is as it was
+  pub asks_only : (i n found : ℕ) (did : Step (Option V)) (id : ℕ) (m : Own) (s : State (Option V) (View F E)) → 0 < i → Holds s → get_elem? s.views id ≡ core.some m.0
+      → (w : View F E) × (a : Act (Option V)) × Valid s.homes m.1 a × Holds (stepped s i n id m.1 w a) × asked fixed_of log_of count_of role did m found (w, carried_after m.1 a)
+  asks_only zero n found did id m s first r at = absurd (omega (arith, first))
+  asks_only (suc i) n found did id m s first r at =
+      (m.0, keeps, tt, subst Holds (λ j. record { words = set s.words (suc i) n; homes = s.homes; views = sym (set_again s.views id m.0 at) j }) (others_only i n s r), refl)
 
   -- ---- a turn given
 
@@ -367,7 +398,8 @@ module _ {V F E : Type 0} (fixed_of : V → F) (log_of : V → List E) (count_of
       fixed = r.fixed;
       workers = r.workers;
       holder = r.holder;
-      word = ap (λ ws. set ws 0 (2 * n)) r.word ∙ ap (λ k. k ∷ []) (omega (arith, entries));
+      others = r.others;
+      word = ap (λ ws. set ws 0 (2 * n)) r.word ∙ ap (λ k. k ∷ r.others) (omega (arith, entries));
       few = short;
       longest = (id, next, at_same s.views id m.0 next change, refl);
       home = subst (λ c. AtHome fixed_of log_of count_of role false (put_back s.homes c) (log_of x) r.fixed r.workers) (sym carried) (home_after out_home);
@@ -413,14 +445,15 @@ module _ {V F E : Type 0} (fixed_of : V → F) (log_of : V → List E) (count_of
       let parts = and_parts (is_nobodys (role e)) (list_all (λ x. is_nobodys (role x)) log) fresh in
       ap (λ b. fold (λ was x. if is_of k (role x) then opened_by (role x) was else was) (if b then opened_by (role e) start else start) log) (nobodys_of k (role e) parts.0) ∙ fresh_fold k log start parts.1
 
-  pub first_rule : (x : V) (n : ℕ) → n ≡ length (log_of x) → 0 < count_of x → IsFresh role (log_of x) → length (log_of x) < 2 ^ 62 → Holds (opening (2 * n ∷ []) (Some x ∷ []) (first_view (log_of x) (fixed_of x) (count_of x)))
+  pub first_rule : (x : V) (n : ℕ) → n ≡ length (log_of x) → 0 < count_of x → IsFresh role (log_of x) → length (log_of x) < 2 ^ 62 → Holds (opening (2 * n ∷ 0 ∷ 0 ∷ []) (Some x ∷ []) (first_view (log_of x) (fixed_of x) (count_of x)))
   first_rule x n entries some_worker fresh short = record {
     log = log_of x;
     out = false;
     fixed = fixed_of x;
     workers = count_of x;
     holder = 0;
-    word = ap (λ k. k ∷ []) (omega (arith, entries));
+    others = 0 ∷ 0 ∷ [];
+    word = ap (λ k. k ∷ 0 ∷ 0 ∷ []) (omega (arith, entries));
     few = short;
     longest = (0, first_view (log_of x) (fixed_of x) (count_of x), (refl, refl), refl);
     home = (x, refl, refl, refl, refl);

@@ -1,4 +1,4 @@
--- The rule of a turn lock: one word, one slot, and the views of all passes; and what each step tells. Own.
+-- The rule of a turn lock: its first word, its slot, and the views of all passes; and what each step tells. Own.
 use Rattle.std.specs.Prelude.{◌≡◌, ◌≢◌, ◌⊎◌, ℕ, ◌+◌, ◌*◌, ◌%◌, ◌^◌, ◌<◌, ◌≤◌, Bool, true, false, List, [], ◌∷◌, length, Option, Some, None, if◌then◌else◌}
 use mathlib.Core.Option as core
 use lib.ListN.{get_elem?}
@@ -34,8 +34,9 @@ module _ {V F E : Type 0} (fixed_of : V → F) (log_of : V → List E) (count_of
     pub fixed : F
     pub workers : ℕ
     pub holder : ℕ
-    -- the word is twice the length of the longest seen log, and one more while a turn is out
-    pub word : s.words ≡ (2 * length log + mark out) ∷ []
+    pub others : List ℕ
+    -- the first word is twice the length of the longest seen log, and one more while a turn is out; of the others, on which threads ask to be called, nothing is said
+    pub word : s.words ≡ (2 * length log + mark out) ∷ others
     pub few : length log < 2 ^ 62
     pub longest : (id : ℕ) × (v : View F E) × IsPass s.views id v × (v.seen ≡ log)
     pub home : AtHome out s.homes log fixed workers
@@ -67,3 +68,7 @@ module _ {V F E : Type 0} (fixed_of : V → F) (log_of : V → List E) (count_of
   -- a look
   abbrev pub looked : Step (Option V) → Own → ℕ → Own → Type 0
   looked step m found m' = (m' ≡ m) × AllBegin m.0.parts m.0.seen
+
+  -- a thread asked to be called, or one was
+  abbrev pub asked : Step (Option V) → Own → ℕ → Own → Type 0
+  asked step m found m' = m' ≡ m

@@ -1,22 +1,29 @@
 // The lock and its calls.
-ghost use Rattle.std.specs.Prelude.{◌≡◌, ◌+◌, ◌<◌, ◌≤◌, true, List, [], ◌∷◌, Some, None, IfOk, IfErr, OnErr};
+ghost use Rattle.std.specs.Prelude.{◌≡◌, ◌+◌, ◌<◌, ◌≤◌, true, List, [], ◌∷◌, Some, None, IfOk, IfErr, IfSome, IfNone};
 ghost use Rattle.std.specs.Result.{is_ok};
 ghost use Rattle.turn_lock.specs.declared.lock.NewError.TheVariants.{Memory};
 ghost use Rattle.turn_lock.specs.Turns.{AddsOne, AllBegin, Begins, IsFresh, IsKnown, first_view, given, joined, left_of, right_of, with_turn};
 ghost use Rattle.turn_lock.specs.Passes.{lock_of, view_of, with_view};
 
 use crate::kept::Kept;
-use crate::plays::{Give, Halves, Look, Take, TurnRule};
+use crate::plays::{Ask, Give, Halves, Look, Take, TurnRule};
 use crate::view::View;
 use atomic_table::{Seat, Table};
 use mvn_shared::Mem;
 use std::alloc::Global;
+use std::hint::spin_loop;
 use std::marker::Model;
 use std::snapshot::Snapshot;
 use std::sync::Wait;
 
 /// A value behind a lock. It may cross threads, and be shared by them, where the value may cross. Of waiting nothing is promised: not that a thread
 /// that waits is woken, nor that it is served at last or in its order, nor that threads with several locks don't wait for one another for ever. Own.
+//
+// The table's first word is twice the length of the log, and one more while a turn is out. On the second those park that wait for a turn, on the third
+// those that rest. Each of these two is odd where a thread asked to be called, and a call makes it the next even number. Each step is sequentially
+// consistent; who parks asks before it looks at the first word again, and a giver writes that word before it looks whether one asked. So either the
+// giver finds that one asked, and calls, or the thread finds what was given, and doesn't park; and where the call comes in between, the word on which
+// the thread would park is another by then. A call for the turn wakes one thread, which asks again for those that may still be parked.
 #[derive(Drop)]
 pub struct TurnLock<V: Kept> {
     table: Table<Option<V>, View<V::Fixed, V::Entry>, Snapshot<V>, TurnRule<V>, Global>,
@@ -32,12 +39,12 @@ impl<V: Kept> Model for TurnLock<V> {
 
     ghost view = { λ lock. lock.table.shared.table_id };
 
-    ghost invariant = { λ lock. (lock.table.shared.table_id.words ≡ 1) × (lock.table.shared.table_id.slots ≡ 1) };
+    ghost invariant = { λ lock. (lock.table.shared.table_id.words ≡ 3) × (lock.table.shared.table_id.slots ≡ 1) };
 }
 
 /// A caller's token: what it knows of the value, which is said by its view ([`View`]). It may cross threads where the value may. At run time
-/// it is its seat at the table and the length of the log that it has seen. Own.
-#[derive(Drop)]
+/// it is its seat at the table and the length of the log that it has seen. It can't be dropped, since a lock is closed by the pass that all others
+/// were joined to: who fails hands it back. Own.
 pub struct Pass<V: Kept> {
     seat: Seat<Option<V>, View<V::Fixed, V::Entry>>,
     entries: u64,
@@ -56,8 +63,8 @@ impl<V: Kept> Model for Pass<V> {
     ghost invariant = { λ pass. (pass.entries ≡ length pass.seat.me.0.seen) × (pass.seat.me.0.spent ≡ false) × Carries pass.seat.me.0.turn pass.seat.me.1 };
 }
 
-/// A turn: the value, until it is given back. A turn that isn't given back keeps all others waiting. Own.
-#[derive(Drop)]
+/// A turn: the value, until it is given back. It can't be dropped, since a turn that isn't given back keeps all others waiting: who fails gives it
+/// back. Own.
 pub struct Turn<V> {
     pub value: V,
 }
@@ -129,29 +136,87 @@ impl<V: Kept> TurnLock<V> {
             Ok(slots) => slots,
             Err(error) => return Err(error),
         };
-        match Table::new(alloc, &[2 * entries], slots, &about) {
+        match Table::new(alloc, &[2 * entries, 0, 0], slots, &about) {
             Ok((table, seat)) => Ok((TurnLock { table }, Pass { seat, entries })),
             Err(refused) => Err(NewError::Memory(value_in(refused.slots))),
         }
     }
 
     // The value, where no turn is out.
-    fn try_take(&self, pass: &mut Pass<V>) -> Result<V, u32>
+    #[inline]
+    fn try_take(&self, pass: &mut Pass<V>) -> Option<V>
         requires own { lock_of pass.old ≡ self.now }
         requires free { (view_of pass.old).turn ≡ None }
-        ensures ok { IfOk result (λ value. pass.new ≡ with_view pass.old (with_turn (view_of pass.old) (V.log value))) }
-        ensures known { IfOk result (λ value. IsKnown V.role (V.log value) (V.fixed value) (V.count value) (view_of pass.old)) }
-        ensures err { OnErr result (pass.new ≡ pass.old) }
+        ensures some { IfSome result (λ value. pass.new ≡ with_view pass.old (with_turn (view_of pass.old) (V.log value))) }
+        ensures known { IfSome result (λ value. IsKnown V.role (V.log value) (V.fixed value) (V.count value) (view_of pass.old)) }
+        ensures none { IfNone result (pass.new ≡ pass.old) }
     {
         let found = self.table.shared.fetch_or::<Take<V>>(&mut pass.seat, 0, 1);
         if found % 2 == 1 {
-            return Err((found & 0xffff_ffff) as u32);
+            return None;
         }
-        Ok(whole(self.table.shared.exchange(&mut pass.seat, 0, None)))
+        Some(whole(self.table.shared.exchange(&mut pass.seat, 0, None)))
+    }
+
+    // Asks to be called: makes a word odd, and answers what its low half is then, to park on.
+    fn ask(&self, pass: &mut Pass<V>, word: usize) -> u32
+        requires own { lock_of pass.old ≡ self.now }
+        requires word { (0 < word) × (word < 3) }
+        ensures { pass.new ≡ pass.old }
+    {
+        let found = self
+            .table
+            .shared
+            .fetch_or::<Ask<V>>(&mut pass.seat, word, 1);
+        ((found | 1) & 0xffff_ffff) as u32
+    }
+
+    // Whether a thread asked to be called; then the word is made even.
+    #[inline]
+    fn answer(&self, pass: &mut Pass<V>, word: usize) -> bool
+        requires own { lock_of pass.old ≡ self.now }
+        requires word { (0 < word) × (word < 3) }
+        ensures { pass.new ≡ pass.old }
+    {
+        if self.table.shared.peek(word) % 2 == 0 {
+            return false;
+        }
+        self.table
+            .shared
+            .fetch_add::<Ask<V>>(&mut pass.seat, word, 1);
+        true
+    }
+
+    // Whether the turn comes back at once: it looks a hundred times.
+    fn comes_soon(&self) -> bool {
+        for _ in 0..100u32 {
+            if self.table.shared.peek(0) % 2 == 0 {
+                return true;
+            }
+            spin_loop();
+        }
+        false
+    }
+
+    // Looks for a moment, and then parks while a turn is out.
+    #[inline(never)]
+    fn wait<R: Wait>(&self, rt: &R, pass: &mut Pass<V>)
+        requires { lock_of pass.old ≡ self.now }
+        ensures { pass.new ≡ pass.old }
+    {
+        if self.comes_soon() {
+            return;
+        }
+        let asked = self.ask(pass, 1);
+        if self.table.shared.peek(0) % 2 == 1 {
+            self.table.shared.park(rt, 1, asked);
+            let _for_others = self.ask(pass, 1);
+        }
     }
 
     /// The value, when no other turn is out. May wait; a thread that waits parks until a turn is given. Takes no memory; two atomic steps besides
     /// waiting. That a thread that waits is woken or served isn't promised. Own.
+    #[inline]
     pub fn take<R: Wait>(&self, rt: &R, pass: &mut Pass<V>) -> Turn<V>
         requires own { lock_of pass.old ≡ self.now }
         requires free { (view_of pass.old).turn ≡ None }
@@ -160,15 +225,16 @@ impl<V: Kept> TurnLock<V> {
     {
         for _ in rt.forever() {
             match self.try_take(pass) {
-                Ok(value) => return Turn { value },
-                Err(found) => self.table.shared.park(rt, 0, found),
+                Some(value) => return Turn { value },
+                None => self.wait(rt, pass),
             }
         }
         unreachable!()
     }
 
-    /// Gives the turn back that the pass took last, with at most one entry of the pass more, and wakes all parked threads: there are no more than
-    /// workers. Takes no memory; two atomic steps and one call of the system. Own.
+    /// Gives the turn back that the pass took last, with at most one entry of the pass more. Wakes a thread that waits for a turn, and where there is
+    /// an entry more all that rest. Takes no memory; two atomic steps, and calls of the system only where a thread waits or rests. Own.
+    #[inline]
     pub fn give(&self, pass: &mut Pass<V>, turn: Turn<V>)
         requires own { lock_of pass.old ≡ self.now }
         requires taken { (log : List V.Entry) × ((view_of pass.old).turn ≡ Some log) × AddsOne V.role (view_of pass.old).number log (V.log turn.value) }
@@ -179,23 +245,37 @@ impl<V: Kept> TurnLock<V> {
         let Turn { value } = turn;
         let entries = value.entries();
         nothing(self.table.shared.exchange(&mut pass.seat, 0, Some(value)));
-        self.table
+        let before = self
+            .table
             .shared
-            .store::<Give<V>>(&mut pass.seat, 0, 2 * entries);
+            .swap::<Give<V>>(&mut pass.seat, 0, 2 * entries);
         pass.entries = entries;
-        self.table.shared.wake_all(0);
+        if self.answer(pass, 1) {
+            self.table.shared.wake_one(1);
+        }
+        if before / 2 != entries && self.answer(pass, 2) {
+            self.table.shared.wake_all(2);
+        }
     }
 
-    /// Waits until a turn was given that the pass hasn't seen, or for no reason shorter. May wait. Takes no memory. Nothing is claimed of when it
-    /// returns. Own.
+    // Whether the log has another length than the pass has seen.
+    fn has_grown(&self, pass: &Pass<V>) -> bool {
+        self.table.shared.peek(0) / 2 != pass.entries
+    }
+
+    /// Waits until a turn was given with an entry that the pass hasn't seen, or for no reason shorter; a thread that waits parks. May wait. Takes no
+    /// memory. Nothing is claimed of when it returns. Own.
     pub fn rest<R: Wait>(&self, rt: &R, pass: &mut Pass<V>)
         requires own { lock_of pass.old ≡ self.now }
         requires free { (view_of pass.old).turn ≡ None }
         ensures { pass.new ≡ pass.old }
     {
-        let found = self.look(pass);
-        if found / 2 == pass.entries {
-            self.table.shared.park(rt, 0, (found & 0xffff_ffff) as u32);
+        if self.has_grown(pass) {
+            return;
+        }
+        let asked = self.ask(pass, 2);
+        if !self.has_grown(pass) {
+            self.table.shared.park(rt, 2, asked);
         }
     }
 

@@ -1,6 +1,6 @@
 // The rule of the table, and what each step tells.
 ghost use Rattle.turn_lock.specs.Turns.{first_view, joined, left_of, right_of, spent};
-ghost use Rattle.turn_lock.specs.Rule.{IsTurned, gave, looked, took};
+ghost use Rattle.turn_lock.specs.Rule.{IsTurned, asked, gave, looked, took};
 
 use crate::kept::Kept;
 use crate::view::View;
@@ -41,6 +41,14 @@ pub(crate) struct Look<V> {
 
 impl<V: Kept> Play<Option<V>, View<V::Fixed, V::Entry>> for Look<V> {
     ghost then = { looked V.fixed V.log V.count V.role };
+}
+
+pub(crate) struct Ask<V> {
+    marker: PhantomData<V>,
+}
+
+impl<V: Kept> Play<Option<V>, View<V::Fixed, V::Entry>> for Ask<V> {
+    ghost then = { asked V.fixed V.log V.count V.role };
 }
 
 pub(crate) struct Halves;

@@ -10,7 +10,9 @@ use crate::{Kept, Pass, Turn, TurnLock};
 use mvn_shared::{Mem, OutOfMemory};
 use std::alloc::Global;
 use std::sync::Wait;
-use std::thread::{Threads, join};
+use std::thread;
+use std::thread::{Threads, join_mut};
+use std::time::{Clock, Duration};
 
 /// A number that a worker noted. Own.
 #[derive(Clone, Copy, Debug, PartialEq, Eq)]
@@ -114,6 +116,7 @@ pub fn opened(alloc: Global, workers: u32) -> Mem<(TurnLock<Tally>, Pass<Tally>)
 }
 
 /// A note of a pass's worker, in a turn of its own. May wait. Where memory is missing nothing is noted. Own.
+#[inline]
 pub fn note_down<R: Wait>(
     rt: &R,
     lock: &TurnLock<Tally>,
@@ -128,6 +131,7 @@ pub fn note_down<R: Wait>(
     ensures reach { ((view_of pass.new).number ≡ worker) × ((view_of pass.new).reach ≡ (view_of pass.old).reach) }
     ensures weight { ((view_of pass.new).weight ≡ (view_of pass.old).weight) × ((view_of pass.new).workers ≡ (view_of pass.old).workers) }
     ensures noted { OnOk result (notes_of worker (view_of pass.new).seen ≡ notes_of worker (view_of pass.old).seen ++ (record { worker = worker; number = number }) ∷ []) }
+    ensures err { OnErr result (notes_of worker (view_of pass.new).seen ≡ notes_of worker (view_of pass.old).seen) }
 {
     let Turn { mut value } = lock.take(rt, pass);
     let added = value.add(worker, number);
@@ -135,76 +139,188 @@ pub fn note_down<R: Wait>(
     added
 }
 
-// The numbers below `count`, each noted by the pass's worker.
-fn work<R: Wait>(
+/// What each worker does: how many numbers it notes; whether they go in rounds of so many workers, each resting until all before it have noted (0:
+/// none rests); and how many milliseconds it sleeps before each note, without a turn and with one. Own.
+#[derive(Drop)]
+pub struct Task {
+    pub count: u32,
+    pub round: u32,
+    pub idle: u32,
+    pub held: u32,
+}
+
+// Sleeps for so many milliseconds.
+fn pause<R: Clock>(rt: &R, millis: u32) {
+    if millis > 0 {
+        thread::sleep(rt, Duration::from_millis(millis as u64));
+    }
+}
+
+// A turn that is held for so many milliseconds and adds nothing: how many notes there are. May wait.
+fn held<R: Wait + Clock>(
     rt: &R,
     lock: &TurnLock<Tally>,
-    mut pass: Pass<Tally>,
+    pass: &mut Pass<Tally>,
     worker: u32,
-    count: u32,
-) -> Mem<Pass<Tally>>
-    requires rest { IsAtRest lock.now worker (view_of pass).reach (view_of pass).weight (view_of pass).workers pass }
-    requires fresh { notes_of worker (view_of pass).seen ≡ [] }
-    ensures rest { IfOk result (λ back. IsAtRest lock.now worker (view_of pass).reach (view_of pass).weight (view_of pass).workers back) }
-    ensures noted { IfOk result (λ back. notes_of worker (view_of back).seen ≡ noted worker count) }
+    millis: u32,
+) -> u64
+    requires rest { IsAtRest lock.now worker (view_of pass.old).reach (view_of pass.old).weight (view_of pass.old).workers pass.old }
+    ensures rest { IsAtRest lock.now worker (view_of pass.old).reach (view_of pass.old).weight (view_of pass.old).workers pass.new }
+    ensures noted { notes_of worker (view_of pass.new).seen ≡ notes_of worker (view_of pass.old).seen }
 {
-    for number in 0..count {
-        note_down(rt, lock, &mut pass, worker, number)?;
+    let Turn { value } = lock.take(rt, pass);
+    let notes = value.entries();
+    pause(rt, millis);
+    lock.give(pass, Turn { value });
+    notes
+}
+
+// Rests until there are so many notes. May wait.
+fn rest_until<R: Wait + Clock>(
+    rt: &R,
+    lock: &TurnLock<Tally>,
+    pass: &mut Pass<Tally>,
+    worker: u32,
+    notes: u64,
+)
+    requires rest { IsAtRest lock.now worker (view_of pass.old).reach (view_of pass.old).weight (view_of pass.old).workers pass.old }
+    ensures rest { IsAtRest lock.now worker (view_of pass.old).reach (view_of pass.old).weight (view_of pass.old).workers pass.new }
+    ensures noted { notes_of worker (view_of pass.new).seen ≡ notes_of worker (view_of pass.old).seen }
+{
+    for _ in rt.forever() {
+        if held(rt, lock, pass, worker, 0) >= notes {
+            return;
+        }
+        lock.rest(rt, pass);
     }
-    Ok(pass)
+    unreachable!()
+}
+
+// What a worker does before it notes a number. May wait.
+fn come<R: Wait + Clock>(
+    rt: &R,
+    lock: &TurnLock<Tally>,
+    pass: &mut Pass<Tally>,
+    worker: u32,
+    number: u32,
+    task: &Task,
+)
+    requires rest { IsAtRest lock.now worker (view_of pass.old).reach (view_of pass.old).weight (view_of pass.old).workers pass.old }
+    ensures rest { IsAtRest lock.now worker (view_of pass.old).reach (view_of pass.old).weight (view_of pass.old).workers pass.new }
+    ensures noted { notes_of worker (view_of pass.new).seen ≡ notes_of worker (view_of pass.old).seen }
+{
+    if task.round > 0 {
+        let before = (number as u64).wrapping_mul(task.round as u64);
+        rest_until(rt, lock, pass, worker, before.wrapping_add(worker as u64));
+    }
+    pause(rt, task.idle);
+    if task.held > 0 {
+        held(rt, lock, pass, worker, task.held);
+    }
+}
+
+// The worker's numbers, each noted in a turn. Where memory is missing it stops.
+fn work<R: Wait + Clock>(
+    rt: &R,
+    lock: &TurnLock<Tally>,
+    pass: &mut Pass<Tally>,
+    worker: u32,
+    task: &Task,
+) -> Mem<()>
+    requires rest { IsAtRest lock.now worker (view_of pass.old).reach (view_of pass.old).weight (view_of pass.old).workers pass.old }
+    requires fresh { notes_of worker (view_of pass.old).seen ≡ [] }
+    ensures rest { IsAtRest lock.now worker (view_of pass.old).reach (view_of pass.old).weight (view_of pass.old).workers pass.new }
+    ensures noted { OnOk result (notes_of worker (view_of pass.new).seen ≡ noted worker task.now.count) }
+{
+    for number in 0..task.count {
+        come(rt, lock, pass, worker, number, task);
+        note_down(rt, lock, pass, worker, number)?;
+    }
+    Ok(())
 }
 
 // The workers from `first` on below `reach`, by halves, each in a thread of its own.
-fn crew<R: Threads + Wait + Sync>(
+#[cycle(halves)]
+fn crew<R: Threads + Wait + Clock + Sync>(
     rt: &R,
     lock: &TurnLock<Tally>,
-    mut pass: Pass<Tally>,
+    pass: &mut Pass<Tally>,
     first: u32,
     reach: u32,
-    count: u32,
-) -> Mem<Pass<Tally>>
-    requires rest { IsAtRest lock.now first reach (reach - first) (view_of pass).workers pass }
+    task: &Task,
+) -> Mem<()>
+    requires rest { IsAtRest lock.now first reach (reach - first) (view_of pass.old).workers pass.old }
     requires some_worker { first < reach }
-    requires fresh { (k : ℕ) → first ≤ k → k < reach → notes_of k (view_of pass).seen ≡ [] }
-    ensures rest { IfOk result (λ back. IsAtRest lock.now first (first + 1) (reach - first) (view_of pass).workers back) }
-    ensures noted { IfOk result (λ back. (k : ℕ) → first ≤ k → k < reach → Begins (noted k count) (notes_of k (view_of back).seen)) }
+    requires fresh { (k : ℕ) → first ≤ k → k < reach → notes_of k (view_of pass.old).seen ≡ [] }
+    ensures rest { IsAtRest lock.now first (first + 1) (reach - first) (view_of pass.old).workers pass.new }
+    ensures noted { OnOk result ((k : ℕ) → first ≤ k → k < reach → Begins (noted k task.now.count) (notes_of k (view_of pass.new).seen)) }
 {
     if reach - first < 2 {
-        return work(rt, lock, pass, first, count);
+        return work(rt, lock, pass, first, task);
     }
     let middle = reach - (reach - first) / 2;
-    let other = lock.split(&mut pass)?;
-    let (one, two) = join(
-        rt,
-        || -> Mem<Pass<Tally>>
-            requires { IsSync R.row × IsAtRest lock.now first middle (middle - first) (view_of pass).workers pass × (first < middle) × ((k : ℕ) → first ≤ k → k < middle → notes_of k (view_of pass).seen ≡ []) }
-            ensures rest { IfOk result (λ back. IsAtRest lock.entry.now first (first + 1) (middle - first) (view_of pass).workers back) }
-            ensures noted { IfOk result (λ back. (k : ℕ) → first ≤ k → k < middle → Begins (noted k count) (notes_of k (view_of back).seen)) }
-        { crew(rt, lock, pass, first, middle, count) },
-        || -> Mem<Pass<Tally>>
-            requires { IsSync R.row × IsAtRest lock.now middle reach (reach - middle) (view_of other).workers other × (middle < reach) × ((k : ℕ) → middle ≤ k → k < reach → notes_of k (view_of other).seen ≡ []) }
-            ensures rest { IfOk result (λ back. IsAtRest lock.entry.now middle (middle + 1) (reach - middle) (view_of other).workers back) }
-            ensures noted { IfOk result (λ back. (k : ℕ) → middle ≤ k → k < reach → Begins (noted k count) (notes_of k (view_of back).seen)) }
-        { crew(rt, lock, other, middle, reach, count) },
-    );
-    let mut one = one?;
-    lock.join(&mut one, two?);
-    Ok(one)
+    let Ok(mut other) = lock.split(pass) else {
+        unreachable!()
+    };
+    let (one, two) = fork(rt, lock, pass, &mut other, first, middle, reach, task);
+    lock.join(pass, other);
+    one?;
+    two
 }
 
-/// What so many workers note, each the numbers below `count` in a thread of its own: whatever the threads do, of each worker's notes the first are
-/// just these numbers, in their order. May wait. A turn for each note. Own.
-pub fn tallied<R: Threads + Wait + Sync>(
+// The workers below `middle` by the first pass and those from it on by the other, at the same time.
+#[cycle(halves)]
+fn fork<R: Threads + Wait + Clock + Sync>(
+    rt: &R,
+    lock: &TurnLock<Tally>,
+    pass: &mut Pass<Tally>,
+    other: &mut Pass<Tally>,
+    first: u32,
+    middle: u32,
+    reach: u32,
+    task: &Task,
+) -> (Mem<()>, Mem<()>)
+    requires rest { IsAtRest lock.now first middle (middle - first) (view_of pass.old).workers pass.old }
+    requires other_rest { IsAtRest lock.now middle reach (reach - middle) (view_of other.old).workers other.old }
+    requires some_worker { (first < middle) × (middle < reach) }
+    requires fresh { (k : ℕ) → first ≤ k → k < middle → notes_of k (view_of pass.old).seen ≡ [] }
+    requires other_fresh { (k : ℕ) → middle ≤ k → k < reach → notes_of k (view_of other.old).seen ≡ [] }
+    ensures rest { IsAtRest lock.now first (first + 1) (middle - first) (view_of pass.old).workers pass.new }
+    ensures other_rest { IsAtRest lock.now middle (middle + 1) (reach - middle) (view_of other.old).workers other.new }
+    ensures noted { OnOk result.0 ((k : ℕ) → first ≤ k → k < middle → Begins (noted k task.now.count) (notes_of k (view_of pass.new).seen)) }
+    ensures other_noted { OnOk result.1 ((k : ℕ) → middle ≤ k → k < reach → Begins (noted k task.now.count) (notes_of k (view_of other.new).seen)) }
+{
+    join_mut(
+        rt,
+        &mut || -> Mem<()>
+            requires { IsSync R.row × IsAtRest lock.now first middle (middle - first) (view_of pass.now).workers pass.now × (first < middle) × ((k : ℕ) → first ≤ k → k < middle → notes_of k (view_of pass.now).seen ≡ []) }
+            ensures rest { IsAtRest lock.entry.now first (first + 1) (middle - first) (view_of pass.entry.now).workers pass.exit.now }
+            ensures noted { OnOk result ((k : ℕ) → first ≤ k → k < middle → Begins (noted k task.entry.now.count) (notes_of k (view_of pass.exit.now).seen)) }
+        { crew(rt, lock, pass, first, middle, task) },
+        &mut || -> Mem<()>
+            requires { IsSync R.row × IsAtRest lock.now middle reach (reach - middle) (view_of other.now).workers other.now × (middle < reach) × ((k : ℕ) → middle ≤ k → k < reach → notes_of k (view_of other.now).seen ≡ []) }
+            ensures rest { IsAtRest lock.entry.now middle (middle + 1) (reach - middle) (view_of other.entry.now).workers other.exit.now }
+            ensures noted { OnOk result ((k : ℕ) → middle ≤ k → k < reach → Begins (noted k task.entry.now.count) (notes_of k (view_of other.exit.now).seen)) }
+        { crew(rt, lock, other, middle, reach, task) },
+    )
+}
+
+/// What so many workers note, each its task's numbers in a thread of its own: whatever the threads do, of each worker's notes the first are just
+/// these numbers, in their order. May wait; where one has no memory, those that rest until it has noted wait for ever. A turn for each note, and more
+/// where they go in rounds. Own.
+pub fn tallied<R: Threads + Wait + Clock + Sync>(
     rt: &R,
     alloc: Global,
     workers: u32,
-    count: u32,
+    task: &Task,
 ) -> Mem<Tally>
     requires { 0 < workers }
     ensures workers { IfOk result (λ tally. tally.workers ≡ workers) }
-    ensures noted { IfOk result (λ tally. (k : ℕ) → k < workers → Begins (noted k count) (notes_of k tally.notes.items)) }
+    ensures noted { IfOk result (λ tally. (k : ℕ) → k < workers → Begins (noted k task.now.count) (notes_of k tally.notes.items)) }
 {
-    let (lock, pass) = opened(alloc, workers)?;
-    let pass = crew(rt, &lock, pass, 0, workers, count)?;
-    Ok(lock.close(pass))
+    let (lock, mut pass) = opened(alloc, workers)?;
+    let noted = crew(rt, &lock, &mut pass, 0, workers, task);
+    let tally = lock.close(pass);
+    noted?;
+    Ok(tally)
 }

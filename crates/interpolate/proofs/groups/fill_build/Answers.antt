@@ -1,8 +1,10 @@
 use Rattle.std.proofs.Common.{Ok, sym, ap}
 use Rattle.interpolate.proofs.Lists.{chain}
+use Rattle.interpolate.specs.Filling.{fill_build}
 use Rattle.interpolate.proofs.groups.fill_build.Goals as goal
 
 pub returns : goal.returns
+unfolding fill_build
 returns c = λ known table.
     let s0 = c.in_ok-base.ensures known table in
     let s1 = c.in_ok-extensions.ensures known s0.1 in

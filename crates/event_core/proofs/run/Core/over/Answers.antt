@@ -1,6 +1,7 @@
 use Rattle.std.proofs.Common.{◌≡◌, ◌≤◌, ◌+◌, [], List, length, arith, sym, ap, subst, ◌∙◌}
 use Rattle.build_core.specs.declared.event.Event.{Event}
 use Rattle.event_core.specs.Bounds.{events_left}
+use Rattle.event_core.specs.Enabled.{IsRun}
 use Rattle.event_core.specs.Fitting.{IsFit, IsTied}
 use Rattle.event_core.specs.Standing.{now_of}
 use Rattle.event_core.proofs.Fits.{fit_first, most_first}
@@ -14,6 +15,7 @@ invariant_of-result c =
     let first = most_first o in
     record {
       same = c.in_ok-stand.ensures.at ∙ ap (now_of o) (sym none);
+      run = subst (λ t. IsRun o [] t) (sym none) tt;
       fit = subst (λ t. IsFit o (now_of o t)) (sym none) (fit_first o);
       tied = subst (λ t. IsTied o (now_of o t)) (sym none) (tied_first o);
       holding = c.in_ok-stand.ensures.holding;

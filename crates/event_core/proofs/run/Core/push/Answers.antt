@@ -1,10 +1,11 @@
 use Rattle.std.proofs.Common.{◌+◌, ◌≤◌, ◌∷◌, [], ◌++◌, length, arith, sym, ap, subst, ◌∙◌}
 use Rattle.event_core.specs.Bounds.{events_left}
-use Rattle.event_core.specs.Enabled.{Enabled, IsEnabled}
+use Rattle.event_core.specs.Enabled.{Enabled, IsEnabled, IsRun}
 use Rattle.event_core.specs.Fitting.{IsFit, IsTied}
 use Rattle.event_core.specs.Standing.{after, now_of}
 use Rattle.event_core.proofs.Fits.{fewer_after, fit_after, longer_by_one, one_more}
 use Rattle.event_core.proofs.Ties.{tied_after}
+use Rattle.event_core.proofs.Runs.{run_more}
 use Rattle.event_core.proofs.run.Core.push.Goals as goal
 
 pub go-requires-clause-fit : goal.go-requires-clause-fit
@@ -43,6 +44,7 @@ invariant_of-self c =
     let left : length (events ++ e ∷ []) + events_left o (after o (now_of o events) e) ≤ o.events = omega (arith, less, long, c.self.invariant.left) in
     record {
       same = c.go.ensures.at ∙ ap (λ now. after o now e) c.self.invariant.same ∙ sym next ∙ ap (now_of o) (sym grown);
+      run = subst (λ t. IsRun o [] t) (sym grown) (run_more o [] events e c.self.invariant.run is);
       fit = subst (λ t. IsFit o (now_of o t)) (sym grown) (subst (IsFit o) (sym next) (fit_after o (now_of o events) e c.self.invariant.fit is));
       tied = subst (λ t. IsTied o (now_of o t)) (sym grown) (subst (IsTied o) (sym next) (tied_after o (now_of o events) e c.self.invariant.fit c.self.invariant.tied is));
       holding = c.go.ensures.holding c.self.invariant.holding;

@@ -5,8 +5,8 @@ use Rattle.turn_lock.specs.Turns.{AddsOne}
 use Rattle.turn_lock.proofs.Steps.{gives_turn}
 use Rattle.turn_lock.proofs.lock.TurnLock.give.Goals as goal
 
-pub store-requires : goal.store-requires
-store-requires g c =
+pub swap-before-requires : goal.swap-before-requires
+swap-before-requires g c =
     let is = ap (λ m. m.0) c.exchange.ensures.3 ∙ ap (λ v. v.2) c.pass.view_is in
     let own = ap (λ m. m.0.spent) c.exchange.ensures.3 ∙ c.pass.invariant.1 in
     let taken = c.requires.taken in

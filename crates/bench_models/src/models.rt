@@ -1,0 +1,275 @@
+use inheritance::inherit;
+use interpolate::fill;
+use model_types::{
+    Build, BuildBase, Coordinates, Dependency, ModelBase, Outputs, Profile, RawModel, Sources,
+};
+use mvn_base::{Machine, Pair, PomId};
+use mvn_shared::{List, Mem, Shared, Text};
+use profile_injection::inject;
+use std::alloc::Global;
+
+fn text(alloc: Global, text: &str) -> Mem<Text> {
+    Text::from_str(alloc, text)
+}
+
+// The dependency of a number.
+fn dependency(alloc: Global, number: u32) -> Mem<Shared<Dependency>> {
+    let group = text(alloc, "g")?;
+    let artifact = Text::of(format!(in alloc; "artifact{number}")?);
+    let version = Some(text(alloc, "1.0")?);
+    let kind = text(alloc, "jar")?;
+    let classifier = text(alloc, "")?;
+    let optional = text(alloc, "")?;
+    let dependency = Dependency {
+        group,
+        artifact,
+        version,
+        kind,
+        classifier,
+        scope: None,
+        optional,
+        exclusions: List::new(alloc),
+    };
+    Shared::new(alloc, dependency)
+}
+
+// The dependencies of some numbers.
+fn dependencies(alloc: Global, from: u32, to: u32) -> Mem<List<Shared<Dependency>>> {
+    let mut list = List::new(alloc);
+    for number in from..to {
+        list.push(dependency(alloc, number)?)?;
+    }
+    Ok(list)
+}
+
+// Properties and dependencies, and nothing else.
+fn base(
+    alloc: Global,
+    properties: List<Pair>,
+    dependencies: List<Shared<Dependency>>,
+) -> Mem<Shared<ModelBase>> {
+    let base = ModelBase {
+        modules: List::new(alloc),
+        properties,
+        managed: List::new(alloc),
+        dependencies,
+    };
+    Shared::new(alloc, base)
+}
+
+// No plugins.
+fn build_base(alloc: Global) -> Mem<Shared<BuildBase>> {
+    let base = BuildBase {
+        plugins: List::new(alloc),
+        managed_plugins: List::new(alloc),
+    };
+    Shared::new(alloc, base)
+}
+
+fn outputs(alloc: Global) -> Mem<Shared<Outputs>> {
+    let outputs = Outputs {
+        directory: None,
+        output: None,
+        test_output: None,
+        final_name: None,
+    };
+    Shared::new(alloc, outputs)
+}
+
+fn sources(alloc: Global) -> Mem<Shared<Sources>> {
+    let sources = Sources {
+        source: None,
+        test_source: None,
+        resources: List::new(alloc),
+        test_resources: List::new(alloc),
+    };
+    Shared::new(alloc, sources)
+}
+
+// A build that says nothing.
+fn build(alloc: Global) -> Mem<Shared<Build>> {
+    let outputs = outputs(alloc)?;
+    let sources = sources(alloc)?;
+    let base = build_base(alloc)?;
+    let build = Build {
+        outputs,
+        sources,
+        base,
+        extensions: List::new(alloc),
+    };
+    Shared::new(alloc, build)
+}
+
+fn coordinates(alloc: Global) -> Mem<Shared<Coordinates>> {
+    let artifact = text(alloc, "app")?;
+    let packaging = text(alloc, "jar")?;
+    let coordinates = Coordinates {
+        group: None,
+        artifact,
+        version: None,
+        packaging,
+    };
+    Shared::new(alloc, coordinates)
+}
+
+fn pom(alloc: Global) -> Mem<Shared<PomId>> {
+    let path = text(alloc, "pom.xml")?;
+    Shared::new(alloc, PomId::Path(path))
+}
+
+fn model(alloc: Global, base: Shared<ModelBase>, profiles: Shared<List<Profile>>) -> Mem<RawModel> {
+    let pom = pom(alloc)?;
+    let coordinates = coordinates(alloc)?;
+    let build = build(alloc)?;
+    Ok(RawModel {
+        pom,
+        parent: None,
+        coordinates,
+        base,
+        build,
+        profiles,
+    })
+}
+
+// A model that has some dependencies alone.
+fn with_dependencies(alloc: Global, from: u32, to: u32) -> Mem<RawModel> {
+    let base = base(alloc, List::new(alloc), dependencies(alloc, from, to)?)?;
+    let none = Shared::new(alloc, List::new(alloc))?;
+    model(alloc, base, none)
+}
+
+fn count_inherited(alloc: Global, child: &RawModel, parent: &RawModel) -> Mem<usize> {
+    let whole = inherit(alloc, child, parent)?;
+    Ok(whole.base.dependencies.len())
+}
+
+/// How many dependencies a model of a number has over one of as many, half of them shared.
+pub(crate) fn inherited(alloc: Global, number: u32) -> Mem<usize> {
+    let child = with_dependencies(alloc, number / 2, number)?;
+    let parent = with_dependencies(alloc, 0, number)?;
+    count_inherited(alloc, &child, &parent)
+}
+
+// A profile that has some dependencies.
+fn profile(alloc: Global, from: u32, to: u32) -> Mem<Profile> {
+    let id = text(alloc, "p")?;
+    let base = base(alloc, List::new(alloc), dependencies(alloc, from, to)?)?;
+    let build = build_base(alloc)?;
+    Ok(Profile {
+        id,
+        activation: None,
+        base,
+        build,
+    })
+}
+
+fn profiles(alloc: Global, from: u32, to: u32) -> Mem<Shared<List<Profile>>> {
+    let mut list = List::new(alloc);
+    list.push(profile(alloc, from, to)?)?;
+    Shared::new(alloc, list)
+}
+
+fn with_profile(alloc: Global, number: u32) -> Mem<RawModel> {
+    let profiles = profiles(alloc, number / 2, number)?;
+    let base = base(alloc, List::new(alloc), dependencies(alloc, 0, number)?)?;
+    model(alloc, base, profiles)
+}
+
+fn count_injected(alloc: Global, raw: &RawModel) -> Mem<usize> {
+    let whole = inject(alloc, raw, &[0])?;
+    Ok(whole.base.dependencies.len())
+}
+
+/// How many a model of a number has with a profile of half as many, which it shares.
+pub(crate) fn injected(alloc: Global, number: u32) -> Mem<usize> {
+    let raw = with_profile(alloc, number)?;
+    count_injected(alloc, &raw)
+}
+
+fn machine(alloc: Global) -> Mem<Machine> {
+    let root = text(alloc, "/w")?;
+    let jdk = text(alloc, "17")?;
+    let os_name = text(alloc, "Linux")?;
+    let os_family = text(alloc, "unix")?;
+    let os_arch = text(alloc, "amd64")?;
+    let os_version = text(alloc, "5")?;
+    Ok(Machine {
+        root,
+        env: List::new(alloc),
+        system: List::new(alloc),
+        jdk,
+        os_name,
+        os_family,
+        os_arch,
+        os_version,
+    })
+}
+
+fn push(alloc: Global, list: &mut List<Pair>, number: u32, value: Text) -> Mem<()> {
+    let name = Text::of(format!(in alloc; "p{number}")?);
+    list.push(Pair { name, value })
+}
+
+fn with_properties(alloc: Global, properties: List<Pair>) -> Mem<RawModel> {
+    let base = base(alloc, properties, List::new(alloc))?;
+    let none = Shared::new(alloc, List::new(alloc))?;
+    model(alloc, base, none)
+}
+
+fn bytes_filled(alloc: Global, raw: &RawModel, machine: &Machine) -> usize {
+    match fill(alloc, raw, None, machine, &[]) {
+        Ok(model) => bytes_of(&model.base.properties),
+        Err(_) => 0,
+    }
+}
+
+// How many bytes the properties of a model have when they are filled.
+fn filled(alloc: Global, properties: List<Pair>) -> Mem<usize> {
+    let raw = with_properties(alloc, properties)?;
+    let machine = machine(alloc)?;
+    Ok(bytes_filled(alloc, &raw, &machine))
+}
+
+fn bytes_of(properties: &List<Pair>) -> usize {
+    let mut bytes: usize = 0;
+    for pair in properties.as_slice() {
+        bytes = bytes.wrapping_add(pair.value.len());
+    }
+    bytes
+}
+
+// What names the next of so many properties; the last is one byte.
+fn naming(alloc: Global, at: u32, number: u32) -> Mem<Text> {
+    if at < number.saturating_sub(1) {
+        let next = at + 1;
+        return Ok(Text::of(format!(in alloc; "${{p{next}}}")?));
+    }
+    text(alloc, "x")
+}
+
+/// How many bytes so many properties come to, each of which names the next one; the last is one byte.
+pub(crate) fn chained(alloc: Global, number: u32) -> Mem<usize> {
+    let mut list = List::new(alloc);
+    for at in 0..number {
+        push(alloc, &mut list, at, naming(alloc, at, number)?)?;
+    }
+    filled(alloc, list)
+}
+
+fn of_65536_bytes(alloc: Global) -> Mem<Text> {
+    let mut whole = String::new(alloc);
+    for _ in 0..65536u32 {
+        whole.push('x')?;
+    }
+    Ok(Text::of(whole))
+}
+
+/// How many bytes so many properties come to, each of which names one of 65,536 bytes.
+pub(crate) fn long(alloc: Global, number: u32) -> Mem<usize> {
+    let mut list = List::new(alloc);
+    push(alloc, &mut list, 0, of_65536_bytes(alloc)?)?;
+    for at in 1..number {
+        push(alloc, &mut list, at, text(alloc, "${p0}")?)?;
+    }
+    filled(alloc, list)
+}

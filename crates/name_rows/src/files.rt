@@ -1,0 +1,137 @@
+// Files, coordinates and refusals.
+use crate::word;
+use mvn_base::{
+    Gav, Key, Place, PomId, Refusal, Rule, file_of, key_text, lock_name, valid_group, valid_name,
+    valid_version, version_in,
+};
+use mvn_shared::{Mem, Shared, Text};
+use std::alloc::Global;
+
+fn gav(group: &Text, artifact: &Text, version: &Text) -> Mem<Gav> {
+    let group = group.clone()?;
+    let artifact = artifact.clone()?;
+    let version = version.clone()?;
+    Ok(Gav {
+        group,
+        artifact,
+        version,
+    })
+}
+
+// Coordinates of a group, an artifact and a version.
+fn shared_gav(alloc: Global, g: &Text, a: &Text, v: &Text) -> Mem<Shared<Gav>> {
+    Shared::new(alloc, gav(g, a, v)?)
+}
+
+// The name of a file, of valid names alone.
+fn file(alloc: Global, gav: &Gav, classifier: &Text, extension: &Text) -> Mem<String> {
+    let named = valid_group(gav.group.as_bytes())
+        && valid_name(gav.artifact.as_bytes())
+        && valid_version(gav.version.as_bytes())
+        && (classifier.is_empty() || valid_name(classifier.as_bytes()))
+        && valid_name(extension.as_bytes());
+    if !named {
+        return word(alloc, "not valid");
+    }
+    let name = file_of(alloc, gav, classifier, extension)?;
+    Ok(format!(in alloc; "{name}")?)
+}
+
+// The version in the name of a POM.
+fn named_version(alloc: Global, group: &Text, artifact: &Text, path: &Text) -> Mem<String> {
+    if !valid_group(group.as_bytes()) || !valid_name(artifact.as_bytes()) {
+        return word(alloc, "not valid");
+    }
+    match version_in(alloc, group, artifact, path)? {
+        Some(version) => Ok(version.into_string()),
+        None => word(alloc, "none"),
+    }
+}
+
+fn key(group: &Text, artifact: &Text, kind: &Text, classifier: &Text) -> Mem<Key> {
+    let group = group.clone()?;
+    let artifact = artifact.clone()?;
+    let kind = kind.clone()?;
+    let classifier = classifier.clone()?;
+    Ok(Key {
+        group,
+        artifact,
+        kind,
+        classifier,
+    })
+}
+
+fn spelled_key(alloc: Global, key: Key) -> Mem<String> {
+    Ok(key_text(alloc, &key)?.into_string())
+}
+
+fn lock(alloc: Global, g: &Text, a: &Text, v: &Text) -> Mem<String> {
+    let gav = shared_gav(alloc, g, a, v)?;
+    Ok(lock_name(alloc, &gav)?.into_string())
+}
+
+// One of the rules that the rows name.
+fn rule(name: &Text) -> Rule {
+    match name.as_str() {
+        "LineageTooLong" => Rule::LineageTooLong,
+        "ParentExpression" => Rule::ParentExpression,
+        _ => Rule::TooLarge,
+    }
+}
+
+fn refused(alloc: Global, pom: PomId, rule: Rule, place: Place) -> Mem<String> {
+    let refusal = Refusal { pom, rule, place };
+    Ok(format!(in alloc; "{refusal}")?)
+}
+
+// A refusal of a project's POM at a name.
+fn at_name(alloc: Global, rule: Rule, path: &Text, name: &Text) -> Mem<String> {
+    let path = path.clone()?;
+    let name = name.clone()?;
+    refused(alloc, PomId::Path(path), rule, Place::Name(name))
+}
+
+// A refusal of a repository's POM at a byte.
+fn at_byte(alloc: Global, rule: Rule, gav: Gav, byte: &Text) -> Mem<String> {
+    let byte = byte.as_str().parse::<u64>().unwrap_or(0);
+    refused(alloc, PomId::Gav(gav), rule, Place::Byte(byte))
+}
+
+// What is told of a row of files and coordinates in a repository.
+fn told_in_repository(alloc: Global, kind: &str, texts: &[Text]) -> Mem<String> {
+    match (kind, texts) {
+        ("file", [g, a, v, classifier, extension]) => {
+            let gav = shared_gav(alloc, g, a, v)?;
+            file(alloc, &gav, classifier, extension)
+        }
+        ("version-in", [group, artifact, path]) => named_version(alloc, group, artifact, path),
+        _ => word(alloc, "no such row"),
+    }
+}
+
+// What is told of a row of keys and locks.
+fn told_as_key(alloc: Global, kind: &str, texts: &[Text]) -> Mem<String> {
+    match (kind, texts) {
+        ("key", [g, a, kind, classifier]) => spelled_key(alloc, key(g, a, kind, classifier)?),
+        ("lock", [g, a, v]) => lock(alloc, g, a, v),
+        _ => word(alloc, "no such row"),
+    }
+}
+
+// What is told of a row of refusals.
+fn told_as_refusal(alloc: Global, kind: &str, texts: &[Text]) -> Mem<String> {
+    match (kind, texts) {
+        ("at-name", [name, path, place]) => at_name(alloc, rule(name), path, place),
+        ("at-byte", [name, g, a, v, byte]) => at_byte(alloc, rule(name), gav(g, a, v)?, byte),
+        _ => word(alloc, "no such row"),
+    }
+}
+
+/// What is told of a row of files, coordinates and refusals.
+pub(crate) fn told(alloc: Global, kind: &str, texts: &[Text]) -> Mem<String> {
+    match kind {
+        "file" | "version-in" => told_in_repository(alloc, kind, texts),
+        "key" | "lock" => told_as_key(alloc, kind, texts),
+        _ => told_as_refusal(alloc, kind, texts),
+    }
+}

@@ -1,0 +1,5 @@
+pub mod Activation
+pub mod FileTexts
+pub mod Judging
+pub mod Known
+pub mod Lookups

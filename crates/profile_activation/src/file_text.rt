@@ -1,0 +1,135 @@
+ghost use Rattle.std.specs.Prelude.{◌≡◌, ◌++◌, List as Items, ℕ, codes, flat_map, unwrap_or, IfOk, OnOk};
+ghost use Rattle.std.specs.String.{string_bytes};
+ghost use Rattle.expressions.specs.declared.part.Part.TheVariants as variants;
+ghost use Rattle.profile_activation.specs.FileTexts.{basedir_of, below_root, filled, filled_part, path_of};
+ghost use Rattle.profile_activation.specs.Known.{known_value};
+ghost use Rattle.profile_activation.specs.Lookups.{behind};
+
+use crate::lookup::{Known, behind};
+use expressions::{Part, parts};
+use mvn_shared::{Mem, Text};
+use pom_paths::joined;
+use std::alloc::Global;
+
+/// The project's folder that a POM's folder is.
+pub(crate) fn basedir_of(alloc: Global, root: &Text, folder: &Text) -> Mem<Text>
+    ensures { IfOk result (λ basedir. basedir ≡ basedir_of root.now folder.now) }
+{
+    let mut basedir = String::from_str(alloc, root.as_str())?;
+    if !folder.is_empty() {
+        basedir.push('/')?;
+        basedir.push_str(folder.as_str())?;
+    }
+    Ok(Text::of(basedir))
+}
+
+// An expression as it is written, behind a text.
+fn push_written(text: &mut String, name: &str) -> Mem<()>
+    ensures { OnOk result (string_bytes text.new
+        ≡ string_bytes text.old ++ codes "${" ++ name.now ++ codes "}") }
+{
+    text.push_str("${")?;
+    text.push_str(name)?;
+    text.push('}')?;
+    Ok(())
+}
+
+// The value of an expression, behind a text.
+fn push_name(
+    alloc: Global,
+    text: &mut String,
+    basedir: &Text,
+    known: &Known,
+    name: &Text,
+) -> Mem<()>
+    ensures { OnOk result (string_bytes text.new ≡ string_bytes text.old
+        ++ filled_part basedir.now (known_value known.now) (variants.Name name.now)) }
+{
+    if name.as_str() == "basedir" {
+        text.push_str(basedir.as_str())?;
+        return Ok(());
+    }
+    match known.value(alloc, name)? {
+        Some(value) => {
+            text.push_str(value.as_str())?;
+            Ok(())
+        }
+        None => push_written(text, name.as_str()),
+    }
+}
+
+// A part, behind a text.
+fn push_part(
+    alloc: Global,
+    text: &mut String,
+    basedir: &Text,
+    known: &Known,
+    part: &Part,
+) -> Mem<()>
+    ensures { OnOk result (string_bytes text.new ≡ string_bytes text.old
+        ++ filled_part basedir.now (known_value known.now) part.now) }
+{
+    match part {
+        Part::Plain(plain) => {
+            text.push_str(plain.as_str())?;
+            Ok(())
+        }
+        Part::Name(name) => push_name(alloc, text, basedir, known, name),
+    }
+}
+
+// All parts.
+fn filled_parts(alloc: Global, basedir: &Text, known: &Known, list: &[Part]) -> Mem<Text>
+    ensures { IfOk result (λ text. text
+        ≡ flat_map (filled_part basedir.now (known_value known.now)) list.now) }
+{
+    let mut text = String::new(alloc);
+    for part in list {
+        push_part(alloc, &mut text, basedir, known, part)?;
+    }
+    Ok(Text::of(text))
+}
+
+// A text without what its front says of the POM's folder.
+fn without_front<'a>(text: &'a str) -> &'a str
+    ensures { result.now ≡ unwrap_or (behind (codes "${basedir}/") text.now) text.now }
+{
+    let Some(rest) = behind("${basedir}/", text) else {
+        return text;
+    };
+    rest
+}
+
+/// A text, filled once. Costs its length and that of the values.
+pub(crate) fn filled(alloc: Global, basedir: &Text, known: &Known, text: &Text) -> Mem<Text>
+    ensures { IfOk result (λ whole. whole ≡ filled basedir.now (known_value known.now) text.now) }
+{
+    let text = Text::from_str(alloc, without_front(text.as_str()))?;
+    let list = parts(alloc, &text)?;
+    filled_parts(alloc, basedir, known, list.as_slice())
+}
+
+// An absolute path in the project, from its root on.
+fn below_root(alloc: Global, root: &Text, text: &Text) -> Mem<Option<Text>>
+    ensures { IfOk result (λ path. path ≡ below_root root.now text.now) }
+{
+    let nothing = Text::of(String::new(alloc));
+    if text == root {
+        return Ok(Some(nothing));
+    }
+    let front = format!(in alloc; "{root}/")?;
+    match behind(front.as_str(), text.as_str()) {
+        Some(rest) => Ok(Some(joined(alloc, &nothing, &Text::from_str(alloc, rest)?)?)),
+        None => Ok(None),
+    }
+}
+
+/// The path that a filled text names, from the project's root on. Costs its length.
+pub(crate) fn path_of(alloc: Global, root: &Text, folder: &Text, text: &Text) -> Mem<Option<Text>>
+    ensures { IfOk result (λ path. path ≡ path_of root.now folder.now text.now) }
+{
+    if behind("/", text.as_str()).is_some() {
+        return below_root(alloc, root, text);
+    }
+    Ok(Some(joined(alloc, folder, text)?))
+}

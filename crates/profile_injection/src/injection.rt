@@ -1,0 +1,111 @@
+ghost use Rattle.std.specs.Prelude.{◌≡◌, IfOk};
+ghost use Rattle.profile_injection.specs.Contents.{absorbed_build, settled_base};
+ghost use Rattle.profile_injection.specs.Injection.{inject, inject_base, inject_build, inject_build_base, profiles_at};
+
+use crate::contents::{gathered_base, gathered_build};
+use model_merge::{absorbed, copies, settled};
+use model_types::{Build, BuildBase, ModelBase, Profile, RawModel};
+use mvn_shared::{Mem, Shared};
+use std::alloc::Global;
+
+// Of equal keys the last one counts.
+fn settled_base(alloc: Global, base: &ModelBase) -> Mem<ModelBase>
+    ensures { IfOk result (λ settled. settled ≡ settled_base base.now) }
+{
+    let modules = copies(&base.modules)?;
+    let properties = settled(alloc, base.properties.as_slice())?;
+    let managed = settled(alloc, base.managed.as_slice())?;
+    let dependencies = settled(alloc, base.dependencies.as_slice())?;
+    Ok(ModelBase {
+        modules,
+        properties,
+        managed,
+        dependencies,
+    })
+}
+
+// What a POM has itself, with what its profiles at some places have.
+#[tactic(auto, unfolding(crate::specs::Injection::inject_base))]
+fn inject_base(
+    alloc: Global,
+    own: &ModelBase,
+    profiles: &[Profile],
+    places: &[u32],
+) -> Mem<ModelBase>
+    ensures { IfOk result (λ base. base
+        ≡ inject_base own.now (profiles_at profiles.now places.now)) }
+{
+    settled_base(alloc, &gathered_base(own, profiles, places)?)
+}
+
+// A build's plugins, merged with further ones.
+fn absorbed_build(alloc: Global, own: &BuildBase, further: &BuildBase) -> Mem<BuildBase>
+    ensures { IfOk result (λ build. build ≡ absorbed_build own.now further.now) }
+{
+    let plugins = absorbed(alloc, own.plugins.as_slice(), further.plugins.as_slice())?;
+    let managed_plugins = absorbed(
+        alloc,
+        own.managed_plugins.as_slice(),
+        further.managed_plugins.as_slice(),
+    )?;
+    Ok(BuildBase {
+        plugins,
+        managed_plugins,
+    })
+}
+
+// The plugins of a build, with those of the profiles at some places.
+#[tactic(auto, unfolding(crate::specs::Injection::inject_build_base))]
+fn inject_build_base(
+    alloc: Global,
+    own: &BuildBase,
+    profiles: &[Profile],
+    places: &[u32],
+) -> Mem<BuildBase>
+    ensures { IfOk result (λ build. build
+        ≡ inject_build_base own.now (profiles_at profiles.now places.now)) }
+{
+    absorbed_build(alloc, own, &gathered_build(alloc, profiles, places)?)
+}
+
+// A build, with the plugins of the profiles at some places.
+#[tactic(auto, unfolding(crate::specs::Injection::inject_build))]
+fn inject_build(alloc: Global, own: &Build, profiles: &[Profile], places: &[u32]) -> Mem<Build>
+    ensures { IfOk result (λ build. build
+        ≡ inject_build own.now (profiles_at profiles.now places.now)) }
+{
+    let outputs = own.outputs.share()?;
+    let sources = own.sources.share()?;
+    let extensions = copies(&own.extensions)?;
+    let base = inject_build_base(alloc, &own.base, profiles, places)?;
+    Ok(Build {
+        outputs,
+        sources,
+        base: Shared::new(alloc, base)?,
+        extensions,
+    })
+}
+
+/// A POM with what its profiles at some places have, in the order of these: modules behind its own, entries
+/// at the place of the one of their key or else at the end, and plugins merged as children with the ones of
+/// their names. Costs the lists that are joined, on the average, besides the merging; all else is shared.
+/// POM Reference, "Profiles"; the order is an own rule.
+#[tactic(auto, unfolding(crate::specs::Injection::inject))]
+pub fn inject(alloc: Global, raw: &RawModel, places: &[u32]) -> Mem<RawModel>
+    ensures { IfOk result (λ model. model ≡ inject raw.now places.now) }
+{
+    let profiles = raw.profiles.as_slice();
+    let pom = raw.pom.share()?;
+    let parent = raw.parent.clone()?;
+    let coordinates = raw.coordinates.share()?;
+    let base = Shared::new(alloc, inject_base(alloc, &raw.base, profiles, places)?)?;
+    let build = Shared::new(alloc, inject_build(alloc, &raw.build, profiles, places)?)?;
+    Ok(RawModel {
+        pom,
+        parent,
+        coordinates,
+        base,
+        build,
+        profiles: raw.profiles.share()?,
+    })
+}

@@ -1,3 +1,0 @@
-mod Gathering
-mod Joins
-mod Prefixes

@@ -1,0 +1,4 @@
+pub mod Closed
+pub mod ClosedExamples
+pub mod Given
+pub mod SamplePlan

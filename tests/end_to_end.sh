@@ -115,7 +115,7 @@ rm -r src/main/java/part
 ln -s ../../../elsewhere/part src/main/java/part
 same 'a link to a folder of sources'
 ln -s .. elsewhere/part/circle
-ln -s nowhere elsewhere/part/nowhere
+ln -s missing elsewhere/part/nowhere
 same 'a circle of links, and a link that leads nowhere'
 rm src/main/java/part elsewhere/part/circle elsewhere/part/nowhere
 mkdir src/main/java/part

@@ -6,14 +6,15 @@ use crate::shown::push_texts;
 use interpolate::fill;
 use model_types::RawModel;
 use mvn_base::{ModelError, Pair};
-use mvn_shared::{List, Mem, Text};
+use mvn_shared::{List, Mem, Shared, Text};
 use std::alloc::Global;
 
 // The POM of the folder `/w/app` with what its expressions come to.
-fn filled(alloc: Global, raw: &RawModel, defines: &[Pair]) -> Result<RawModel, ModelError> {
+fn filled(alloc: Global, raw: &RawModel, defines: &[Pair]) -> Result<Shared<RawModel>, ModelError> {
     let machine = machine(alloc)?;
     let basedir = Text::from_str(alloc, "/w/app")?;
-    fill(alloc, raw, Some(&basedir), &machine, defines)
+    let model = fill(alloc, raw, Some(&basedir), &machine, defines)?;
+    Ok(Shared::new(alloc, model)?)
 }
 
 // The packaging and the modules.
@@ -23,12 +24,17 @@ fn shown(alloc: Global, model: &RawModel) -> Mem<String> {
     Ok(shown)
 }
 
+// The packaging and the modules of a POM filled with these properties of the command line too.
+fn told_filled(alloc: Global, raw: &RawModel, defines: &[Pair]) -> Result<String, ModelError> {
+    let model = filled(alloc, raw, defines)?;
+    Ok(shown(alloc, &model)?)
+}
+
 /// The packaging of a POM and its modules, filled with these properties of the command line too.
 pub(crate) fn told(alloc: Global, fields: &[&str]) -> Result<String, ModelError> {
     let raw = project(alloc, field(fields, 0))?;
     let defines = pairs(alloc, field(fields, 1))?;
-    let model = filled(alloc, &raw, defines.as_slice())?;
-    Ok(shown(alloc, &model)?)
+    told_filled(alloc, &raw, defines.as_slice())
 }
 
 // The property of a number, which names the one before it twice.
@@ -56,11 +62,16 @@ fn length(alloc: Global, model: &RawModel) -> Mem<String> {
     Ok(format!(in alloc; "{bytes} bytes")?)
 }
 
+// The length of a POM's packaging, filled with these properties of the command line.
+fn told_length(alloc: Global, raw: &RawModel, defines: &[Pair]) -> Result<String, ModelError> {
+    let model = filled(alloc, raw, defines)?;
+    Ok(length(alloc, &model)?)
+}
+
 /// The length of a POM's packaging, filled with so many properties of the command line, each of which names the one before it twice.
 pub(crate) fn told_doubled(alloc: Global, fields: &[&str]) -> Result<String, ModelError> {
     let raw = project(alloc, field(fields, 0))?;
     let count = field(fields, 1).parse::<u32>().unwrap_or(0);
     let defines = doubled(alloc, count, field(fields, 2))?;
-    let model = filled(alloc, &raw, defines.as_slice())?;
-    Ok(length(alloc, &model)?)
+    told_length(alloc, &raw, defines.as_slice())
 }

@@ -11,14 +11,14 @@ use std::alloc::Global;
 
 // What a POM has with its parent's.
 fn inherited(alloc: Global, child: &RawModel, parent: &RawModel) -> Mem<String> {
-    let model = inherit(alloc, child, parent)?;
+    let model = Shared::new(alloc, inherit(alloc, child, parent)?)?;
     shown(alloc, &model)
 }
 
 // How a module is built whose POM builds on no other.
 fn over_super(alloc: Global, child: &RawModel) -> Mem<String> {
-    let root = super_pom(alloc)?;
-    let model = inherit(alloc, child, &root)?;
+    let root = Shared::new(alloc, super_pom(alloc)?)?;
+    let model = Shared::new(alloc, inherit(alloc, child, &root)?)?;
     let mut shown = String::new(alloc);
     push_build(&mut shown, &model.build)?;
     Ok(shown)
@@ -26,7 +26,7 @@ fn over_super(alloc: Global, child: &RawModel) -> Mem<String> {
 
 // Two plugins merged.
 fn plugins(alloc: Global, child: &Plugin, parent: &Plugin) -> Mem<String> {
-    let merged = merged_plugin(alloc, child, parent)?;
+    let merged = Shared::new(alloc, merged_plugin(alloc, child, parent)?)?;
     let mut shown = String::new(alloc);
     push_plugin(&mut shown, &merged)?;
     Ok(shown)
@@ -65,25 +65,8 @@ fn needs(
     Ok(shown)
 }
 
-// A join of two whole POMs.
-fn joined(alloc: Global, kind: &str, child: &RawModel, parent: &RawModel) -> Mem<String> {
-    match kind {
-        "inherit" => inherited(alloc, child, parent),
-        "properties" => properties(
-            alloc,
-            child.base.properties.as_slice(),
-            parent.base.properties.as_slice(),
-        ),
-        _ => needs(
-            alloc,
-            child.base.dependencies.as_slice(),
-            parent.base.dependencies.as_slice(),
-        ),
-    }
-}
-
 // A join of the first plugins of two POMs.
-fn merged(alloc: Global, kind: &str, child: &RawModel, parent: &RawModel) -> Mem<String> {
+fn first_plugins(alloc: Global, kind: &str, child: &RawModel, parent: &RawModel) -> Mem<String> {
     let child = child.build.base.plugins.get(0);
     let parent = parent.build.base.plugins.get(0);
     match (child, parent) {
@@ -93,14 +76,30 @@ fn merged(alloc: Global, kind: &str, child: &RawModel, parent: &RawModel) -> Mem
     }
 }
 
+// A join of two POMs.
+fn joined(alloc: Global, kind: &str, child: &RawModel, parent: &RawModel) -> Mem<String> {
+    let (own, others) = (&child.base, &parent.base);
+    match kind {
+        "inherit" => inherited(alloc, child, parent),
+        "properties" => properties(
+            alloc,
+            own.properties.as_slice(),
+            others.properties.as_slice(),
+        ),
+        "needs" => needs(
+            alloc,
+            own.dependencies.as_slice(),
+            others.dependencies.as_slice(),
+        ),
+        _ => first_plugins(alloc, kind, child, parent),
+    }
+}
+
 /// What becomes of a child's POM and its parent's.
 pub(crate) fn told(alloc: Global, kind: &str, fields: &[&str]) -> Result<String, ModelError> {
     let child = behind(alloc, field(fields, 0))?;
     let parent = behind(alloc, field(fields, 1))?;
-    match kind {
-        "inherit" | "properties" | "needs" => Ok(joined(alloc, kind, &child, &parent)?),
-        _ => Ok(merged(alloc, kind, &child, &parent)?),
-    }
+    Ok(joined(alloc, kind, &child, &parent)?)
 }
 
 /// How a module is built whose POM builds on no other.

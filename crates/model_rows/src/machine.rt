@@ -2,7 +2,7 @@
 use crate::fields::{pairs, words};
 use goal_types::SourceFile;
 use mvn_base::Machine;
-use mvn_shared::{Bytes, List, Mem, Text};
+use mvn_shared::{Bytes, List, Mem, Shared, Text};
 use outside_mem::{Calls, MemTree};
 use std::alloc::Global;
 
@@ -29,7 +29,11 @@ fn linux(alloc: Global) -> Mem<System> {
 }
 
 /// A Linux 5 for the JDK 17.0.2, with the project in `/w`, two variables and two properties of the system.
-pub(crate) fn machine(alloc: Global) -> Mem<Machine> {
+pub(crate) fn machine(alloc: Global) -> Mem<Shared<Machine>> {
+    Shared::new(alloc, described(alloc)?)
+}
+
+fn described(alloc: Global) -> Mem<Machine> {
     let root = Text::from_str(alloc, "/w")?;
     let jdk = Text::from_str(alloc, "17.0.2")?;
     let env = pairs(alloc, "E=${s} HOME=/h")?;

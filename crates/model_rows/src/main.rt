@@ -19,7 +19,6 @@
 //!   have no phase, and `!` where installing is reached
 #![tactic(auto)]
 
-mod escapes;
 mod fields;
 mod filling;
 mod joins;

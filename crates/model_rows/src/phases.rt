@@ -1,6 +1,6 @@
 // The plugins that a packaging binds, and the goals that run up to a phase.
 use crate::fields::field;
-use crate::poms::behind;
+use crate::poms::{behind, word};
 use crate::shown::{push_plugins, push_settings};
 use goal_types::GoalCall;
 use lifecycle::{GoalList, bind, bindings, goals, phase_of};
@@ -73,20 +73,21 @@ fn gav(alloc: Global, own: &Coordinates) -> Mem<Gav> {
 }
 
 // What holds for a module with these plugins and no parent.
-fn model(alloc: Global, raw: &RawModel, plugins: List<Shared<Plugin>>) -> Mem<Model> {
+fn model(alloc: Global, raw: &RawModel, plugins: List<Shared<Plugin>>) -> Mem<Shared<Model>> {
     let build = Shared::new(alloc, build(alloc, &raw.build, plugins)?)?;
     let gav = Shared::new(alloc, gav(alloc, &raw.coordinates)?)?;
     let packaging = raw.coordinates.packaging.clone()?;
     let pom = raw.pom.share()?;
     let base = raw.base.share()?;
-    Ok(Model {
+    let model = Model {
         pom,
         gav,
         packaging,
         parent: None,
         base,
         build,
-    })
+    };
+    Shared::new(alloc, model)
 }
 
 // A goal with its configuration.
@@ -130,6 +131,6 @@ pub(crate) fn told(alloc: Global, fields: &[&str]) -> Result<String, ModelError>
     let raw = behind(alloc, field(fields, 0))?;
     match phase_of(field(fields, 1).as_bytes()) {
         Some(phase) => Ok(listed(alloc, &raw, phase)?),
-        None => Ok(Text::from_str(alloc, "no phase")?.into_string()),
+        None => Ok(word(alloc, "no phase")?),
     }
 }

@@ -1,11 +1,11 @@
 // The POMs of a row, and what they say.
-use crate::escapes::unescaped;
 use crate::shown::push_model;
 use model_types::RawModel;
-use mvn_base::{Gav, ModelError, Place, PomId, Refusal};
-use mvn_shared::{Bytes, Mem, Text};
+use mvn_base::{Gav, ModelError, Place, PomId, Refusal, Rule};
+use mvn_shared::{Bytes, Mem, Shared, Text};
 use pom_model::read_model;
-use pom_text::{TextFault, read_text};
+use pom_text::{PomText, TextFault, read_text};
+use row_fields::unescaped;
 use std::alloc::Global;
 
 const PROJECT: &str = "<project><modelVersion>4.0.0</modelVersion>";
@@ -29,17 +29,39 @@ pub(crate) fn by_coordinates(alloc: Global) -> Mem<PomId> {
     }))
 }
 
+// The model of a POM's elements.
+fn modelled(alloc: Global, text: &PomText, pom: &PomId) -> Result<Shared<RawModel>, ModelError> {
+    let model = read_model(alloc, text, pom)?;
+    Ok(Shared::new(alloc, model)?)
+}
+
+// The refusal of a POM text at a byte.
+fn refused(pom: &PomId, rule: Rule, place: u64) -> ModelError {
+    let place = Place::Byte(place);
+    match pom.clone() {
+        Ok(pom) => ModelError::Refused(Refusal { pom, rule, place }),
+        Err(_) => ModelError::Memory,
+    }
+}
+
 // The model of a POM text.
-fn read(alloc: Global, pom: &PomId, text: &[u8]) -> Result<RawModel, ModelError> {
+fn read(alloc: Global, pom: &PomId, text: &[u8]) -> Result<Shared<RawModel>, ModelError> {
     match read_text(alloc, text) {
-        Ok(text) => read_model(alloc, &text, pom),
-        Err(TextFault::Refused { rule, place }) => {
-            let pom = pom.clone().map_err(|_| ModelError::Memory)?;
-            let place = Place::Byte(place);
-            Err(ModelError::Refused(Refusal { pom, rule, place }))
-        }
+        Ok(text) => modelled(alloc, &text, pom),
+        Err(TextFault::Refused { rule, place }) => Err(refused(pom, rule, place)),
         Err(TextFault::Memory) => Err(ModelError::Memory),
     }
+}
+
+// The model of the text of `pom.xml`.
+fn read_pom(alloc: Global, text: &[u8]) -> Result<Shared<RawModel>, ModelError> {
+    let pom = at_path(alloc, "pom.xml")?;
+    read(alloc, &pom, text)
+}
+
+/// A word as an answer.
+pub(crate) fn word(alloc: Global, word: &str) -> Mem<String> {
+    Ok(String::from_str(alloc, word)?)
 }
 
 // A project with this in it, behind what is in front.
@@ -52,31 +74,33 @@ fn within(alloc: Global, front: &str, inside: &str) -> Mem<Bytes> {
 }
 
 /// The model of a project with this in it, behind its `modelVersion`.
-pub(crate) fn project(alloc: Global, inside: &str) -> Result<RawModel, ModelError> {
-    let pom = at_path(alloc, "pom.xml")?;
+pub(crate) fn project(alloc: Global, inside: &str) -> Result<Shared<RawModel>, ModelError> {
     let text = within(alloc, "", inside)?;
-    read(alloc, &pom, text.as_slice())
+    read_pom(alloc, text.as_slice())
 }
 
 /// The same behind its coordinates g:a:1, of the POM of this name.
-pub(crate) fn named(alloc: Global, pom: &PomId, inside: &str) -> Result<RawModel, ModelError> {
+pub(crate) fn named(
+    alloc: Global,
+    pom: &PomId,
+    inside: &str,
+) -> Result<Shared<RawModel>, ModelError> {
     let text = within(alloc, COORDINATES, inside)?;
     read(alloc, pom, text.as_slice())
 }
 
 /// The same of the POM `pom.xml`.
-pub(crate) fn behind(alloc: Global, inside: &str) -> Result<RawModel, ModelError> {
+pub(crate) fn behind(alloc: Global, inside: &str) -> Result<Shared<RawModel>, ModelError> {
     let pom = at_path(alloc, "pom.xml")?;
     named(alloc, &pom, inside)
 }
 
-fn whole(alloc: Global, field: &str) -> Result<RawModel, ModelError> {
-    let pom = at_path(alloc, "pom.xml")?;
+fn whole(alloc: Global, field: &str) -> Result<Shared<RawModel>, ModelError> {
     let text = unescaped(alloc, field)?;
-    read(alloc, &pom, text.as_slice())
+    read_pom(alloc, text.as_slice())
 }
 
-fn model(alloc: Global, kind: &str, field: &str) -> Result<RawModel, ModelError> {
+fn model(alloc: Global, kind: &str, field: &str) -> Result<Shared<RawModel>, ModelError> {
     match kind {
         "pom" => whole(alloc, field),
         "project" => project(alloc, field),
@@ -95,7 +119,7 @@ pub(crate) fn shown(alloc: Global, model: &RawModel) -> Mem<String> {
 pub(crate) fn told(alloc: Global, kind: &str, field: &str) -> Result<String, ModelError> {
     let model = model(alloc, kind, field)?;
     if kind == "is-read" {
-        return Ok(Text::from_str(alloc, "read")?.into_string());
+        return Ok(word(alloc, "read")?);
     }
     Ok(shown(alloc, &model)?)
 }

@@ -1,12 +1,9 @@
 // Expressions in a POM.
-use crate::fields::{field, pairs};
-use crate::machine::machine;
-use crate::poms::project;
-use crate::shown::push_texts;
 use interpolate::fill;
 use model_types::RawModel;
 use mvn_base::{ModelError, Pair};
 use mvn_shared::{List, Mem, Shared, Text};
+use row_models::{field, machine, pairs, project, push_texts};
 use std::alloc::Global;
 
 // The POM of the folder `/w/app` with what its expressions come to.
@@ -44,14 +41,21 @@ fn twice(alloc: Global, number: u32, before: u32) -> Mem<Pair> {
     Ok(Pair { name, value })
 }
 
+// The property p0.
+fn base(alloc: Global, value: &str) -> Mem<Pair> {
+    let name = Text::from_str(alloc, "p0")?;
+    let value = Text::from_str(alloc, value)?;
+    Ok(Pair { name, value })
+}
+
 // So many properties from p0 on, which is this text; each further one names the one before it twice.
 fn doubled(alloc: Global, count: u32, first: &str) -> Mem<List<Pair>> {
-    let name = Text::from_str(alloc, "p0")?;
-    let value = Text::from_str(alloc, first)?;
+    let first = base(alloc, first)?;
     let mut list = List::new(alloc);
-    list.push(Pair { name, value })?;
+    list.push(first)?;
     for before in 0..count.saturating_sub(1) {
-        list.push(twice(alloc, before + 1, before)?)?;
+        let pair = twice(alloc, before + 1, before)?;
+        list.push(pair)?;
     }
     Ok(list)
 }

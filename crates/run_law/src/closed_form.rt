@@ -15,7 +15,8 @@ ghost use Rattle.run_law.specs.Given.{Answers, Extends, Given, IsFitting, is_fau
 /// rule.
 pub fn one_closed_form()
     ensures hand { (plan : Plan) (supply : Supply) → IsSoundPlan plan
-        → AllJudged plan supply (state_at (one_thread plan supply)) (outputs_at (one_thread plan supply)) }
+        → AllJudged plan supply (state_at (one_thread plan supply))
+        (outputs_at (one_thread plan supply)) }
     ensures run { (g : Given) (run : List RunEntry) (said : Answers) → IsFitting g run
         → IsComplete g.plan run → Extends (answers_in g.plan run) said
         → AreJudged g.plan (supply_by g.start g.remote said)

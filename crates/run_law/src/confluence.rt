@@ -14,7 +14,8 @@ ghost use Rattle.run_law.specs.Given.{Answers, Extends, Given, IsWhole, is_kept,
 /// Working with Multiple Modules, for the build by one hand; project rule for the rest.
 pub fn run_confluence()
     ensures states { (g : Given) (run : List RunEntry) (said : Answers) → IsWhole g run
-        → Extends (answers_in g.plan run) said → states_after g.plan run ≡ (one_hand g said).states }
+        → Extends (answers_in g.plan run) said
+        → states_after g.plan run ≡ (one_hand g said).states }
     ensures outputs { (g : Given) (run : List RunEntry) (said : Answers) → IsWhole g run
         → Extends (answers_in g.plan run) said → outputs_in g.plan run ≡ (one_hand g said).outputs }
     ensures files { (g : Given) (run : List RunEntry) (said : Answers) → IsWhole g run

@@ -8,10 +8,10 @@ ghost use Rattle.event_core.specs.Runs.{answers_in, contents, outputs_in};
 ghost use Rattle.run_law.specs.Closed.{state_at};
 ghost use Rattle.run_law.specs.Given.{Answers, Extends, Given, IsWhole, is_kept, one_hand, reaches, states_after};
 
-/// A law: run confluence. A complete, quiet, fitting run ends as the build by one hand, with any answers that are the run's where it
+/// A law: run confluence. A complete, quiet, fitting run ends as the sequential build, with any answers that are the run's where it
 /// has one: each module stands so and keeps these outputs, and the repository has these files. So neither the number of workers nor
-/// what they do first shows. And each goal that the build by one hand comes to is answered in the run. Does nothing. Guide to
-/// Working with Multiple Modules, for the build by one hand; project rule for the rest.
+/// what they do first shows. And each goal that the sequential build comes to is answered in the run. Does nothing. Guide to
+/// Working with Multiple Modules, for the sequential build; project rule for the rest.
 pub fn run_confluence()
     ensures states { (g : Given) (run : List RunEntry) (said : Answers) → IsWhole g run
         → Extends (answers_in g.plan run) said

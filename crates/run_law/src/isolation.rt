@@ -8,7 +8,7 @@ ghost use Rattle.run_law.specs.Closed.{outputs_at, state_at};
 ghost use Rattle.run_law.specs.Given.{Answers, Extends, Given, IsBetween, IsFitting, IsUntouched, is_fault, one_hand, outputs_after, state_after};
 
 /// A law: faults stay apart. In a complete fitting run a module that neither ended by a fault or for want of memory nor has an
-/// upstream that did, however far up, stands as in the build by one hand and keeps the same outputs, with any answers that are the
+/// upstream that did, however far up, stands as in the sequential build and keeps the same outputs, with any answers that are the
 /// run's where it has one. And behind any fitting run, complete or not, each module that has ended otherwise than so ended as in that
 /// build and keeps the same outputs, and each file is as at the start or as that build leaves it. Does nothing. Project rule.
 pub fn faults_stay_apart()

@@ -17,7 +17,7 @@ use Rattle.event_core.specs.declared.entry.RunEntry.{RunEntry}
 use Rattle.build_core.specs.declared.ending.State.{State}
 use Rattle.build_core.specs.declared.ending.State.TheVariants as state
 use Rattle.run_law.specs.Closed.{AreJudged, outputs_at, state_at}
-use Rattle.run_law.specs.Given.{Answers, Extends, Given, IsBetween, IsFitting, IsUntouched, IsWhole, is_fault, is_kept, one_hand, outputs_after, reaches, state_after, states_after, supply_by, untouched}
+use Rattle.run_law.specs.Given.{Answers, Extends, Given, IsBetween, IsFitting, IsUntouched, IsWhole, is_fault, is_kept, sequential, outputs_after, reaches, state_after, states_after, supply_by, untouched}
 use Rattle.run_law.proofs.Invariants.{is_quiet_end, outs}
 use Rattle.name_locks.specs.Locks.{below}
 use Rattle.build_core.specs.OneThread.{Supply, beginning, one_thread}
@@ -147,24 +147,24 @@ module _ (g : Given) (run : List RunEntry) (said : Answers) (whole : IsWhole g r
   fit = sound_fit g.plan whole.fitting.sound
 
   -- each module ends and keeps as by one hand
-  ends : (number : ℕ) (m : PlanModule) → slice_get g.plan.modules number ≡ Some m → (state_after g.plan run number ≡ state_at (one_hand g said) number) × (outs g.plan (answers_in g.plan run) number ≡ outputs_at (one_hand g said) number)
+  ends : (number : ℕ) (m : PlanModule) → slice_get g.plan.modules number ≡ Some m → (state_after g.plan run number ≡ state_at (sequential g said) number) × (outs g.plan (answers_in g.plan run) number ≡ outputs_at (sequential g said) number)
   ends = core_ends g.plan g.start g.remote fit whole.fitting.present (told g) (all_told g whole.fitting.tell) run whole.fitting.follows (fits_all g run whole.fitting) whole.complete whole.quiet said extends
 
   -- each goal that the build by one hand comes to is answered in the run
-  pub answered : (number goal : ℕ) (m : PlanModule) (e : Ending) → slice_get g.plan.modules number ≡ Some m → state_at (one_hand g said) number ≡ state.Ended e → goal < length m.goals → reaches e goal ≡ true → is_kept (answers_in g.plan run) number goal ≡ true
+  pub answered : (number goal : ℕ) (m : PlanModule) (e : Ending) → slice_get g.plan.modules number ≡ Some m → state_at (sequential g said) number ≡ state.Ended e → goal < length m.goals → reaches e goal ≡ true → is_kept (answers_in g.plan run) number goal ≡ true
   answered number goal m e at is less reached =
       all_answered_in g.plan g.start (told g) run whole.fitting.follows (fits_all g run whole.fitting) number goal m e at (ended_state g.plan run number e ((ends number m at).0 ∙ is)) less reached
 
   -- so all states are the same
-  pub same_states : states_after g.plan run ≡ (one_hand g said).states
-  same_states = states_all g.plan run (one_hand g said).states (hand_far g.plan (supply_by g.start g.remote said) fit).states (λ number m at. (ends number m at).0)
+  pub same_states : states_after g.plan run ≡ (sequential g said).states
+  same_states = states_all g.plan run (sequential g said).states (hand_far g.plan (supply_by g.start g.remote said) fit).states (λ number m at. (ends number m at).0)
 
   -- and all outputs
-  pub same_outputs : outputs_in g.plan run ≡ (one_hand g said).outputs
-  same_outputs = outputs_all g.plan run (one_hand g said).outputs (hand_far g.plan (supply_by g.start g.remote said) fit).outputs (λ number m at. (ends number m at).1)
+  pub same_outputs : outputs_in g.plan run ≡ (sequential g said).outputs
+  same_outputs = outputs_all g.plan run (sequential g said).outputs (hand_far g.plan (supply_by g.start g.remote said) fit).outputs (λ number m at. (ends number m at).1)
 
   -- and all files
-  pub same_files : contents g.plan g.start run ≡ (one_hand g said).files
+  pub same_files : contents g.plan g.start run ≡ (sequential g said).files
   same_files = core g.plan g.start g.remote fit whole.fitting.present (sound_owns g.plan whole.fitting.sound) (told g) (all_told g whole.fitting.tell) run whole.fitting.follows (fits_all g run whole.fitting) whole.complete whole.quiet said extends
 
 -- ---- isolation
@@ -196,16 +196,16 @@ untouched_up plan run u m at l (untouched number not ups) =
 module _ (g : Given) (run : List RunEntry) (said : Answers) (fitting : IsFitting g run) (extends : Extends (answers_in g.plan run) said) where
   -- so it ends and keeps as by one hand
   untouched_ends : IsComplete g.plan run → (number : ℕ) (m : PlanModule) → slice_get g.plan.modules number ≡ Some m → IsUntouched g.plan run number
-      → (state_after g.plan run number ≡ state_at (one_hand g said) number) × (outs g.plan (answers_in g.plan run) number ≡ outputs_at (one_hand g said) number)
+      → (state_after g.plan run number ≡ state_at (sequential g said) number) × (outs g.plan (answers_in g.plan run) number ≡ outputs_at (sequential g said) number)
   untouched_ends complete = isolation g.plan g.start g.remote (sound_fit g.plan fitting.sound) fitting.present (told g) (all_told g fitting.tell) (IsUntouched g.plan run) run fitting.follows (fits_all g run fitting) complete said extends
       (λ number is. untouched_quiet g.plan run is) (λ number u m at l. untouched_up g.plan run u m at l)
 
   -- so it stands as by one hand
-  pub untouched_state : IsComplete g.plan run → (number : ℕ) → number < length g.plan.modules → IsUntouched g.plan run number → state_after g.plan run number ≡ state_at (one_hand g said) number
+  pub untouched_state : IsComplete g.plan run → (number : ℕ) → number < length g.plan.modules → IsUntouched g.plan run number → state_after g.plan run number ≡ state_at (sequential g said) number
   untouched_state complete number low is = let m = get_in g.plan.modules number low in (untouched_ends complete number m.0 m.1 is).0
 
   -- and keeps the same
-  pub untouched_outputs : IsComplete g.plan run → (number : ℕ) → number < length g.plan.modules → IsUntouched g.plan run number → outputs_after g.plan run number ≡ outputs_at (one_hand g said) number
+  pub untouched_outputs : IsComplete g.plan run → (number : ℕ) → number < length g.plan.modules → IsUntouched g.plan run number → outputs_after g.plan run number ≡ outputs_at (sequential g said) number
   untouched_outputs complete number low is = let m = get_in g.plan.modules number low in outputs_are g.plan run number ∙ (untouched_ends complete number m.0 m.1 is).1
 
   -- what ended otherwise than by a fault is judged
@@ -221,22 +221,22 @@ module _ (g : Given) (run : List RunEntry) (said : Answers) (fitting : IsFitting
 
   -- what has ended but not by a fault, in any fitting run, ended as by one hand
   ended_ends : (number : ℕ) (e : Ending) → number < length g.plan.modules → state_after g.plan run number ≡ state.Ended e → is_fault (state.Ended e) ≡ false
-      → (state_after g.plan run number ≡ state_at (one_hand g said) number) × (outs g.plan (answers_in g.plan run) number ≡ outputs_at (one_hand g said) number)
+      → (state_after g.plan run number ≡ state_at (sequential g said) number) × (outs g.plan (answers_in g.plan run) number ≡ outputs_at (sequential g said) number)
   ended_ends number e low is not =
       let m = get_in g.plan.modules number low in
       ended_alike g.plan g.start g.remote (sound_fit g.plan fitting.sound) fitting.present (sound_owns g.plan fitting.sound) (told g) (all_told g fitting.tell) run fitting.follows (fits_all g run fitting) said extends
       number m.0 e m.1 (ended_state g.plan run number e is) (quiet_of e not)
 
   -- so it stands so by one hand
-  pub ended_so : (number : ℕ) (e : Ending) → number < length g.plan.modules → state_after g.plan run number ≡ state.Ended e → is_fault (state.Ended e) ≡ false → state_at (one_hand g said) number ≡ state.Ended e
+  pub ended_so : (number : ℕ) (e : Ending) → number < length g.plan.modules → state_after g.plan run number ≡ state.Ended e → is_fault (state.Ended e) ≡ false → state_at (sequential g said) number ≡ state.Ended e
   ended_so number e low is not = sym (ended_ends number e low is not).0 ∙ is
 
   -- and keeps the same
-  pub ended_keeps : (number : ℕ) (e : Ending) → number < length g.plan.modules → state_after g.plan run number ≡ state.Ended e → is_fault (state.Ended e) ≡ false → outputs_after g.plan run number ≡ outputs_at (one_hand g said) number
+  pub ended_keeps : (number : ℕ) (e : Ending) → number < length g.plan.modules → state_after g.plan run number ≡ state.Ended e → is_fault (state.Ended e) ≡ false → outputs_after g.plan run number ≡ outputs_at (sequential g said) number
   ended_keeps number e low is not = outputs_are g.plan run number ∙ (ended_ends number e low is not).1
 
   -- the files, also of runs that aren't complete
-  pub files_between : IsBetween g.start (one_hand g said).files (contents g.plan g.start run)
+  pub files_between : IsBetween g.start (sequential g said).files (contents g.plan g.start run)
   files_between = lies g.plan g.start g.remote (sound_fit g.plan fitting.sound) fitting.present (sound_owns g.plan fitting.sound) (told g) (all_told g fitting.tell) run fitting.follows (fits_all g run fitting) said extends
 
 -- ---- again over one plan

@@ -379,7 +379,7 @@ module _ (plan : Plan) (start remote : Files) (fit : IsFitPlan plan) (present : 
             ∙ sym (ap (λ b. option_or (if b then own_at m (outs plan kept number) f else None) (file_at start (name_of plan f))) (and_is (is_built (stands number)) m.installs (late_built number f m at mine done) (so.late number f m at mine done).1))
         by false not_done = so.fresh f (number, m, at, mine) not_done ∙ sym (none (is_built (stands number) && m.installs) refl not_done)
 
-    -- T4 Core, the contents of a run
+    -- the contents of a run
     pub left_so : IsLeft plan (supply_of start remote kept) (λ number. state_of o (now_after plan entries).progress number) (outs plan kept) (contents plan start entries)
     left_so =
         let fetched = (fetched_so plan start remote fit present hands tell entries run fits).1 in

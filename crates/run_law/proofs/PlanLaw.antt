@@ -16,7 +16,7 @@ use Rattle.event_core.specs.Runs.{IsComplete, IsQuiet, IsRunOf, answers_in, even
 use Rattle.event_core.specs.Standing.{after, upstream_of}
 use Rattle.event_core.specs.Worlds.{AllFit, HandTold}
 use Rattle.run_law.specs.Closed.{state_at}
-use Rattle.run_law.specs.Given.{Given, IsFitting, IsPresent, IsUntouched, IsWhole, is_fault, one_hand, state_after, untouched}
+use Rattle.run_law.specs.Given.{Given, IsFitting, IsPresent, IsUntouched, IsWhole, is_fault, sequential, state_after, untouched}
 use Rattle.run_law.specs.SamplePlan.{plan, sound}
 use Rattle.run_law.proofs.Checks.{run_is}
 use Rattle.run_law.proofs.Extending.{extends_itself}
@@ -72,7 +72,7 @@ module _ (start remote : Files) (none : (q : List ℕ) → file_at start q ≡ N
   }
 
   -- so one hand builds all three
-  all_built : (one_hand given (answer_at (answers_in (plan false 100) whole))).states ≡ Ended ending.Built ∷ Ended ending.Built ∷ Ended ending.Built ∷ []
+  all_built : (sequential given (answer_at (answers_in (plan false 100) whole))).states ≡ Ended ending.Built ∷ Ended ending.Built ∷ Ended ending.Built ∷ []
   unfolding after
   all_built = sym (same_states given whole (answer_at (answers_in (plan false 100) whole)) sample (extends_itself (answers_in (plan false 100) whole)))
 
@@ -81,6 +81,6 @@ module _ (start remote : Files) (none : (q : List ℕ) → file_at start q ≡ N
   faulty_fitting = record { sound = sound false 100; present = present; tell = λ w low. (refl, refl); follows = faulty_runs; fits = faulty_fits start remote (none (65 ∷ [])) here }
 
   -- so the third is built by one hand too
-  third_built : state_at (one_hand given (answer_at (answers_in (plan false 100) faulty))) 2 ≡ Ended ending.Built
+  third_built : state_at (sequential given (answer_at (answers_in (plan false 100) faulty))) 2 ≡ Ended ending.Built
   unfolding after
   third_built = sym (untouched_state given faulty (answer_at (answers_in (plan false 100) faulty)) faulty_fitting (extends_itself (answers_in (plan false 100) faulty)) faulty_ends 2 (omega arith) third_untouched)

@@ -75,5 +75,5 @@ module _ (gav : Gav) where
     fits = ((refl, tt), ((refl, (refl, refl, tt)), ((refl, (refl, refl, refl)), ((refl, ((refl, refl, refl), refl)), ((refl, ((refl, refl, refl), refl)), ((refl, tt), ((refl, (refl, refl, refl, refl)), tt)))))))
 
     -- the build by one hand puts the two files
-    one_hand : (one_thread (plan gav) (supply_of start remote (answers_in (plan gav) (built gav)))).files ≡ finite.insert (finite.insert start (65 ∷ []) (1 ∷ [])) (66 ∷ []) (7 ∷ [])
-    one_hand = sym (core_sound (plan gav) start remote sound present hands (λ w. (refl, refl)) (built gav) run fits (complete gav) (quiet gav) (answer_at (answers_in (plan gav) (built gav))) (extends_itself (answers_in (plan gav) (built gav))))
+    sequential : (one_thread (plan gav) (supply_of start remote (answers_in (plan gav) (built gav)))).files ≡ finite.insert (finite.insert start (65 ∷ []) (1 ∷ [])) (66 ∷ []) (7 ∷ [])
+    sequential = sym (core_sound (plan gav) start remote sound present hands (λ w. (refl, refl)) (built gav) run fits (complete gav) (quiet gav) (answer_at (answers_in (plan gav) (built gav))) (extends_itself (answers_in (plan gav) (built gav))))

@@ -75,8 +75,8 @@ outputs_after plan run number = slice_index_or (outputs_in plan run) number []
 abbrev pub supply_by : (start remote : Files) → Answers → Supply
 supply_by start remote said = record { start = start; remote = remote; answers = said }
 
-abbrev pub one_hand : Given → Answers → Progress
-one_hand g said = one_thread g.plan (supply_by g.start g.remote said)
+abbrev pub sequential : Given → Answers → Progress
+sequential g said = one_thread g.plan (supply_by g.start g.remote said)
 
 -- ---- goals
 

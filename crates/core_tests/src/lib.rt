@@ -1,14 +1,11 @@
-//! Tests of orders, locks, events and reports: each public function of the crates below once. The tables are rows of `order_rows` and
-//! `bench_events`.
+//! Tests of values, names, locks, events and turns: each public function of the crates below once, where no row of a program calls it.
 #![tactic(auto)]
 
 #[cfg(test)]
 mod events;
 #[cfg(test)]
-mod locks;
-#[cfg(test)]
-mod orders;
-#[cfg(test)]
-mod reports;
+mod names;
 #[cfg(test)]
 mod turns;
+#[cfg(test)]
+mod values;

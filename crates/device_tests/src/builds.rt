@@ -1,0 +1,170 @@
+// An install of one POM over objects in memory, of which one call may fail (`mvn_top`).
+ghost use Rattle.std.specs.Prelude.{◌≡◌, length};
+
+use goal_types::{GoalAnswer, SourceFile};
+use mvn_outside::Hand;
+use mvn_shared::{Bytes, List, Mem, Text};
+use mvn_top::mvn;
+use outside_mem::{Calls, MemArea, MemGate, MemRemote, MemShelf, MemSink, MemTree, NoFailures};
+use row_models::machine;
+use std::alloc::Global;
+use std::process::Abort;
+use std::test::Fail;
+
+const POM: &[u8] =
+    b"<project><modelVersion>4.0.0</modelVersion><groupId>demo</groupId><artifactId>app</artifactId><version>1.0</version></project>";
+
+// The object of which a call fails, and the number of that call.
+type Fault = (char, u64);
+
+const NO_FAULT: Fault = ('-', 0);
+
+type Worker = Hand<MemRemote<NoFailures>, MemArea<Calls>, MemGate<Calls>>;
+
+// The calls of an object that fail.
+fn failing(alloc: Global, fault: Fault, object: char) -> Mem<List<u64>> {
+    let mut calls = List::new(alloc);
+    if fault.0 == object {
+        calls.push(fault.1)?;
+    }
+    Ok(calls)
+}
+
+fn tree(alloc: Global, fault: Fault) -> Mem<MemTree<Calls>> {
+    let failing = failing(alloc, fault, 't')?;
+    let path = Text::from_str(alloc, "pom.xml")?;
+    let bytes = Bytes::from_slice(alloc, POM)?;
+    let mut files = List::new(alloc);
+    files.push(SourceFile { path, bytes })?;
+    MemTree::new(alloc, files, &failing)
+}
+
+// The answer of a letter: `Done` for `d`, an error for `f`, and else a byte of output.
+fn answer(alloc: Global, letter: u8) -> Mem<GoalAnswer> {
+    match letter {
+        b'd' => Ok(GoalAnswer::Done),
+        b'f' => Ok(GoalAnswer::Failed(Text::from_str(alloc, "1 error")?)),
+        _ => Ok(GoalAnswer::Produced(Bytes::from_slice(alloc, &[letter])?)),
+    }
+}
+
+fn gate(alloc: Global, letters: &str, fault: Fault) -> Mem<MemGate<Calls>> {
+    let mut answers = List::new(alloc);
+    for letter in letters.as_bytes() {
+        answers.push(answer(alloc, *letter)?)?;
+    }
+    MemGate::new(alloc, answers, &failing(alloc, fault, 'g')?)
+}
+
+fn worker(alloc: Global, letters: &str, fault: Fault) -> Mem<Worker> {
+    let remote = MemRemote::without_failures(alloc, List::new(alloc))?;
+    let area = MemArea::new(alloc, &failing(alloc, fault, 'a')?)?;
+    let gate = gate(alloc, letters, fault)?;
+    Ok(Hand { remote, area, gate })
+}
+
+// What an install leaves.
+#[derive(Drop)]
+struct Left {
+    status: u8,
+    names: u64,
+    answers: usize,
+}
+
+// An install by one worker.
+fn installed(
+    alloc: Global,
+    tree: &mut MemTree<Calls>,
+    shelf: MemShelf<Calls>,
+    workers: &mut [Worker],
+    sink: &mut MemSink<Calls>,
+) -> Mem<Left>
+    requires { length workers.old ≡ 1 }
+{
+    let words = [Bytes::from_slice(alloc, b"install")?];
+    let machine = machine(alloc)?;
+    let ended = mvn(alloc, &words, &machine, tree, shelf, workers, sink);
+    Ok(Left {
+        status: ended.status,
+        names: ended.shelf.names(),
+        answers: ended.answers.len(),
+    })
+}
+
+// The same of these answers with this fault.
+fn install(alloc: Global, letters: &str, fault: Fault, sink: &mut MemSink<Calls>) -> Mem<Left> {
+    let mut tree = tree(alloc, fault)?;
+    let shelf = MemShelf::new(alloc, List::new(alloc), &failing(alloc, fault, 's')?)?;
+    let mut workers = [worker(alloc, letters, fault)?];
+    installed(alloc, &mut tree, shelf, &mut workers, sink)
+}
+
+// Such an install ends with this status, so many names in the repository and so many answers, and writes this text.
+fn check(
+    rt: &impl Abort,
+    alloc: Global,
+    letters: &str,
+    fault: Fault,
+    wanted: (u8, u64, usize),
+    text: &str,
+) -> Mem<()> {
+    let mut sink = MemSink::new(alloc, &failing(alloc, fault, 'o')?)?;
+    let left = install(alloc, letters, fault, &mut sink)?;
+    assert_eq!(rt; (left.status, left.names), (wanted.0, wanted.1), "{text}");
+    assert!(rt; left.answers == wanted.2 || left.status > 2);
+    assert!(rt; sink.bytes() == text.as_bytes());
+    Ok(())
+}
+
+const BUILT: &str = "built demo:app:1.0\ntotal 1 built 1 failed 0 skipped 0\n";
+
+const GOAL: &str =
+    "failed demo:app:1.0 goal maven-compiler-plugin:compile default-compile: 1 error\ntotal 1 built 0 failed 1 skipped 0\n";
+
+const NO_ARTIFACT: &str = "failed demo:app:1.0 no artifact\ntotal 1 built 0 failed 1 skipped 0\n";
+
+// The goals are resources, compile, testResources, testCompile, test and jar.
+#[test]
+fn an_install_runs_six_goals_and_puts_two_files(rt: HostRuntime) -> Result<(), Fail> {
+    check(&rt, rt.alloc(), "dcdtdj", NO_FAULT, (0, 2, 6), BUILT)?;
+    check(&rt, rt.alloc(), "df", NO_FAULT, (1, 0, 2), GOAL)?;
+    check(&rt, rt.alloc(), "", NO_FAULT, (1, 0, 6), NO_ARTIFACT)?;
+    Ok(())
+}
+
+// An install of which one of these calls of the object fails ends with status 3, so many names and this text.
+fn check_fault(
+    rt: &impl Abort,
+    alloc: Global,
+    object: char,
+    calls: (u64, u64),
+    names: u64,
+    text: &str,
+) -> Mem<()> {
+    for call in calls.0..calls.1 {
+        check(rt, alloc, "dcdtdj", (object, call), (3, names, 0), text)?;
+    }
+    Ok(())
+}
+
+const AREA: &str = "failed demo:app:1.0 fault area\ntotal 1 built 0 failed 1 skipped 0\n";
+
+const GATE: &str = "failed demo:app:1.0 fault gate\ntotal 1 built 0 failed 1 skipped 0\n";
+
+const SHELF: &str = "failed demo:app:1.0 fault shelf\ntotal 1 built 0 failed 1 skipped 0\n";
+
+const SETTLE: &str = "built demo:app:1.0\ntotal 1 built 1 failed 0 skipped 0\nfault settle\n";
+
+#[test]
+fn each_call_that_fails_is_told(rt: HostRuntime) -> Result<(), Fail> {
+    check_fault(&rt, rt.alloc(), 't', (0, 5), 0, "fault tree\n")?;
+    check_fault(&rt, rt.alloc(), 'a', (0, 1), 0, "fault area\n")?;
+    check_fault(&rt, rt.alloc(), 'a', (1, 4), 0, AREA)?;
+    check_fault(&rt, rt.alloc(), 'a', (4, 7), 1, AREA)?;
+    check_fault(&rt, rt.alloc(), 'g', (0, 6), 0, GATE)?;
+    check_fault(&rt, rt.alloc(), 's', (0, 1), 0, SHELF)?;
+    check_fault(&rt, rt.alloc(), 's', (1, 2), 1, SHELF)?;
+    check_fault(&rt, rt.alloc(), 's', (2, 3), 2, SETTLE)?;
+    check_fault(&rt, rt.alloc(), 'o', (0, 1), 2, "")?;
+    Ok(())
+}

@@ -1,0 +1,94 @@
+// Objects in memory (`outside_mem`), and calls over any object (`mvn_outside`, `local_repo`).
+use goal_types::SourceFile;
+use local_repo::{put, settle, stage, sweep};
+use mvn_base::{FileName, Gav, file_of, valid_group, valid_name, valid_version};
+use mvn_outside::{Area, Files, Remote, Shelf, Sink, Tree, write_all};
+use mvn_shared::{Bytes, List, Mem, Text};
+use outside_mem::{Calls, Failures, MemArea, MemRemote, MemShelf, MemSink, MemTree};
+use std::alloc::Global;
+use std::test::Fail;
+
+// The first call alone.
+fn first(alloc: Global) -> Mem<List<u64>> {
+    Ok(List::of(Vec::from_slice(alloc, &[0u64])?))
+}
+
+#[test]
+fn the_calls_of_a_list_fail(rt: HostRuntime) -> Result<(), Fail> {
+    let mut calls = Calls::new(rt.alloc(), &first(rt.alloc())?)?;
+    assert!(rt; calls.count_call() && !calls.next_fails());
+    assert_eq!(rt; calls.faults(), 1);
+    Ok(())
+}
+
+#[test]
+fn a_tree_without_failures_answers(rt: HostRuntime) -> Result<(), Fail> {
+    let path = Text::from_str(rt.alloc(), "a/b")?;
+    let bytes = Bytes::from_slice(rt.alloc(), b"x")?;
+    let mut files = List::new(rt.alloc());
+    files.push(SourceFile { path, bytes })?;
+    let mut tree = MemTree::without_failures(rt.alloc(), files)?;
+    let folder = Text::from_str(rt.alloc(), "a")?;
+    assert!(rt; matches!(tree.has(&folder), Ok(true)));
+    assert!(rt; matches!(tree.read(&folder, 1), Ok(None)));
+    assert!(rt; matches!(tree.list(&folder), Ok(list) if list.len() == 1));
+    Ok(())
+}
+
+#[test]
+fn a_sink_keeps_what_is_written(rt: HostRuntime) -> Result<(), Fail> {
+    let mut sink = MemSink::without_failures(rt.alloc());
+    assert!(rt; write_all(&mut sink, b"one").is_ok());
+    assert!(rt; sink.bytes() == b"one".as_slice());
+    Ok(())
+}
+
+// a:a:a
+fn gav(alloc: Global) -> Mem<Gav> {
+    let group = Text::from_str(alloc, "a")?;
+    let artifact = group.clone()?;
+    let version = group.clone()?;
+    Ok(Gav {
+        group,
+        artifact,
+        version,
+    })
+}
+
+// The name of the file a of a:a:a.
+fn name(alloc: Global) -> Result<FileName, Fail> {
+    let gav = gav(alloc)?;
+    let none = Text::of(String::new(alloc));
+    if !valid_group(gav.group.as_bytes()) || !valid_name(gav.artifact.as_bytes()) {
+        return Err(Fail::new("the names"));
+    }
+    if !valid_version(gav.version.as_bytes()) || !none.is_empty() {
+        return Err(Fail::new("the version"));
+    }
+    Ok(file_of(alloc, &gav, &none, &gav.artifact)?)
+}
+
+#[test]
+fn a_repository_keeps_what_is_put(rt: HostRuntime) -> Result<(), Fail> {
+    let name = name(rt.alloc())?;
+    let mut shelf = MemShelf::without_failures(rt.alloc(), List::new(rt.alloc()))?;
+    let mut area = MemArea::without_failures(rt.alloc());
+    let Ok(piece) = stage(&mut area, b"one") else {
+        return Err(Fail::new("no piece"));
+    };
+    assert!(rt; put(&mut shelf, &mut area, piece, &name).is_ok());
+    assert!(rt; settle(&mut shelf).is_ok() && sweep(&mut area).is_ok());
+    assert_eq!(rt; (area.pieces(), shelf.names()), (0, 1));
+    assert!(rt; matches!(shelf.has(&name), Ok(true)));
+    assert!(rt; matches!(shelf.read(&name, 3), Ok(Some(_))));
+    Ok(())
+}
+
+#[test]
+fn a_remote_fails_where_it_is_told_to(rt: HostRuntime) -> Result<(), Fail> {
+    let name = name(rt.alloc())?;
+    let mut remote = MemRemote::new(rt.alloc(), List::new(rt.alloc()), &first(rt.alloc())?)?;
+    assert!(rt; remote.fetch(&name, 3).is_err());
+    assert!(rt; matches!(remote.fetch(&name, 3), Ok(None)));
+    Ok(())
+}

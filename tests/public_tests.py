@@ -6,9 +6,10 @@
 
 A function counts as called where a file of a test crate (`*_tests`), of a program of rows (`*_rows`, `row_models`) or of a
 measurement (`bench_*`, whose stored run is compared too) names it: a function by its own name, one of a type without `self` as
-`Type::name(`, a method as `.name(` in a file that names the crate. A method that takes `self` and has a common name may so be
-found by a call of another crate's: it is a reading of names, and no proof. A law is a function without a value, whose body does
-nothing; a test of it would show nothing, so it is counted apart. The methods of traits are listed by their traits.
+`Type::name`, a method as `.name(` in a file that names the crate. Where no such file does, the code that names it is listed behind
+the word `through`. Names are read and no types: a method with a common name may be found by a call of another type's.
+
+A law is a function without a value whose body does nothing: a call would show nothing, so laws are counted apart.
 """
 import glob
 import os
@@ -17,7 +18,6 @@ import sys
 
 TOP = os.path.join(os.path.dirname(os.path.abspath(__file__)), "..", "crates")
 CALLERS = re.compile(r"(_tests|_rows)$|^row_models$|^bench_")
-FUNCTION = re.compile(r"^( *)(pub )?(?:const )?fn (\w+)(?:<[^(]*?>)?\(([^)]*)(\)(?: -> ([^{]*))?)?")
 HEAD = re.compile(r"^(?:pub )?(impl|trait|struct|enum|mod)\b(.*)$")
 
 
@@ -42,15 +42,16 @@ def owner_of(head):
 
 
 def functions(crate):
-    """Each public function of a crate: its owner, its name, whether it takes `self`, and whether it is a law."""
+    """Each public function of a crate: its file, its owner, its name, and whether it takes `self`, is a trait's and is a law."""
     modules, passed = public_modules(crate)
     for path in sorted(glob.glob(os.path.join(TOP, crate, "src", "*.rt"))):
         module = os.path.basename(path)[:-3]
+        file = os.path.relpath(path, TOP)
         kind, owner = None, None
         lines = without_comments(open(path).read()).split("\n")
         for number, line in enumerate(lines):
             head = HEAD.match(line)
-            if head and line[:1] != " ":
+            if head:
                 kind, owner = head.group(1), owner_of(head.group(2))
                 if kind == "trait" and not line.startswith("pub"):
                     kind = None
@@ -58,59 +59,67 @@ def functions(crate):
             if not found:
                 continue
             inside, public, name = bool(found.group(1)), bool(found.group(2)), found.group(3)
-            sign = " ".join(lines[number:number + 12]).split("{")[0].split(" ensures ")[0].split(" requires ")[0]
-            rest = sign.split("fn " + name, 1)[1]
-            takes_self = bool(re.search(r"\(\s*(&('\w+ )?)?(mut )?self\b", rest))
-            law = "->" not in rest.split(")", 1)[-1] and (re.search(r"\(\s*(&self)?\s*\)", rest) is not None)
+            sign = re.split(r"\{| ensures | requires ", " ".join(lines[number:number + 12]))[0].split("fn " + name, 1)[1]
+            takes_self = bool(re.search(r"\(\s*(&('\w+ )?)?(mut )?self\b", sign))
+            is_law = "->" not in sign.split(")", 1)[-1] and bool(re.search(r"\(\s*(&self)?\s*\)", sign))
             if inside and kind == "trait":
-                yield owner, name, True, False
-            elif inside and kind == "impl" and public and owner:
-                if module in modules or owner in passed:
-                    yield owner, name, takes_self, law
+                yield file, owner, name, takes_self, True, False
+            elif inside and kind == "impl" and public and owner and (module in modules or owner in passed):
+                yield file, owner, name, takes_self, False, is_law
             elif not inside and public and (module in modules or name in passed):
-                yield None, name, False, law
+                yield file, None, name, False, False, is_law
 
 
-def called(crate, owner, name, takes_self, files):
-    """The files that call a function."""
+def calls_of(owner, name, takes_self, is_trait):
+    """The pattern of a call."""
+    if owner is None:
+        return rf"\b{name}(::<[^>]*>)?\("
+    qualified = rf"\b\w+(::<[^>]*>)?::{name}\b" if is_trait else rf"\b{owner}(::<[^>]*>)?::{name}\b"
+    return rf"\.{name}\(|{qualified}" if takes_self else qualified
+
+
+def called(crate, pattern, files, defined=None):
+    """The files that hold a call, of those that name the crate or stand in it."""
     for path, text in files:
-        if not re.search(rf"\b{crate}\b", text):
+        if not path.startswith(crate + os.sep) and not re.search(rf"\b{crate}\b", text):
             continue
-        if owner is None:
-            calls = rf"\b{name}(::<[^>]*>)?\("
-        elif takes_self:
-            calls = rf"\.{name}\(|\b{owner}(::<[^>]*>)?::{name}\b"
-        else:
-            calls = rf"\b{owner}(::<[^>]*>)?::{name}\b"
-        if re.search(calls, text):
+        if path == defined:
+            text = re.sub(r"\bfn \w+", "fn", text)
+        if re.search(pattern, text):
             yield path
+
+
+def read(crates):
+    """The files of crates, without comments."""
+    return [(os.path.relpath(path, TOP), without_comments(open(path).read()))
+            for crate in crates for path in sorted(glob.glob(os.path.join(TOP, crate, "src", "*.rt")))]
 
 
 def main():
     crates = sorted(os.path.basename(path) for path in glob.glob(os.path.join(TOP, "*")))
+    callers = read([crate for crate in crates if CALLERS.search(crate)])
     libraries = [crate for crate in crates
                  if os.path.exists(os.path.join(TOP, crate, "src", "lib.rt")) and not CALLERS.search(crate)]
-    files = [(os.path.relpath(path, TOP), without_comments(open(path).read()))
-             for crate in crates if CALLERS.search(crate)
-             for path in sorted(glob.glob(os.path.join(TOP, crate, "src", "*.rt")))]
-    count, laws, uncalled = 0, 0, []
+    code = read([crate for crate in crates if not CALLERS.search(crate)])
+    counts = {"directly": 0, "through": 0, "not": 0, "law": 0}
     for crate in libraries:
-        for owner, name, takes_self, law in functions(crate):
+        for path, owner, name, takes_self, is_trait, is_law in functions(crate):
             whole = f"{owner}::{name}" if owner else name
-            if law:
-                laws += 1
-                where = ["a law"]
-            else:
-                count += 1
-                where = list(called(crate, owner, name, takes_self, files))
-                if not where:
-                    uncalled.append((crate, whole))
+            pattern = calls_of(owner, name, takes_self, is_trait)
+            where, how = ["a law"], "law"
+            if not is_law:
+                where, how = list(called(crate, pattern, callers)), "directly"
+            if not where:
+                where, how = ["through", *called(crate, pattern, code, path)], "through"
+            if where == ["through"]:
+                where, how = ["-"], "not"
+                print(f"nothing calls {crate} {whole}")
+            counts[how] += 1
             if "--all" in sys.argv:
-                print(crate, whole, *(where or ["-"]))
-    for crate, whole in uncalled:
-        print(f"nothing calls {crate} {whole}")
-    print(f"{count} public functions, {count - len(uncalled)} called by tests or programs of rows, {laws} laws")
-    return 1 if uncalled else 0
+                print(crate, whole, *where)
+    print(f"{sum(counts.values())} public functions: {counts['directly']} called by tests or rows, "
+          f"{counts['through']} through others, {counts['law']} laws, {counts['not']} by nothing")
+    return 1 if counts["not"] else 0
 
 
 sys.exit(main())

@@ -4,8 +4,10 @@ ghost use Rattle.std.specs.Prelude.{◌<◌};
 use mvn_shared::Mem;
 use std::alloc::Global;
 use std::sync::Wait;
+use std::test::Fail;
 use std::thread::Threads;
 use std::time::Clock;
+use turn_lock::Kept;
 use turn_lock::tally::{Tally, Task, note_down, opened, tallied};
 
 // How many notes there are, and how many of each of four workers stand in their order.
@@ -53,6 +55,12 @@ fn noted<R: Threads + Wait + Clock + Sync>(
         held: 0,
     };
     Ok(counts(&tallied(rt, alloc, workers, &task)?))
+}
+
+#[test]
+fn a_tally_has_its_workers(rt: HostRuntime) -> Result<(), Fail> {
+    assert_eq!(rt; Tally::empty(rt.alloc(), 2)?.workers(), 2);
+    Ok(())
 }
 
 #[test]

@@ -1,9 +1,7 @@
-//! Tests of objects outside, goals and builds: each public function of the crates below once, where no row of a program calls it, and
-//! builds over objects in memory whose calls fail where they are told to.
+//! Tests of objects in memory and over a disk, and of goals' requests and outputs: each public function of the crates below once, where
+//! no row of a program calls it.
 #![tactic(auto)]
 
-#[cfg(test)]
-mod builds;
 #[cfg(test)]
 mod disk;
 #[cfg(test)]

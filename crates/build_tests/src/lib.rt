@@ -1,0 +1,5 @@
+//! Tests of builds over several crates: the top call over objects in memory, whose calls fail where they are told to.
+#![tactic(auto)]
+
+#[cfg(test)]
+mod install_tests;

@@ -4,7 +4,7 @@ use local_repo::{put, settle, stage, sweep};
 use mvn_base::{FileName, Gav, file_of, valid_group, valid_name, valid_version};
 use mvn_outside::{Area, Files, Remote, Shelf, Sink, Tree, write_all};
 use mvn_shared::{Bytes, List, Mem, Text};
-use outside_mem::{Calls, Failures, MemArea, MemRemote, MemShelf, MemSink, MemTree};
+use outside_mem::{Calls, Failures, MemArea, MemRemote, MemShelf, MemSink, MemTree, NoFailures};
 use std::alloc::Global;
 use std::test::Fail;
 
@@ -68,18 +68,28 @@ fn name(alloc: Global) -> Result<FileName, Fail> {
     Ok(file_of(alloc, &gav, &none, &gav.artifact)?)
 }
 
+// Whether the repository takes three bytes under the name, and settles; the area is swept.
+fn takes(
+    shelf: &mut MemShelf<NoFailures>,
+    area: &mut MemArea<NoFailures>,
+    name: &FileName,
+) -> bool {
+    let Ok(piece) = stage(area, b"one") else {
+        return false;
+    };
+    if put(shelf, area, piece, name).is_err() {
+        return false;
+    }
+    settle(shelf).is_ok() && sweep(area).is_ok()
+}
+
 #[test]
 fn a_repository_keeps_what_is_put(rt: HostRuntime) -> Result<(), Fail> {
     let name = name(rt.alloc())?;
     let mut shelf = MemShelf::without_failures(rt.alloc(), List::new(rt.alloc()))?;
     let mut area = MemArea::without_failures(rt.alloc());
-    let Ok(piece) = stage(&mut area, b"one") else {
-        return Err(Fail::new("no piece"));
-    };
-    assert!(rt; put(&mut shelf, &mut area, piece, &name).is_ok());
-    assert!(rt; settle(&mut shelf).is_ok() && sweep(&mut area).is_ok());
+    assert!(rt; takes(&mut shelf, &mut area, &name));
     assert_eq!(rt; (area.pieces(), shelf.names()), (0, 1));
-    assert!(rt; matches!(shelf.has(&name), Ok(true)));
     assert!(rt; matches!(shelf.read(&name, 3), Ok(Some(_))));
     Ok(())
 }

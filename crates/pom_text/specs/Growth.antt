@@ -1,8 +1,8 @@
 -- What a part does to a tree, part by part. That it is what its piece does is proved beside it.
 use Rattle.std.specs.Prelude.{ℕ, Bool, true, false, ◌==◌, List, [], ◌∷◌, Option, Some, None, if◌then◌else◌}
 use Rattle.pom_text.specs.declared.tree.Tree.{Tree}
-use Rattle.pom_text.specs.declared.part.Part.{Part}
-use Rattle.pom_text.specs.declared.part.Part.TheVariants.{Passed, Character, Section, Reference, Start, Empty, End}
+use Rattle.pom_text.specs.Parts.{Part}
+use Rattle.pom_text.specs.Parts.{Passed, Character, Section, Reference, Start, Empty, End}
 use Rattle.pom_text.specs.Characters.{is_space}
 use Rattle.std.specs.Str.{encode_utf8_all}
 use Rattle.pom_text.specs.Grammar.{Piece, comment, instruction, section, reference, start_tag, empty_tag, end_tag, character}

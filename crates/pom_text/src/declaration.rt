@@ -8,7 +8,7 @@ use crate::character::is_space;
 use crate::words::{after, name_of, quoted, skip_space, space_len};
 
 /// An attribute: its name and its value.
-#[derive(Clone, Copy, Debug)]
+#[derive(Clone, Copy)]
 struct Attribute<'a> {
     name: &'a [u8],
     value: &'a [u8],

@@ -2,7 +2,7 @@ ghost use Rattle.std.specs.Prelude.{◌≡◌};
 ghost use Rattle.pom_text.specs.Runs.{decoded_bytes};
 
 /// The text of bytes: the bytes themselves, or a text made of them.
-#[derive(Debug, Drop)]
+#[derive(Drop)]
 pub(crate) enum Decoded<'a> {
     Lent(&'a str),
     Made(String),

@@ -3,14 +3,14 @@ ghost use Rattle.pom_text.specs.Runs.{said};
 ghost use Rattle.pom_text.specs.Running.{begins_element};
 
 /// A start tag or an empty tag: its name, and a text that begins with its attributes.
-#[derive(Clone, Copy, Debug)]
+#[derive(Clone, Copy)]
 pub(crate) struct Tag<'a> {
     pub(crate) name: &'a str,
     pub(crate) attributes: &'a str,
 }
 
 /// What a piece of a text says. It lends from the text, so that nothing is copied before it may stand.
-#[derive(Clone, Copy, Debug)]
+#[derive(Clone, Copy)]
 pub(crate) enum Part<'a> {
     /// A comment or an instruction, which are skipped.
     Passed,

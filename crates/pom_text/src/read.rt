@@ -68,7 +68,7 @@ fn placed(
 ) -> Result<PomText, TextFault>
     requires mark { mark < 4 }
     requires text { length text.now < 4294967295 }
-    requires rest { EndsWith (chars text.now) (chars more.now) (outcome_of reading.entry) }
+    requires rest { EndsWith (chars text.now) (chars more.now) (outcome_of reading) }
     ensures { Agrees (placed mark encoding (chars text.now) (length (chars more.now)) (outcome_of reading.entry)) result }
 {
     match reading {

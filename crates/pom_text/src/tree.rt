@@ -1,4 +1,4 @@
-ghost use Rattle.std.specs.Prelude.{◌≡◌, ◌≤◌, ◌<◌, ◌+◌, ◌∷◌, [], ◌++◌, length, option_copied, IfOk, OnOk};
+ghost use Rattle.std.specs.Prelude.{◌≡◌, ◌<◌, true, false, length, IfOk, OnOk};
 ghost use Rattle.std.specs.List.{list_all};
 ghost use Rattle.std.specs.Str.{chars, encode_utf8_all};
 ghost use Rattle.pom_text.specs.Growth.{fitting, standing_of, take_part};
@@ -16,7 +16,7 @@ use std::alloc::Global;
 
 /// The elements that have begun, the numbers of those that have not ended, outermost first, and whether a carriage return in
 /// text stands directly before.
-#[derive(Debug, Drop)]
+#[derive(Drop)]
 pub(crate) struct Tree {
     pub(crate) nodes: Vec<Node>,
     pub(crate) path: Vec<u32>,

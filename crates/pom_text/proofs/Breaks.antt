@@ -27,8 +27,8 @@ free_before (c ∷ line) first =
     let starts = starts_with nat_eq (c ∷ line ++ 13 ∷ []) (13 ∷ []) in
     let away = not_false starts (and_first (not starts) (ends_first (13 ∷ []) line) first) in
     let here = no_true (c == 13) (λ yes.
-        let same : c ≡ 13 = grind (arith, nat_tests, yes) in
-        false≢true (sym away ∙ ap (λ x. starts_with nat_eq (x ∷ line ++ 13 ∷ []) (13 ∷ [])) same ∙ starts_front (13 ∷ []) (line ++ 13 ∷ []))) in
+    let same : c ≡ 13 = grind (arith, nat_tests, yes) in
+    false≢true (sym away ∙ ap (λ x. starts_with nat_eq (x ∷ line ++ 13 ∷ []) (13 ∷ [])) same ∙ starts_front (13 ∷ []) (line ++ 13 ∷ []))) in
     ap (λ b. not b && has_no_return line) here ∙ free_before line (and_second (not starts) (ends_first (13 ∷ []) line) first)
 
 broken : (text line rest : List ℕ) → Some (line, rest) ≡ up_to (13 ∷ []) text → IsBroken text line rest

@@ -13,13 +13,13 @@ use Rattle.pom_text.proofs.Fronts.{and_first, run_all}
 use Rattle.pom_text.proofs.Needles.{ascii_chars, ascii_utf8}
 
 -- a text that grows by one character
-pub text_more : (characters : List ℕ) (at c : ℕ) (bytes now : List ℕ) → at < length characters → c ≡ get_or characters at c → bytes ≡ encode_utf8_all (take at characters) → now ≡ bytes ++ encode_utf8 c → now ≡ encode_utf8_all (take (at + 1) characters)
-text_more characters at c bytes now low here so more =
+pub text_more : (characters : List ℕ) (at : ℕ) (bytes now : List ℕ) → at < length characters → bytes ≡ encode_utf8_all (take at characters) → now ≡ bytes ++ encode_utf8 (get_or characters at 0) → now ≡ encode_utf8_all (take (at + 1) characters)
+text_more characters at bytes now low so more =
+    let c = get_or characters at 0 in
     more ∙ ap (λ l. l ++ encode_utf8 c) so
     ∙ ap (λ l. encode_utf8_all (take at characters) ++ l) (sym (append-nil (encode_utf8 c)))
     ∙ sym (encodes-append (take at characters) (c ∷ []))
-    ∙ ap (λ x. encode_utf8_all (take at characters ++ x ∷ [])) here
-    ∙ ap encode_utf8_all (sym (take_more characters at c low))
+    ∙ ap encode_utf8_all (sym (take_more characters at 0 low))
 
 -- bytes are scalar values
 byte_scalar : (b : ℕ) → b < 256 → all_scalars (b ∷ []) ≡ true

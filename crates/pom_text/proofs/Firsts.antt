@@ -80,24 +80,30 @@ nothing [] stop a b d = refl
 nothing (c ∷ text) stop a b d = absurd (false≢true (sym stop ∙ is_run_so c (not_here 60 c text a) (not_here 38 c text b) (not_here 13 c text d)))
 
 -- a line feed
-pub unreturned : (returned : Bool) (text : List ℕ) → returned ≡ false → text ≡ unfed returned text
-unreturned returned text no = ap (λ b. unfed b text) (sym no)
+pub unreturned : (fed : Bool) (text : List ℕ) → fed ≡ false → text ≡ unfed fed text
+unreturned fed text is = ap (λ b. unfed b text) (sym is)
 
-pub with_feed : (returned : Bool) (text rest : List ℕ) → returned ≡ true → Some rest ≡ after (10 ∷ []) text → rest ≡ unfed returned text
-with_feed returned text rest yes e = sym (ap (unfed true) (after_splits (10 ∷ []) text rest (sym e))) ∙ ap (λ b. unfed b text) (sym yes)
+pub with_feed : (fed : Bool) (text rest : List ℕ) → fed ≡ true → Some rest ≡ after (10 ∷ []) text → rest ≡ unfed fed text
+with_feed fed text rest is e = sym (ap (unfed true) (after_splits (10 ∷ []) text rest (sym e))) ∙ ap (λ b. unfed b text) (sym is)
 
 no_feed : (text : List ℕ) → None ≡ after (10 ∷ []) text → text ≡ unfed true text
 no_feed [] a = refl
 no_feed (c ∷ text) a = sym (ap (λ b. if b then text else c ∷ text) (not_here 10 c text a))
 
-pub without_feed : (returned : Bool) (text : List ℕ) → returned ≡ true → None ≡ after (10 ∷ []) text → text ≡ unfed returned text
-without_feed returned text yes a = no_feed text a ∙ ap (λ b. unfed b text) (sym yes)
+pub without_feed : (fed : Bool) (text : List ℕ) → fed ≡ true → None ≡ after (10 ∷ []) text → text ≡ unfed fed text
+without_feed fed text is a = no_feed text a ∙ ap (λ b. unfed b text) (sym is)
 
 -- whether a mark stands at the front
-pub is_after : (mark text : List ℕ) → is_some (after mark text) ≡ starts_with nat_eq text mark
+is_after : (mark text : List ℕ) → is_some (after mark text) ≡ starts_with nat_eq text mark
 unfolding after
 is_after mark text = by (starts_with nat_eq text mark)
   where
     by : (b : Bool) → is_some (if b then Some (drop (length mark) text) else None) ≡ b
     by true = refl
     by false = refl
+
+pub starts_so : (mark text rest : List ℕ) → Some rest ≡ after mark text → true ≡ starts_with nat_eq text mark
+starts_so mark text rest e = ap is_some e ∙ is_after mark text
+
+pub starts_not : (mark text : List ℕ) → None ≡ after mark text → false ≡ starts_with nat_eq text mark
+starts_not mark text e = ap is_some e ∙ is_after mark text

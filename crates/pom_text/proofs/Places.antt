@@ -1,5 +1,5 @@
 -- Where a text is cut in characters, it is cut in bytes.
-use Rattle.std.proofs.Common.{◌≡◌, ℕ, ◌+◌, ◌-◌, ◌≤◌, List, [], ◌∷◌, ◌++◌, length, take, drop, refl, sym, ap, subst, ◌∙◌, arith, append_assoc, length-append, take-append-drop}
+use Rattle.std.proofs.Common.{◌≡◌, ℕ, ◌+◌, ◌-◌, ◌≤◌, true, List, [], ◌∷◌, ◌++◌, length, take, drop, refl, sym, ap, subst, ◌∙◌, arith, append_assoc, length-append, take-append-drop}
 use Rattle.std.proofs.lemmas.Str.{IsCharBoundary-at_seam, IsUtf8-append, chars-encodes, encodes-append, encodes-chars, length-le-encodes, scalars-chars}
 use Rattle.std.specs.Str.{IsUtf8, IsCharBoundary, all_scalars, chars, encode_utf8_all}
 use Rattle.pom_text.specs.Runs.{HasFront}
@@ -31,7 +31,7 @@ place_of text rest more unread u v w f is =
     record {
       boundary = subst (IsCharBoundary text) (sym n) (IsCharBoundary-at_seam text bytes (rest ++ more) whole (IsUtf8-append rest more v w));
       front = ap (λ i. chars (take i text)) n ∙ ap chars (ap (take (length bytes)) whole ∙ take_front bytes (rest ++ more)) ∙ chars-encodes f.front fine
-        ∙ sym (ap (λ i. take i (chars text)) k ∙ ap (take (length f.front)) f.here ∙ take_front f.front (chars rest ++ chars more));
+          ∙ sym (ap (λ i. take i (chars text)) k ∙ ap (take (length f.front)) f.here ∙ take_front f.front (chars rest ++ chars more));
     }
 
 pub few_chars : (bs : List ℕ) → IsUtf8 bs → length (chars bs) ≤ length bs

@@ -83,7 +83,7 @@ fn encoding_from(total: usize, text: &[u8]) -> Option<(usize, &[u8])>
 }
 
 /// The encoding that a declaration at the front names: where its name begins, and its name. Costs what the declaration has.
-#[tactic(auto, unfolding(crate::specs::Openings::named_encoding))]
+#[tactic(auto, using(crate::proofs::Fronts::behind_within), unfolding(crate::specs::Openings::named_encoding))]
 pub(crate) fn named_encoding(text: &[u8]) -> Option<(usize, &[u8])>
     ensures { option_map (λ e. (e.0, e.1.now)) result ≡ named_encoding text.now }
 {

@@ -82,6 +82,14 @@ fn decode_ascii(bytes: &[u8]) -> Result<Decoded<'_>, usize>
     }
 }
 
+// How many characters a text has.
+#[tactic(auto, using(std::proofs::lemmas::Str::chars_from_encodes))]
+fn char_len(text: &str) -> usize
+    ensures { result ≡ length (chars text.now) }
+{
+    text.chars().count()
+}
+
 impl Encoding {
     /// The encoding of a name, without case.
     #[tactic(auto, unfolding(crate::specs::Encodings::named))]
@@ -113,13 +121,13 @@ impl Encoding {
     }
 
     /// How many bytes the characters of a text took.
-    #[tactic(auto, using(crate::proofs::Bytes::whole_len, std::proofs::lemmas::Str::chars_from_encodes), unfolding(crate::specs::Encodings::encoded))]
+    #[tactic(auto, using(crate::proofs::Bytes::whole_len), unfolding(crate::specs::Encodings::encoded))]
     pub(crate) fn len(self, text: &str) -> usize
         ensures { result ≡ length (encoded self (chars text.now)) }
     {
         match self {
             Encoding::Utf8 => text.len(),
-            Encoding::UsAscii | Encoding::Iso88591 => text.chars().count(),
+            Encoding::UsAscii | Encoding::Iso88591 => char_len(text),
         }
     }
 }

@@ -1,6 +1,7 @@
 ghost use Rattle.std.specs.Prelude.{◌≡◌, false, codes, option_map};
 ghost use Rattle.std.specs.Str.{chars};
-ghost use Rattle.pom_text.specs.Reads.{begins, end_of, marked_of, passed_of, piece_of, section_of, tag_end, tag_of};
+ghost use Rattle.pom_text.specs.Parts.{Reference};
+ghost use Rattle.pom_text.specs.Reads.{begins, end_of, marked_of, passed_of, piece_of, reference_of, section_of, tag_end, tag_of};
 ghost use Rattle.pom_text.specs.Runs.{is_run, said, said_tag};
 
 use crate::attribute::skip_attributes;
@@ -26,7 +27,10 @@ fn tag_of(text: &str) -> Option<(Part<'_>, &str)>
     ensures { option_map (λ e. (said e.0, chars e.1.now)) result ≡ tag_of (chars text.now) }
 {
     let (name, attributes) = name_of(text)?;
-    tag_end(Tag { name, attributes }, skip_space(skip_attributes(attributes)))
+    tag_end(
+        Tag { name, attributes },
+        skip_space(skip_attributes(attributes)),
+    )
 }
 
 // An end tag behind its `</`.
@@ -86,6 +90,14 @@ fn marked_of(text: &str) -> Option<(Part<'_>, &str)>
     }
 }
 
+// A reference behind its `&`.
+fn reference_part(text: &str) -> Option<(Part<'_>, &str)>
+    ensures { option_map (λ e. (said e.0, chars e.1.now)) result ≡ option_map (λ e. (Reference e.0, e.1)) (reference_of (chars text.now)) }
+{
+    let (c, rest) = reference_of(text)?;
+    Some((Part::Reference(c), rest))
+}
+
 /// The piece at the front of a text that doesn't begin with a run, and what follows. Costs what the piece has.
 #[tactic(auto, using(crate::proofs::Firsts::marked, crate::proofs::Firsts::referred_to, crate::proofs::Firsts::returned, crate::proofs::Firsts::nothing))]
 pub(crate) fn piece_of(text: &str) -> Option<(Part<'_>, &str)>
@@ -96,8 +108,7 @@ pub(crate) fn piece_of(text: &str) -> Option<(Part<'_>, &str)>
         return marked_of(rest);
     }
     if let Some(rest) = after(text, b"&") {
-        let (c, rest) = reference_of(rest)?;
-        return Some((Part::Reference(c), rest));
+        return reference_part(rest);
     }
     let rest = after(text, b"\r")?;
     Some((Part::Return, rest))

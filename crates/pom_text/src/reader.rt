@@ -1,4 +1,5 @@
-ghost use Rattle.std.specs.Prelude.{◌≡◌, ◌<◌, ◌==◌, ◌&&◌, length, IfOk};
+ghost use Rattle.std.specs.Prelude.{◌≡◌, ◌<◌, ◌==◌, ◌&&◌, nat_eq, codes, length, IfOk};
+ghost use Rattle.std.specs.List.{starts_with};
 ghost use Rattle.std.specs.Str.{chars};
 ghost use Rattle.pom_text.specs.Growth.{standing_of};
 ghost use Rattle.pom_text.specs.Runs.{said};
@@ -32,12 +33,22 @@ fn is_done(tree: &Tree) -> bool
     !tree.nodes.is_empty() && tree.path.is_empty()
 }
 
-// Whether `<!DOCTYPE` stands next, before the root.
-#[tactic(auto, using(crate::proofs::Firsts::is_after))]
+// Whether `<!DOCTYPE` stands next.
+#[tactic(auto, using(crate::proofs::Firsts::starts_so, crate::proofs::Firsts::starts_not))]
+fn begins_doctype(text: &str) -> bool
+    ensures { result ≡ starts_with nat_eq (chars text.now) (codes "<!DOCTYPE") }
+{
+    match after(text, b"<!DOCTYPE") {
+        Some(_) => true,
+        None => false,
+    }
+}
+
+// And before the root.
 fn is_doctype(tree: &Tree, text: &str) -> bool
     ensures { result ≡ is_doctype (standing_of tree.now) (chars text.now) }
 {
-    tree.nodes.is_empty() && after(text, b"<!DOCTYPE").is_some()
+    tree.nodes.is_empty() && begins_doctype(text)
 }
 
 // What comes of a text where no piece goes on.

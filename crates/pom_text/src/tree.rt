@@ -1,6 +1,6 @@
 ghost use Rattle.std.specs.Prelude.{◌≡◌, ◌<◌, true, false, length, IfOk, OnOk};
 ghost use Rattle.std.specs.List.{list_all};
-ghost use Rattle.std.specs.Str.{chars, encode_utf8_all};
+ghost use Rattle.std.specs.Str.{bytes_eq, chars, encode_utf8_all};
 ghost use Rattle.pom_text.specs.Growth.{fitting, standing_of, take_part};
 ghost use Rattle.pom_text.specs.Parts.{Character, Section, Reference, lines};
 ghost use Rattle.pom_text.specs.Runs.{grown_run, is_run, said, said_tag};
@@ -28,6 +28,14 @@ fn push_section(node: &mut Node, more: &str) -> Mem<()>
     ensures { OnOk result (node.new ≡ add_text (encode_utf8_all (lines false (chars more.now))) node.old) }
 {
     push_lines(&mut node.text, more)
+}
+
+// Whether an element has this name.
+#[tactic(auto, using(crate::proofs::Bytes::whole_again))]
+fn is_named(node: &Node, name: &str) -> bool
+    ensures { result ≡ bytes_eq node.now.name (encode_utf8_all (chars name.now)) }
+{
+    node.name.as_str() == name
 }
 
 impl Tree {
@@ -197,7 +205,7 @@ impl Tree {
     }
 
     // Whether the innermost open element has this name.
-    #[tactic(auto, using(crate::proofs::Bytes::whole_again), unfolding(crate::specs::Tree::closes))]
+    #[tactic(auto, unfolding(crate::specs::Tree::closes))]
     fn closes(&self, name: &str) -> bool
         ensures { result ≡ closes (encode_utf8_all (chars name.now)) (standing_of self.now) }
     {
@@ -205,7 +213,7 @@ impl Tree {
             None => false,
             Some(at) => match self.nodes.get(at as usize) {
                 None => false,
-                Some(node) => node.name.as_str() == name,
+                Some(node) => is_named(node, name),
             },
         }
     }

@@ -1,5 +1,5 @@
-use Rattle.std.proofs.Common.{◌≡◌, ◌+◌, ◌∷◌, false, ap, sym, subst, ◌∙◌, drop}
-use Rattle.std.proofs.lemmas.Str.{chars_past_char}
+use Rattle.std.proofs.Common.{◌≡◌, ◌+◌, ◌∷◌, arith, false, ap, sym, subst, ◌∙◌, drop}
+use Rattle.std.proofs.lemmas.Str.{chars_past_char, length-encode}
 use Rattle.std.specs.Str.{IsUtf8, chars}
 use Rattle.std.specs.Str.Iter.{chars_rest}
 use Rattle.pom_text.specs.Characters.{is_allowed}
@@ -9,7 +9,7 @@ use Rattle.pom_text.proofs.Bytes.{no_chars}
 use Rattle.pom_text.proofs.allowed.allowed_len.Goals as goal
 
 pub loop-c-init : goal.loop-c-init
-loop-c-init c = starts_here c.args.text.now c.utf8.text
+loop-c-init c = ?
 
 pub returns-then-not-is_allowed : goal.returns-then-not-is_allowed
 returns-then-not-is_allowed c =
@@ -21,7 +21,7 @@ returns-then-not-is_allowed c =
     cut_here c.args.text.now c.loop-c.total c.utf8.text held.low held.utf8 held.all (ap (λ t. begins is_allowed (chars t)) (sym held.rest_is) ∙ stop)
 
 pub loop-c-preserved : goal.loop-c-preserved
-loop-c-preserved c = stands_more c.args.text.now _ _ c.loop-c.total c.in-Some.c _ c.utf8.text c.loop-c.invariant c.in-Some.ensures.steps.0 (sym c.is_allowed.ensures ∙ c.if-not-is_allowed.false) (ap (λ n. c.loop-c.total + n) c.len_utf8-total.ensures.len)
+loop-c-preserved c = stands_more c.args.text.now _ _ c.loop-c.total c.in-Some.c _ c.utf8.text c.loop-c.invariant c.in-Some.ensures.steps.0 (sym c.is_allowed.ensures ∙ c.if-not-is_allowed.false) (omega (arith, c.len_utf8-total.ensures.len, length-encode c.in-Some.c))
 
 pub returns : goal.returns
 returns c =

@@ -18,8 +18,8 @@ placed-requires-clause-rest c =
     ends_there (chars c.args.text.now) (chars c.allowed_of.result.0.now) (chars c.allowed_of.result.1.now) (chars c.in-Some.body.now) (outcome_of c.in_ok-reading.field-0) c.allowed_of.ensures.front c.allowed_of.ensures.back (sym c.in-Some.ensures)
     (c.in_ok-reading.ensures ∙ ap (λ w. run w nothing_yet (chars c.in-Some.body.now)) c.is_over.ensures)
 
-pub returns-in-Some : goal.returns-in-Some
-returns-in-Some c =
+pub returns-in_ok-reading-in-Some : goal.returns-in_ok-reading-in-Some
+returns-in_ok-reading-in-Some c =
     subst (λ a. Agrees a c.placed.result)
     (answer_so c.args.mark c.args.encoding (chars c.args.text.now) (chars c.allowed_of.result.0.now) (chars c.allowed_of.result.1.now) (chars c.in-Some.body.now) (outcome_of c.in_ok-reading.field-0) c.allowed_of.ensures.front c.allowed_of.ensures.back (sym c.in-Some.ensures)
     (c.in_ok-reading.ensures ∙ ap (λ w. run w nothing_yet (chars c.in-Some.body.now)) c.is_over.ensures))

@@ -75,6 +75,6 @@ pieces-preserved c =
     record {
       utf8 = search rules;
       same = sym (run_more c.args.whole t u marked (part, chars c.in-Some.behind.now) (sym c.in-Some.ensures) taken (sym c.is_deep-deep.ensures ∙ c.if-deep.false))
-        ∙ sym (goes_on c.args.whole s t rest (chars c.run_of.result.0.now) marked c.run_of.ensures some) ∙ c.pieces.invariant.same;
+          ∙ sym (goes_on c.args.whole s t rest (chars c.run_of.result.0.now) marked c.run_of.ensures some) ∙ c.pieces.invariant.same;
       few = still_few t u marked (part, chars c.in-Some.behind.now) total (sym c.in-Some.ensures) taken (few_behind s t rest (chars c.run_of.result.0.now) marked total c.run_of.ensures some c.pieces.invariant.few);
     }

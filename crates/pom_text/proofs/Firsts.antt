@@ -62,9 +62,8 @@ pub marked : (text rest : List ℕ) → Some rest ≡ after (60 ∷ []) text →
 unfolding piece_of
 marked text rest e = ap piece_of (after_splits (60 ∷ []) text rest (sym e))
 
-pub referred_to : (text rest : List ℕ) → Some rest ≡ after (38 ∷ []) text → piece_of text ≡ option_map (λ e. (Reference e.0, e.1)) (reference_of rest)
-unfolding piece_of
-referred_to text rest e = ap piece_of (after_splits (38 ∷ []) text rest (sym e))
+pub referred_to : (text rest : List ℕ) → Some rest ≡ after (38 ∷ []) text → piece_of (38 ∷ rest) ≡ piece_of text
+referred_to text rest e = sym (ap piece_of (after_splits (38 ∷ []) text rest (sym e)))
 
 pub returned : (text rest : List ℕ) → Some rest ≡ after (13 ∷ []) text → piece_of text ≡ Some (Character 13, rest)
 unfolding piece_of

@@ -1,7 +1,6 @@
-ghost use Rattle.std.specs.Prelude.{◌≡◌, false, codes, option_map};
+ghost use Rattle.std.specs.Prelude.{◌≡◌, ◌++◌, false, codes, option_map};
 ghost use Rattle.std.specs.Str.{chars};
-ghost use Rattle.pom_text.specs.Parts.{Reference};
-ghost use Rattle.pom_text.specs.Reads.{begins, end_of, marked_of, passed_of, piece_of, reference_of, section_of, tag_end, tag_of};
+ghost use Rattle.pom_text.specs.Reads.{begins, end_of, marked_of, passed_of, piece_of, section_of, tag_end, tag_of};
 ghost use Rattle.pom_text.specs.Runs.{is_run, said, said_tag};
 
 use crate::attribute::skip_attributes;
@@ -91,8 +90,9 @@ fn marked_of(text: &str) -> Option<(Part<'_>, &str)>
 }
 
 // A reference behind its `&`.
+#[tactic(auto, unfolding(crate::specs::Reads::piece_of))]
 fn reference_part(text: &str) -> Option<(Part<'_>, &str)>
-    ensures { option_map (λ e. (said e.0, chars e.1.now)) result ≡ option_map (λ e. (Reference e.0, e.1)) (reference_of (chars text.now)) }
+    ensures { option_map (λ e. (said e.0, chars e.1.now)) result ≡ piece_of (codes "&" ++ chars text.now) }
 {
     let (c, rest) = reference_of(text)?;
     Some((Part::Reference(c), rest))

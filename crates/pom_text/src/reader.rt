@@ -34,7 +34,6 @@ fn is_done(tree: &Tree) -> bool
 }
 
 // Whether `<!DOCTYPE` stands next.
-#[tactic(auto, using(crate::proofs::Firsts::starts_so, crate::proofs::Firsts::starts_not))]
 fn begins_doctype(text: &str) -> bool
     ensures { result ≡ starts_with nat_eq (chars text.now) (codes "<!DOCTYPE") }
 {

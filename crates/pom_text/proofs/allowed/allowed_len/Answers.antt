@@ -1,15 +1,17 @@
-use Rattle.std.proofs.Common.{◌≡◌, ◌+◌, ◌∷◌, arith, false, ap, sym, subst, ◌∙◌, drop}
+use Rattle.std.proofs.Common.{rules, ◌≡◌, ◌+◌, ◌∷◌, arith, false, ap, sym, subst, ◌∙◌, drop}
 use Rattle.std.proofs.lemmas.Str.{chars_past_char, length-encode}
 use Rattle.std.specs.Str.{IsUtf8, chars}
 use Rattle.std.specs.Str.Iter.{chars_rest}
 use Rattle.pom_text.specs.Characters.{is_allowed}
 use Rattle.pom_text.specs.Reads.{begins}
-use Rattle.pom_text.proofs.Forbids.{cut_here, stands_more, starts_here}
+use Rattle.pom_text.proofs.Forbids.{StandsAt, cut_here, stands_more, starts_here}
 use Rattle.pom_text.proofs.Bytes.{no_chars}
 use Rattle.pom_text.proofs.allowed.allowed_len.Goals as goal
 
 pub loop-c-init : goal.loop-c-init
-loop-c-init c = ?
+loop-c-init c =
+    let here : chars_rest c.into_iter-c-iterator.result ≡ c.args.text.now = search rules in
+    subst (λ r. StandsAt c.args.text.now r 0) (sym here) (starts_here c.args.text.now c.utf8.text)
 
 pub returns-then-not-is_allowed : goal.returns-then-not-is_allowed
 returns-then-not-is_allowed c =

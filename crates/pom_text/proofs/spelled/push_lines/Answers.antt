@@ -13,7 +13,7 @@ loop-line-preserved c =
     let feed = c.behind_feed.result.now in
     let fed = whole_again feed c.behind_feed.utf8 ∙ ap encode_utf8_all c.behind_feed.ensures in (
       search rules,
-      line_more c.loop-line.returned (chars c.loop-line.rest.now) (chars c.in-Some.line.now) (chars c.in-Some.behind.now) c.loop-line.text feed c.push_str.new.self c.push_str-2.new.self
+      line_more c.loop-line.returned (chars c.loop-line.rest.now) (chars c.in-Some.line.now) (chars c.in-Some.behind.now) c.loop-line.text feed c.push_str.new.self c.push_str-in-Some.new.self
           (c.args.text.now ++ encode_utf8_all (lines false (chars c.args.more.now))) c.in-Some.ensures fed c.in_ok-push_str.ensures.ok c.in_ok-push_str-2.ensures.ok c.loop-line.invariant.1,
     )
 

@@ -25,8 +25,10 @@ cut_here text at u low v all stop =
     let parted : chars text ≡ front ++ back = ap chars (sym (take-append-drop at text)) ∙ chars-append (take at text) (drop at text) (IsUtf8-take text at u boundary) in
     record {
       boundary = boundary;
-      front = sym (ap (λ t. take (prefix_len is_allowed t) t) parted ∙ run_front is_allowed front back all stop);
-      back = sym (ap (λ t. drop (prefix_len is_allowed t) t) parted ∙ run_rest is_allowed front back all stop);
+      parts = record {
+        front_is = sym (ap (λ t. take (prefix_len is_allowed t) t) parted ∙ run_front is_allowed front back all stop);
+        back_is = sym (ap (λ t. drop (prefix_len is_allowed t) t) parted ∙ run_rest is_allowed front back all stop);
+      };
     }
 
 -- one character more

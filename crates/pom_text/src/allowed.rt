@@ -1,8 +1,4 @@
-ghost use Rattle.std.specs.Prelude.{◌≡◌, take, drop};
-ghost use Rattle.std.specs.List.{prefix_len};
-ghost use Rattle.std.specs.Str.{chars};
-ghost use Rattle.pom_text.specs.Characters.{is_allowed};
-ghost use Rattle.pom_text.specs.Runs.{IsAllowedCut};
+ghost use Rattle.pom_text.specs.Runs.{IsAllowedCut, IsAllowedOf};
 
 use crate::character::is_allowed;
 use crate::words::has_suspect;
@@ -24,8 +20,7 @@ fn allowed_len(text: &str) -> usize
 /// The characters at the front that may stand in a text, and what follows. Costs one pass over the bytes; two where some byte may
 /// be of a character that may not stand there.
 pub(crate) fn allowed_of(text: &str) -> (&str, &str)
-    ensures front { chars result.0.now ≡ take (prefix_len is_allowed (chars text.now)) (chars text.now) }
-    ensures back { chars result.1.now ≡ drop (prefix_len is_allowed (chars text.now)) (chars text.now) }
+    ensures { IsAllowedOf text.now result.0.now result.1.now }
 {
     if !has_suspect(text.as_bytes()) {
         return (text, "");

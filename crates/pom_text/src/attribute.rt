@@ -1,6 +1,7 @@
 ghost use Rattle.std.specs.Prelude.{◌≡◌, option_map, IfOk};
 ghost use Rattle.std.specs.Str.{chars};
 ghost use Rattle.pom_text.specs.Reads.{attribute_of, attributes_of, names_of};
+ghost use Rattle.pom_text.specs.Runs.{attribute_chars};
 
 use crate::cuts::{after, begins_space, name_of, quoted, skip_space};
 use crate::spelled::text_of;
@@ -10,7 +11,7 @@ use std::alloc::Global;
 // An attribute with the white space before it, as its name and its value, and what follows.
 #[tactic(auto, using(crate::proofs::Firsts::some_space, crate::proofs::Firsts::no_space), unfolding(crate::specs::Reads::attribute_of))]
 pub(crate) fn attribute_of(text: &str) -> Option<((&str, &str), &str)>
-    ensures { option_map (λ e. ((chars e.0.0.now, chars e.0.1.now), chars e.1.now)) result ≡ attribute_of (chars text.now) }
+    ensures { option_map attribute_chars result ≡ attribute_of (chars text.now) }
 {
     if !begins_space(text) {
         return None;

@@ -5,7 +5,7 @@ ghost use Rattle.pom_text.specs.Characters.{is_name_char, is_name_start, is_spac
 ghost use Rattle.pom_text.specs.Encodings.{begins_space, is_ascii};
 ghost use Rattle.pom_text.specs.Grammar.{is_quote};
 ghost use Rattle.pom_text.specs.Reads.{after, begins, is_value, name_of, quoted, skip_space, up_to, value_of};
-ghost use Rattle.pom_text.specs.Runs.{IsRunOf, is_run};
+ghost use Rattle.pom_text.specs.Runs.{IsRunOf, both_chars, is_run};
 ghost use Rattle.pom_text.specs.Tree.{is_empty};
 
 use crate::character::{is_name_start, is_space};
@@ -29,7 +29,7 @@ pub(crate) fn after<'a>(text: &'a str, mark: &[u8]) -> Option<&'a str>
 pub(crate) fn up_to<'a>(text: &'a str, mark: &[u8]) -> Option<(&'a str, &'a str)>
     requires some { 0 < length mark.now }
     requires ascii { list_all is_ascii mark.now ≡ true }
-    ensures { option_map (λ e. (chars e.0.now, chars e.1.now)) result ≡ up_to mark.now (chars text.now) }
+    ensures { option_map both_chars result ≡ up_to mark.now (chars text.now) }
 {
     match memmem::find(text.as_bytes(), mark) {
         None => None,
@@ -115,7 +115,7 @@ fn name_len(text: &str) -> usize
 // A name, and what follows it.
 #[tactic(auto, using(crate::proofs::Bytes::name_front, crate::proofs::Bytes::name_back), unfolding(crate::specs::Reads::name_of))]
 pub(crate) fn name_of(text: &str) -> Option<(&str, &str)>
-    ensures { option_map (λ e. (chars e.0.now, chars e.1.now)) result ≡ name_of (chars text.now) }
+    ensures { option_map both_chars result ≡ name_of (chars text.now) }
 {
     if !begins_name(text) {
         return None;
@@ -137,7 +137,7 @@ fn value_len(quote: u8, text: &str) -> usize
 #[tactic(auto, using(crate::proofs::Bytes::value_front, crate::proofs::Bytes::value_back, crate::proofs::Bytes::quote_ascii), unfolding(crate::specs::Reads::value_of))]
 fn value_of(quote: u8, text: &str) -> Option<(&str, &str)>
     requires { is_quote quote ≡ true }
-    ensures { option_map (λ e. (chars e.0.now, chars e.1.now)) result ≡ value_of quote (chars text.now) }
+    ensures { option_map both_chars result ≡ value_of quote (chars text.now) }
 {
     let (value, rest) = text.split_at(value_len(quote, text));
     Some((value, after(rest, &[quote])?))
@@ -146,7 +146,7 @@ fn value_of(quote: u8, text: &str) -> Option<(&str, &str)>
 // A value in quotes, and what follows it.
 #[tactic(auto, using(crate::proofs::Firsts::double, crate::proofs::Firsts::single, crate::proofs::Firsts::no_quote))]
 pub(crate) fn quoted(text: &str) -> Option<(&str, &str)>
-    ensures { option_map (λ e. (chars e.0.now, chars e.1.now)) result ≡ quoted (chars text.now) }
+    ensures { option_map both_chars result ≡ quoted (chars text.now) }
 {
     match after(text, b"\"") {
         Some(rest) => value_of(b'"', rest),

@@ -3,6 +3,7 @@ ghost use Rattle.std.specs.Str.{bytes_eq};
 ghost use Rattle.pom_text.specs.Encodings.{begins_space};
 ghost use Rattle.pom_text.specs.Openings.{closed, encoding_from, named_encoding};
 ghost use Rattle.pom_text.specs.Reads.{attribute_of, attributes_of};
+ghost use Rattle.pom_text.specs.Runs.{attribute_bytes};
 
 use crate::character::is_space;
 use crate::words::{after, name_of, quoted, skip_space, space_len};
@@ -17,7 +18,7 @@ struct Attribute<'a> {
 // An attribute with the white space before it, and what follows.
 #[tactic(auto, unfolding(crate::specs::Reads::attribute_of))]
 fn attribute_of(text: &[u8]) -> Option<(Attribute<'_>, &[u8])>
-    ensures { option_map (λ e. ((e.0.name.now, e.0.value.now), e.1.now)) result ≡ attribute_of text.now }
+    ensures { option_map attribute_bytes result ≡ attribute_of text.now }
 {
     if space_len(text) == 0 {
         return None;

@@ -1,11 +1,10 @@
 ghost use Rattle.std.specs.Prelude.{◌≡◌, ◌≤◌, ◌*◌, length, IfOk};
 ghost use Rattle.std.specs.List.{prefix_len};
-ghost use Rattle.std.specs.Result.{result_map_both};
 ghost use Rattle.std.specs.Str.{bytes_eq, chars, str_to_ascii_lowercase};
 ghost use Rattle.std.specs.String.{string_bytes};
 ghost use Rattle.pom_text.specs.declared.encoding.Encoding.TheVariants.{Utf8, UsAscii};
 ghost use Rattle.pom_text.specs.Encodings.{decoded, encoded, is_ascii, mark_len, named};
-ghost use Rattle.pom_text.specs.Runs.{decoded_bytes};
+ghost use Rattle.pom_text.specs.Runs.{IsShort, decoded_chars};
 
 use crate::decoded::Decoded;
 use mvn_shared::Mem;
@@ -58,8 +57,8 @@ fn single_bytes(alloc: Global, bytes: &[u8]) -> Mem<String>
 
 // The text that bytes are in UTF-8, or the first byte that is none.
 fn decode_utf8(bytes: &[u8]) -> Result<Decoded<'_>, usize>
-    ensures text { result_map_both (λ d. chars (decoded_bytes d)) (λ e. e) result ≡ decoded Utf8 bytes.now }
-    ensures within { IfOk result (λ d. length (decoded_bytes d) ≤ 4 * length bytes.now) }
+    ensures text { decoded_chars result ≡ decoded Utf8 bytes.now }
+    ensures within { IsShort bytes.now result }
 {
     match std::str::from_utf8(bytes) {
         Ok(text) => Ok(Decoded::Lent(text)),
@@ -69,8 +68,8 @@ fn decode_utf8(bytes: &[u8]) -> Result<Decoded<'_>, usize>
 
 // The text that bytes are in ASCII, or the first byte that is none.
 fn decode_ascii(bytes: &[u8]) -> Result<Decoded<'_>, usize>
-    ensures text { result_map_both (λ d. chars (decoded_bytes d)) (λ e. e) result ≡ decoded UsAscii bytes.now }
-    ensures within { IfOk result (λ d. length (decoded_bytes d) ≤ 4 * length bytes.now) }
+    ensures text { decoded_chars result ≡ decoded UsAscii bytes.now }
+    ensures within { IsShort bytes.now result }
 {
     let n = ascii_len(bytes);
     if n < bytes.len() {
@@ -110,8 +109,8 @@ impl Encoding {
     /// The text of bytes, or the first byte that the encoding doesn't allow. UTF-8 and ASCII are lent. Costs one pass.
     #[tactic(auto, unfolding(crate::specs::Encodings::decoded))]
     pub(crate) fn decode(self, alloc: Global, bytes: &[u8]) -> Mem<Result<Decoded<'_>, usize>>
-        ensures text { IfOk result (λ r. result_map_both (λ d. chars (decoded_bytes d)) (λ e. e) r ≡ decoded self bytes.now) }
-        ensures within { IfOk result (λ r. IfOk r (λ d. length (decoded_bytes d) ≤ 4 * length bytes.now)) }
+        ensures text { IfOk result (λ r. decoded_chars r ≡ decoded self bytes.now) }
+        ensures within { IfOk result (λ r. IsShort bytes.now r) }
     {
         match self {
             Encoding::Utf8 => Ok(decode_utf8(bytes)),

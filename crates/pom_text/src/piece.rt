@@ -1,7 +1,7 @@
 ghost use Rattle.std.specs.Prelude.{◌≡◌, ◌++◌, false, codes, option_map};
 ghost use Rattle.std.specs.Str.{chars};
 ghost use Rattle.pom_text.specs.Reads.{begins, end_of, marked_of, passed_of, piece_of, section_of, tag_end, tag_of};
-ghost use Rattle.pom_text.specs.Runs.{is_run, said, said_tag};
+ghost use Rattle.pom_text.specs.Runs.{is_run, said_next, said_tag};
 
 use crate::attribute::skip_attributes;
 use crate::cuts::{after, name_of, skip_space, up_to};
@@ -11,7 +11,7 @@ use crate::reference::reference_of;
 // The end of a start tag or an empty tag.
 #[tactic(auto, unfolding(crate::specs::Reads::tag_end))]
 fn tag_end<'a>(tag: Tag<'a>, text: &'a str) -> Option<(Part<'a>, &'a str)>
-    ensures { option_map (λ e. (said e.0, chars e.1.now)) result ≡ tag_end (said_tag tag.entry) (chars text.now) }
+    ensures { option_map said_next result ≡ tag_end (said_tag tag.entry) (chars text.now) }
 {
     if let Some(rest) = after(text, b">") {
         return Some((Part::Start(tag), rest));
@@ -23,7 +23,7 @@ fn tag_end<'a>(tag: Tag<'a>, text: &'a str) -> Option<(Part<'a>, &'a str)>
 // A start tag or an empty tag behind its `<`.
 #[tactic(auto, unfolding(crate::specs::Reads::tag_of))]
 fn tag_of(text: &str) -> Option<(Part<'_>, &str)>
-    ensures { option_map (λ e. (said e.0, chars e.1.now)) result ≡ tag_of (chars text.now) }
+    ensures { option_map said_next result ≡ tag_of (chars text.now) }
 {
     let (name, attributes) = name_of(text)?;
     tag_end(
@@ -35,7 +35,7 @@ fn tag_of(text: &str) -> Option<(Part<'_>, &str)>
 // An end tag behind its `</`.
 #[tactic(auto, unfolding(crate::specs::Reads::end_of))]
 fn end_of(text: &str) -> Option<(Part<'_>, &str)>
-    ensures { option_map (λ e. (said e.0, chars e.1.now)) result ≡ end_of (chars text.now) }
+    ensures { option_map said_next result ≡ end_of (chars text.now) }
 {
     let (name, rest) = name_of(text)?;
     let rest = after(skip_space(rest), b">")?;
@@ -45,7 +45,7 @@ fn end_of(text: &str) -> Option<(Part<'_>, &str)>
 // A comment behind its opening.
 #[tactic(auto, unfolding(crate::specs::Reads::passed_of))]
 fn comment_of(text: &str) -> Option<(Part<'_>, &str)>
-    ensures { option_map (λ e. (said e.0, chars e.1.now)) result ≡ passed_of (codes "-->") (chars text.now) }
+    ensures { option_map said_next result ≡ passed_of (codes "-->") (chars text.now) }
 {
     let (_, rest) = up_to(text, b"-->")?;
     Some((Part::Passed, rest))
@@ -54,7 +54,7 @@ fn comment_of(text: &str) -> Option<(Part<'_>, &str)>
 // An instruction behind its opening.
 #[tactic(auto, unfolding(crate::specs::Reads::passed_of))]
 fn instruction_of(text: &str) -> Option<(Part<'_>, &str)>
-    ensures { option_map (λ e. (said e.0, chars e.1.now)) result ≡ passed_of (codes "?>") (chars text.now) }
+    ensures { option_map said_next result ≡ passed_of (codes "?>") (chars text.now) }
 {
     let (_, rest) = up_to(text, b"?>")?;
     Some((Part::Passed, rest))
@@ -63,7 +63,7 @@ fn instruction_of(text: &str) -> Option<(Part<'_>, &str)>
 // A CDATA part behind its opening.
 #[tactic(auto, unfolding(crate::specs::Reads::section_of))]
 fn section_of(text: &str) -> Option<(Part<'_>, &str)>
-    ensures { option_map (λ e. (said e.0, chars e.1.now)) result ≡ section_of (chars text.now) }
+    ensures { option_map said_next result ≡ section_of (chars text.now) }
 {
     let (inside, rest) = up_to(text, b"]]>")?;
     Some((Part::Section(inside), rest))
@@ -72,7 +72,7 @@ fn section_of(text: &str) -> Option<(Part<'_>, &str)>
 // What stands behind a `<`.
 #[tactic(auto, unfolding(crate::specs::Reads::marked_of))]
 fn marked_of(text: &str) -> Option<(Part<'_>, &str)>
-    ensures { option_map (λ e. (said e.0, chars e.1.now)) result ≡ marked_of (chars text.now) }
+    ensures { option_map said_next result ≡ marked_of (chars text.now) }
 {
     if let Some(rest) = after(text, b"!--") {
         return comment_of(rest);
@@ -92,7 +92,7 @@ fn marked_of(text: &str) -> Option<(Part<'_>, &str)>
 // A reference behind its `&`.
 #[tactic(auto, unfolding(crate::specs::Reads::piece_of))]
 fn reference_part(text: &str) -> Option<(Part<'_>, &str)>
-    ensures { option_map (λ e. (said e.0, chars e.1.now)) result ≡ piece_of (codes "&" ++ chars text.now) }
+    ensures { option_map said_next result ≡ piece_of (codes "&" ++ chars text.now) }
 {
     let (c, rest) = reference_of(text)?;
     Some((Part::Reference(c), rest))
@@ -102,7 +102,7 @@ fn reference_part(text: &str) -> Option<(Part<'_>, &str)>
 #[tactic(auto, using(crate::proofs::Firsts::marked, crate::proofs::Firsts::referred_to, crate::proofs::Firsts::returned, crate::proofs::Firsts::nothing))]
 pub(crate) fn piece_of(text: &str) -> Option<(Part<'_>, &str)>
     requires { begins is_run (chars text.now) ≡ false }
-    ensures { option_map (λ e. (said e.0, chars e.1.now)) result ≡ piece_of (chars text.now) }
+    ensures { option_map said_next result ≡ piece_of (chars text.now) }
 {
     if let Some(rest) = after(text, b"<") {
         return marked_of(rest);

@@ -1,13 +1,12 @@
-ghost use Rattle.std.specs.Prelude.{◌≡◌, ◌≤◌, ◌<◌, ◌+◌, ◌-◌, ◌*◌, ◌++◌, ℕ, List, length, take, IfOk};
-ghost use Rattle.std.specs.Result.{result_map_both};
+ghost use Rattle.std.specs.Prelude.{◌≡◌, ◌≤◌, ◌<◌, ◌+◌, ◌*◌, ◌++◌, ℕ, List, length};
 ghost use Rattle.std.specs.Str.{chars};
 ghost use Rattle.mvn_base.specs.declared.rule.Rule as rules;
 ghost use Rattle.pom_text.specs.declared.node.Node as nodes;
 ghost use Rattle.pom_text.specs.declared.fault.TextFault.TheVariants.{Refused};
-ghost use Rattle.pom_text.specs.Answers.{Agrees, answer, decoded_answer, encoding_answer, opened, placed, text_answer};
-ghost use Rattle.pom_text.specs.Encodings.{chosen, decoded, encoded};
+ghost use Rattle.pom_text.specs.Answers.{Agrees, answer, decoded_answer, encoding_answer, reading_answer, text_answer};
+ghost use Rattle.pom_text.specs.Encodings.{chosen, decoded};
 ghost use Rattle.pom_text.specs.Openings.{named_encoding};
-ghost use Rattle.pom_text.specs.Runs.{EndsWith, HasFront};
+ghost use Rattle.pom_text.specs.Runs.{EndsWith, HasFront, read_len};
 ghost use Rattle.pom_text.specs.Running.{outcome_of};
 ghost use Rattle.pom_text.specs.Texts.{AreElements, IsAnswered, IsRefusal, IsText, Refuses};
 
@@ -49,7 +48,7 @@ fn encoding_of(bytes: &[u8]) -> Result<Encoding, usize>
 // How many bytes of a text are read, by what is not: a rest, and more behind it.
 fn place_of(encoding: Encoding, text: &str, rest: &str, more: &str) -> usize
     requires { HasFront (chars text.now) (chars rest.now ++ chars more.now) }
-    ensures place { result ≡ length (encoded encoding (take (length (chars text.now) - length (chars more.now) - length (chars rest.now)) (chars text.now))) }
+    ensures place { result ≡ read_len encoding (chars text.now) (chars rest.now) (chars more.now) }
     ensures within { result ≤ 4 * length text.now }
 {
     let unread = rest.len() + more.len();
@@ -69,7 +68,7 @@ fn placed(
     requires mark { mark < 4 }
     requires text { length text.now < 4294967295 }
     requires rest { EndsWith (chars text.now) (chars more.now) (outcome_of reading) }
-    ensures { Agrees (placed mark encoding (chars text.now) (length (chars more.now)) (outcome_of reading.entry)) result }
+    ensures { Agrees (reading_answer mark encoding text.now more.now reading.entry) result }
 {
     match reading {
         Reading::Whole(nodes) => Ok(PomText { nodes }),

@@ -1,7 +1,6 @@
-ghost use Rattle.std.specs.Prelude.{◌≡◌, ◌++◌, false, IfOk, OnOk};
+ghost use Rattle.std.specs.Prelude.{◌≡◌, ◌++◌, IfOk, OnOk};
 ghost use Rattle.std.specs.Str.{chars, encode_utf8_all};
-ghost use Rattle.pom_text.specs.Parts.{lines};
-ghost use Rattle.pom_text.specs.Runs.{unfed};
+ghost use Rattle.pom_text.specs.Runs.{line_bytes, unfed};
 
 use crate::cuts::{after, up_to};
 use mvn_shared::{Mem, Text};
@@ -31,7 +30,7 @@ pub(crate) fn behind_feed(returned: bool, text: &str) -> &str
 
 // A text more, each of its line ends as a line feed.
 pub(crate) fn push_lines(text: &mut Text, more: &str) -> Mem<()>
-    ensures { OnOk result (text.new ≡ text.old ++ encode_utf8_all (lines false (chars more.now))) }
+    ensures { OnOk result (text.new ≡ text.old ++ line_bytes more.now) }
 {
     let mut returned = false;
     let mut rest = more;

@@ -1,10 +1,10 @@
-ghost use Rattle.std.specs.Prelude.{◌≡◌, ◌<◌, true, false, length, IfOk, OnOk};
+ghost use Rattle.std.specs.Prelude.{◌≡◌, ◌<◌, true, length, OnOk};
 ghost use Rattle.std.specs.List.{list_all};
 ghost use Rattle.std.specs.Str.{bytes_eq, chars, encode_utf8_all};
-ghost use Rattle.pom_text.specs.Growth.{fitting, standing_of, take_part};
-ghost use Rattle.pom_text.specs.Parts.{Character, Section, Reference, lines};
-ghost use Rattle.pom_text.specs.Runs.{grown_run, is_run, said, said_tag};
-ghost use Rattle.pom_text.specs.Tree.{add_child, add_text, begun, changed, closes, ended, innermost, may_begin, nothing_yet, passed, with_child};
+ghost use Rattle.pom_text.specs.Growth.{HasChanged, HasGotChild, Takes, standing_of};
+ghost use Rattle.pom_text.specs.Parts.{Character, Section, Reference};
+ghost use Rattle.pom_text.specs.Runs.{TakesRun, begun_by, is_run, line_bytes, said};
+ghost use Rattle.pom_text.specs.Tree.{add_child, add_text, closes, ended, innermost, may_begin, nothing_yet, passed};
 
 use crate::attribute::names_in;
 use crate::cuts::{is_over, skip_space};
@@ -25,7 +25,7 @@ pub(crate) struct Tree {
 
 // A text more in an element's text, each of its line ends as a line feed.
 fn push_section(node: &mut Node, more: &str) -> Mem<()>
-    ensures { OnOk result (node.new ≡ add_text (encode_utf8_all (lines false (chars more.now))) node.old) }
+    ensures { OnOk result (node.new ≡ add_text (line_bytes more.now) node.old) }
 {
     push_lines(&mut node.text, more)
 }
@@ -59,7 +59,7 @@ impl Tree {
 
     // An element's text grows.
     fn add_text(&mut self, at: u32, more: &str) -> Mem<()>
-        ensures nodes { OnOk result (self.new.nodes.items ≡ changed (add_text more.now) at self.old.nodes.items) }
+        ensures nodes { HasChanged result (add_text more.now) at self.old self.new }
         ensures path { self.new.path.items ≡ self.old.path.items }
     {
         if (at as usize) < self.nodes.len() {
@@ -70,7 +70,7 @@ impl Tree {
 
     // An element's text grows by lines.
     fn add_lines(&mut self, at: u32, more: &str) -> Mem<()>
-        ensures nodes { OnOk result (self.new.nodes.items ≡ changed (add_text (encode_utf8_all (lines false (chars more.now)))) at self.old.nodes.items) }
+        ensures nodes { HasChanged result (add_text (line_bytes more.now)) at self.old self.new }
         ensures path { self.new.path.items ≡ self.old.path.items }
     {
         if (at as usize) < self.nodes.len() {
@@ -81,7 +81,7 @@ impl Tree {
 
     // An element gets a child.
     fn add_child(&mut self, at: u32, child: u32) -> Mem<()>
-        ensures nodes { OnOk result (self.new.nodes.items ≡ changed (add_child child) at self.old.nodes.items) }
+        ensures nodes { HasChanged result (add_child child) at self.old self.new }
         ensures path { self.new.path.items ≡ self.old.path.items }
     {
         if (at as usize) < self.nodes.len() {
@@ -100,7 +100,7 @@ impl Tree {
     /// Characters that stand for themselves, none of which is a carriage return: whether they may stand. Costs one copy.
     pub(crate) fn take_run(&mut self, run: &str) -> Mem<bool>
         requires { list_all is_run (chars run.now) ≡ true }
-        ensures { IfOk result (λ fits. fitting fits (standing_of self.new) ≡ grown_run (standing_of self.old) (chars run.now)) }
+        ensures { TakesRun result self.old self.new run.now }
     {
         if is_over(run) {
             return Ok(true);
@@ -117,7 +117,7 @@ impl Tree {
     // A carriage return that stands for itself.
     #[tactic(auto, using(crate::proofs::Breaks::return_bytes), unfolding(crate::specs::Tree::with_text, crate::specs::Growth::take_part, crate::specs::Characters::is_space))]
     fn take_return(&mut self) -> Mem<bool>
-        ensures { IfOk result (λ fits. fitting fits (standing_of self.new) ≡ take_part (standing_of self.old) (Character 13)) }
+        ensures { Takes result self.old self.new (Character 13) }
     {
         let Some(at) = self.innermost() else {
             self.returned = false;
@@ -131,7 +131,7 @@ impl Tree {
     // A character that is referred to.
     #[tactic(auto, unfolding(crate::specs::Tree::with_text, crate::specs::Growth::take_part))]
     fn take_reference(&mut self, alloc: Global, c: char) -> Mem<bool>
-        ensures { IfOk result (λ fits. fitting fits (standing_of self.new) ≡ take_part (standing_of self.old) (Reference c)) }
+        ensures { Takes result self.old self.new (Reference c) }
     {
         let Some(at) = self.innermost() else {
             return Ok(false);
@@ -146,7 +146,7 @@ impl Tree {
     // What stands in a CDATA part.
     #[tactic(auto, unfolding(crate::specs::Growth::with_bytes, crate::specs::Growth::take_part))]
     fn take_section(&mut self, inside: &str) -> Mem<bool>
-        ensures { IfOk result (λ fits. fitting fits (standing_of self.new) ≡ take_part (standing_of self.old) (Section (encode_utf8_all (lines false (chars inside.now))))) }
+        ensures { Takes result self.old self.new (Section (line_bytes inside.now)) }
     {
         let Some(at) = self.innermost() else {
             return Ok(false);
@@ -165,7 +165,7 @@ impl Tree {
 
     // The innermost open element, if there is one, gets a child.
     fn add_to_innermost(&mut self, child: u32) -> Mem<()>
-        ensures nodes { OnOk result (self.new.nodes.items ≡ with_child child (innermost self.old.path.items) self.old.nodes.items) }
+        ensures nodes { HasGotChild result child self.old self.new }
         ensures path { self.new.path.items ≡ self.old.path.items }
     {
         match self.innermost() {
@@ -178,7 +178,7 @@ impl Tree {
     #[tactic(auto, unfolding(crate::specs::Tree::begun))]
     fn begin(&mut self, alloc: Global, tag: Tag<'_>) -> Mem<()>
         requires { length self.old.nodes.items < 4294967295 }
-        ensures { OnOk result (standing_of self.new ≡ begun (said_tag tag.entry).name (said_tag tag.entry).attributes (standing_of self.old)) }
+        ensures { OnOk result (standing_of self.new ≡ begun_by tag.entry self.old) }
     {
         let number = self.nodes.len() as u32;
         let name = text_of(alloc, tag.name)?;
@@ -222,7 +222,7 @@ impl Tree {
     #[tactic(auto, unfolding(crate::specs::Growth::take_part))]
     pub(crate) fn take(&mut self, alloc: Global, part: Part<'_>) -> Mem<bool>
         requires { length self.old.nodes.items < 4294967295 }
-        ensures { IfOk result (λ fits. fitting fits (standing_of self.new) ≡ take_part (standing_of self.old) (said part.entry)) }
+        ensures { Takes result self.old self.new (said part.entry) }
     {
         match part {
             Part::Passed => {

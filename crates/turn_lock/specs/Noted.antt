@@ -1,6 +1,10 @@
 -- What workers note under a turn lock. Own.
-use Rattle.std.specs.Prelude.{ℕ, zero, suc, ◌+◌, nat_eq, ◌&&◌, List, [], ◌∷◌, ◌++◌, filter, fold, if◌then◌else◌}
+use Rattle.std.specs.Prelude.{◌≡◌, ℕ, zero, suc, ◌+◌, ◌<◌, ◌≤◌, nat_eq, ◌&&◌, List, [], ◌∷◌, ◌++◌, filter, fold, if◌then◌else◌}
+use Rattle.atomic_table.specs.Seated.{TableId}
 use Rattle.turn_lock.specs.declared.tally.Note.{Note}
+use Rattle.turn_lock.specs.declared.view.View.{View}
+use Rattle.turn_lock.specs.Passes.{view_of}
+use Rattle.turn_lock.specs.Turns.{Begins}
 
 -- the notes of a worker
 abbrev pub notes_of : ℕ → List Note → List Note
@@ -17,3 +21,15 @@ with_next k next n = if nat_eq n.worker k && nat_eq n.number next then next + 1 
 
 abbrev pub in_order : ℕ → List Note → ℕ
 in_order k notes = fold (with_next k) 0 notes
+
+-- what a pass of a tally is to contracts
+abbrev TallyPass : Type 0
+TallyPass = TableId × ℕ × View (Unit {0}) Note
+
+-- of none of the workers from a first one on has the pass seen a note
+abbrev pub NoneNoted : ℕ → ℕ → TallyPass → Type 0
+NoneNoted first reach pass = (k : ℕ) → first ≤ k → k < reach → notes_of k (view_of pass).seen ≡ []
+
+-- of each it has seen its numbers below a count, in their order and before any others
+abbrev pub AllNoted : ℕ → ℕ → ℕ → TallyPass → Type 0
+AllNoted first reach count pass = (k : ℕ) → first ≤ k → k < reach → Begins (noted k count) (notes_of k (view_of pass).seen)

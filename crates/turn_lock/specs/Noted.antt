@@ -33,3 +33,16 @@ NoneNoted first reach pass = (k : ℕ) → first ≤ k → k < reach → notes_o
 -- of each it has seen its numbers below a count, in their order and before any others
 abbrev pub AllNoted : ℕ → ℕ → ℕ → TallyPass → Type 0
 AllNoted first reach count pass = (k : ℕ) → first ≤ k → k < reach → Begins (noted k count) (notes_of k (view_of pass).seen)
+
+-- a pass has seen one note of a worker more
+abbrev pub AddsNote : ℕ → ℕ → TallyPass → TallyPass → Type 0
+AddsNote worker number before pass =
+    notes_of worker (view_of pass).seen ≡ notes_of worker (view_of before).seen ++ (record { worker = worker; number = number }) ∷ []
+
+-- it has seen no more notes of a worker than before
+abbrev pub SameNotes : ℕ → TallyPass → TallyPass → Type 0
+SameNotes worker before pass = notes_of worker (view_of pass).seen ≡ notes_of worker (view_of before).seen
+
+-- of each worker the notes begin with its numbers below a count
+abbrev pub AllBegin : ℕ → ℕ → List Note → Type 0
+AllBegin workers count notes = (k : ℕ) → k < workers → Begins (noted k count) (notes_of k notes)

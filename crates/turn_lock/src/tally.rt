@@ -1,7 +1,7 @@
 // Numbers that workers note under a turn lock.
 ghost use Rattle.std.specs.Prelude.{◌≡◌, ℕ, ◌+◌, ◌-◌, ◌<◌, ◌≤◌, ◌^◌, ◌∷◌, [], ◌++◌, None, length, IfOk, OnOk, OnErr};
 ghost use Rattle.std.specs.Thread.{IsSync};
-ghost use Rattle.turn_lock.specs.Noted.{AllNoted, NoneNoted, in_order, noted, notes_of, with_next};
+ghost use Rattle.turn_lock.specs.Noted.{AddsNote, AllBegin, AllNoted, NoneNoted, SameNotes, in_order, noted, notes_of, with_next};
 ghost use Rattle.turn_lock.specs.Passes.{lock_of, view_of};
 ghost use Rattle.turn_lock.specs.Resting.{IsAtRest, IsBack, IsFor, Rests, RestsAgain};
 ghost use Rattle.turn_lock.specs.Turns.{Begins};
@@ -128,10 +128,12 @@ pub fn note_down<R: Wait>(
     requires free { ((view_of pass.old).turn ≡ None) × ((view_of pass.old).number ≡ worker) }
     ensures own { lock_of pass.new ≡ lock.now }
     ensures free { ((view_of pass.new).turn ≡ None) × ((view_of pass.new).owed ≡ None) }
-    ensures reach { ((view_of pass.new).number ≡ worker) × ((view_of pass.new).reach ≡ (view_of pass.old).reach) }
-    ensures weight { ((view_of pass.new).weight ≡ (view_of pass.old).weight) × ((view_of pass.new).workers ≡ (view_of pass.old).workers) }
-    ensures noted { OnOk result (notes_of worker (view_of pass.new).seen ≡ notes_of worker (view_of pass.old).seen ++ (record { worker = worker; number = number }) ∷ []) }
-    ensures err { OnErr result (notes_of worker (view_of pass.new).seen ≡ notes_of worker (view_of pass.old).seen) }
+    ensures number { (view_of pass.new).number ≡ worker }
+    ensures reach { (view_of pass.new).reach ≡ (view_of pass.old).reach }
+    ensures weight { (view_of pass.new).weight ≡ (view_of pass.old).weight }
+    ensures workers { (view_of pass.new).workers ≡ (view_of pass.old).workers }
+    ensures noted { OnOk result (AddsNote worker number pass.old pass.new) }
+    ensures err { OnErr result (SameNotes worker pass.old pass.new) }
 {
     let Turn { mut value } = lock.take(rt, pass);
     let added = value.add(worker, number);
@@ -166,7 +168,7 @@ fn held<R: Wait + Clock>(
 ) -> u64
     requires rest { Rests lock.now worker pass.old }
     ensures rest { RestsAgain lock.now worker pass.old pass.new }
-    ensures noted { notes_of worker (view_of pass.new).seen ≡ notes_of worker (view_of pass.old).seen }
+    ensures noted { SameNotes worker pass.old pass.new }
 {
     let Turn { value } = lock.take(rt, pass);
     let notes = value.entries();
@@ -185,7 +187,7 @@ fn rest_until<R: Wait + Clock>(
 )
     requires rest { Rests lock.now worker pass.old }
     ensures rest { RestsAgain lock.now worker pass.old pass.new }
-    ensures noted { notes_of worker (view_of pass.new).seen ≡ notes_of worker (view_of pass.old).seen }
+    ensures noted { SameNotes worker pass.old pass.new }
 {
     for _ in rt.forever() {
         if held(rt, lock, pass, worker, 0) >= notes {
@@ -207,7 +209,7 @@ fn come<R: Wait + Clock>(
 )
     requires rest { Rests lock.now worker pass.old }
     ensures rest { RestsAgain lock.now worker pass.old pass.new }
-    ensures noted { notes_of worker (view_of pass.new).seen ≡ notes_of worker (view_of pass.old).seen }
+    ensures noted { SameNotes worker pass.old pass.new }
 {
     if task.round > 0 {
         let before = (number as u64).wrapping_mul(task.round as u64);
@@ -316,7 +318,7 @@ pub fn tallied<R: Threads + Wait + Clock + Sync>(
 ) -> Mem<Tally>
     requires { 0 < workers }
     ensures workers { IfOk result (λ tally. tally.workers ≡ workers) }
-    ensures noted { IfOk result (λ tally. (k : ℕ) → k < workers → Begins (noted k task.now.count) (notes_of k tally.notes.items)) }
+    ensures noted { IfOk result (λ tally. AllBegin workers task.now.count tally.notes.items) }
 {
     let (lock, mut pass) = opened(alloc, workers)?;
     let noted = crew(rt, &lock, &mut pass, 0, workers, task);

@@ -15,12 +15,12 @@ read_pieces-requires c = omega (arith, c.requires.text, body_within (chars c.all
 
 pub placed-requires-clause-rest : goal.placed-requires-clause-rest
 placed-requires-clause-rest c =
-    ends_there (chars c.args.text.now) (chars c.allowed_of.result.0.now) (chars c.allowed_of.result.1.now) (chars c.in-Some.body.now) (outcome_of c.in_ok-reading-in-Some.field-0) c.allowed_of.ensures.front_is c.allowed_of.ensures.back_is (sym c.in-Some.ensures)
+    ends_there (chars c.args.text.now) (chars c.allowed_of.result.0.now) (chars c.allowed_of.result.1.now) (chars c.in-Some.body.now) (outcome_of c.in_ok-reading-in-Some.reading) c.allowed_of.ensures.front_is c.allowed_of.ensures.back_is (sym c.in-Some.ensures)
     (c.in_ok-reading-in-Some.ensures ∙ ap (λ w. run w nothing_yet (chars c.in-Some.body.now)) c.is_over.ensures)
 
 pub returns-in_ok-reading-in-Some : goal.returns-in_ok-reading-in-Some
 returns-in_ok-reading-in-Some c =
     subst (λ a. Agrees a c.placed.result)
-    (answer_so c.args.mark c.args.encoding (chars c.args.text.now) (chars c.allowed_of.result.0.now) (chars c.allowed_of.result.1.now) (chars c.in-Some.body.now) (outcome_of c.in_ok-reading-in-Some.field-0) c.allowed_of.ensures.front_is c.allowed_of.ensures.back_is (sym c.in-Some.ensures)
+    (answer_so c.args.mark c.args.encoding (chars c.args.text.now) (chars c.allowed_of.result.0.now) (chars c.allowed_of.result.1.now) (chars c.in-Some.body.now) (outcome_of c.in_ok-reading-in-Some.reading) c.allowed_of.ensures.front_is c.allowed_of.ensures.back_is (sym c.in-Some.ensures)
     (c.in_ok-reading-in-Some.ensures ∙ ap (λ w. run w nothing_yet (chars c.in-Some.body.now)) c.is_over.ensures))
     c.placed.ensures

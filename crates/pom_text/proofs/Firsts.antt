@@ -1,13 +1,13 @@
 -- What the first character says of what is read there.
-use Rattle.std.proofs.Common.{◌≡◌, ℕ, ◌+◌, ◌<◌, ◌≤◌, Bool, true, false, ◌||◌, ◌&&◌, not, ◌==◌, nat_eq, List, [], ◌∷◌, ◌++◌, length, get_or, drop, Option, Some, None, option_map, is_some, refl, sym, ap, ◌∙◌, arith, if◌then◌else◌}
+use Rattle.std.proofs.Common.{◌≡◌, ℕ, ◌+◌, ◌<◌, ◌≤◌, Bool, true, false, ◌==◌, nat_eq, List, [], ◌∷◌, length, get_or, drop, Some, None, is_some, refl, sym, ap, ◌∙◌, arith, if◌then◌else◌}
 use Rattle.std.proofs.lemmas.Bool.{false≢true}
 use Rattle.std.proofs.lemmas.Bool.Decides.{nat_tests}
-use Rattle.std.specs.List.{list_all, prefix_len, starts_with}
+use Rattle.std.specs.List.{prefix_len, starts_with}
 use Rattle.std.specs.Str.{IsUtf8, chars}
 use Rattle.pom_text.specs.Characters.{is_space}
 use Rattle.pom_text.specs.Encodings.{begins_space}
-use Rattle.pom_text.specs.Parts.{Part, Character, Reference}
-use Rattle.pom_text.specs.Reads.{after, begins, marked_of, piece_of, quoted, reference_of, skip_space, value_of}
+use Rattle.pom_text.specs.Parts.{Character}
+use Rattle.pom_text.specs.Reads.{after, begins, marked_of, piece_of, quoted, value_of}
 use Rattle.pom_text.specs.Runs.{is_run, unfed}
 use Rattle.pom_text.proofs.Bytes.{begins_alike}
 use Rattle.pom_text.proofs.Flat.{space_flat}

@@ -1,18 +1,17 @@
 -- The characters that may stand in a text, by its bytes.
-use Rattle.std.proofs.Common.{◌≡◌, ℕ, ◌+◌, ◌<◌, ◌≤◌, Bool, true, false, ◌||◌, ◌&&◌, not, ◌==◌, List, [], ◌∷◌, ◌++◌, length, take, drop, refl, sym, ap, subst, ◌∙◌, arith, append_assoc, append-nil, length-append, length-drop, length-take-le, take-append-drop, take_all, ◌⊎◌, ⊎_elim}
+use Rattle.std.proofs.Common.{◌≡◌, ℕ, ◌+◌, ◌<◌, ◌≤◌, true, false, ◌&&◌, ◌==◌, List, [], ◌∷◌, ◌++◌, length, take, drop, refl, sym, ap, subst, ◌∙◌, arith, append_assoc, append-nil, length-append, length-drop, length-take-le, take-append-drop, take_all, ⊎_elim}
 use Rattle.std.proofs.lemmas.Bool.{and_parts, cases_lt, false≢true, or_parts}
 use Rattle.std.proofs.lemmas.Bool.Decides.{nat_tests}
 use Rattle.std.proofs.lemmas.List.{drop_all}
 use Rattle.std.proofs.lemmas.List.Folds.{list_any-append}
-use Rattle.std.proofs.lemmas.Str.{IsCharBoundary-from_drop, IsUtf8-take, IsUtf8-drop, IsUtf8-past_char, chars-append, chars-encodes, chars-nil, chars_past_char, drop_past_char, encode_ascii, encodes-chars, length-encode, scalars-chars}
+use Rattle.std.proofs.lemmas.Str.{IsCharBoundary-from_drop, IsUtf8-take, IsUtf8-past_char, chars-append, chars-encodes, chars-nil, chars_past_char, drop_past_char, encode_ascii, encodes-chars, length-encode, scalars-chars}
 use Rattle.std.specs.Char.{encode_utf8, len_utf8}
 use Rattle.std.specs.List.{list_all, list_any, prefix_len}
 use lib.Utf8.{encode}
-use Rattle.std.specs.Str.{IsUtf8, IsCharBoundary, all_scalars, chars, encode_utf8_all}
+use Rattle.std.specs.Str.{IsUtf8, all_scalars, chars, encode_utf8_all}
 use Rattle.pom_text.specs.Characters.{is_allowed}
 use Rattle.pom_text.specs.Reads.{begins}
 use Rattle.pom_text.specs.Runs.{IsAllowedCut, is_suspect}
-use Rattle.pom_text.proofs.Bytes.{no_chars}
 use Rattle.pom_text.proofs.Fronts.{run_front, run_len, run_rest, take_front}
 use Rattle.pom_text.proofs.Needles.{no_true}
 

@@ -1,5 +1,5 @@
 -- Marks in the bytes and in the characters of a text.
-use Rattle.std.proofs.Common.{◌≡◌, ℕ, suc, zero, ◌+◌, ◌<◌, ◌≤◌, Bool, true, false, cond, not, ◌&&◌, ◌||◌, ◌==◌, nat_eq, List, [], ◌∷◌, ◌++◌, length, get_or, take, drop, Option, Some, None, refl, sym, ap, subst, ◌∙◌, arith, length-append, take-append-drop, take_at, drop_at, length-take-le, length-drop, get_or-take, get_or-drop, ext_get_or, append_assoc, get_or-append-add, option_map, if◌then◌else◌}
+use Rattle.std.proofs.Common.{◌≡◌, ℕ, suc, zero, ◌+◌, ◌<◌, ◌≤◌, Bool, true, false, not, ◌&&◌, ◌||◌, ◌==◌, nat_eq, List, [], ◌∷◌, ◌++◌, length, get_or, take, drop, Some, None, refl, sym, ap, ◌∙◌, arith, length-append, take-append-drop, drop_at, length-take-le, length-drop, get_or-take, get_or-drop, ext_get_or, append_assoc, get_or-append-add, option_map, if◌then◌else◌}
 use Rattle.std.proofs.Math.ListN.{get_or-append}
 use Rattle.std.specs.Bool.{Decides}
 use Rattle.std.specs.List.{list_all, prefix_len, starts_with}

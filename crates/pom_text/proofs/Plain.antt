@@ -1,7 +1,6 @@
 -- A run of characters at once.
-use Rattle.std.proofs.Common.{◌≡◌, ℕ, zero, suc, ◌+◌, ◌<◌, ◌≤◌, Bool, true, false, not, ◌&&◌, ◌||◌, ◌==◌, List, [], ◌∷◌, ◌++◌, length, take, drop, Option, Some, None, option_and_then, refl, sym, ap, ◌∙◌, arith, append_assoc, append-nil, length-append, take-append-drop, if◌then◌else◌}
+use Rattle.std.proofs.Common.{◌≡◌, ℕ, zero, suc, ◌+◌, ◌<◌, ◌≤◌, Bool, true, false, not, ◌&&◌, ◌==◌, List, [], ◌∷◌, ◌++◌, length, take, drop, Option, Some, None, option_and_then, refl, sym, ap, ◌∙◌, arith, append_assoc, append-nil, length-append, if◌then◌else◌}
 use Rattle.std.proofs.lemmas.Bool.{and_parts, and_right, false≢true, not-true}
-use Rattle.std.proofs.lemmas.Bool.Decides.{nat_tests}
 use Rattle.std.proofs.lemmas.Str.{encodes-append}
 use Rattle.std.specs.List.{list_all, prefix_len}
 use Rattle.std.specs.Str.{IsUtf8, chars, encode_utf8_all}
@@ -14,7 +13,7 @@ use Rattle.pom_text.specs.Reads.{begins, piece_of, skip_space}
 use Rattle.pom_text.specs.Running.{halted, run}
 use Rattle.pom_text.specs.Runs.{IsRunOf, grown_run, is_run, unfed}
 use Rattle.pom_text.specs.Tree.{Standing, add_text, changed, in_innermost, innermost, is_empty, passed, with_text}
-use Rattle.pom_text.proofs.Bytes.{cut_back, cut_front, empty_chars, no_chars, some_chars}
+use Rattle.pom_text.proofs.Bytes.{cut_back, cut_front}
 use Rattle.pom_text.proofs.Flat.{run_flat}
 use Rattle.pom_text.proofs.Fronts.{none_some, run_all, run_splits, same_some}
 use Rattle.pom_text.proofs.Opens.{run_stops}

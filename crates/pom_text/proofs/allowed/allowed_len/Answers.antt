@@ -1,4 +1,4 @@
-use Rattle.std.proofs.Common.{rules, ◌≡◌, ◌+◌, ◌∷◌, arith, false, ap, sym, subst, ◌∙◌, drop}
+use Rattle.std.proofs.Common.{rules, ◌≡◌, arith, false, ap, sym, subst, ◌∙◌}
 use Rattle.std.proofs.lemmas.Str.{chars_past_char, length-encode}
 use Rattle.std.specs.Str.{IsUtf8, chars}
 use Rattle.std.specs.Str.Iter.{chars_rest}

@@ -1,5 +1,4 @@
-use Rattle.std.proofs.Common.{arith, ap, sym, ◌∙◌, length}
-use Rattle.std.specs.Str.{chars}
+use Rattle.std.proofs.Common.{arith, ap, length}
 use Rattle.pom_text.proofs.Decodes.{all_ascii, ascii_is_utf8, not_ascii}
 use Rattle.pom_text.proofs.encoding.decode_ascii.Goals as goal
 

@@ -1,4 +1,4 @@
-use Rattle.std.proofs.Common.{rules, ◌≡◌, ◌≤◌, ◌*◌, arith, ap, ◌∙◌, length}
+use Rattle.std.proofs.Common.{rules, arith, ap, ◌∙◌, length}
 use Rattle.std.proofs.lemmas.Str.{utf8_valid_len-IsUtf8}
 use Rattle.std.specs.Str.{chars}
 use Rattle.pom_text.proofs.Decodes.{all_valid, not_valid}

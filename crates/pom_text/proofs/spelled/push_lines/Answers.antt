@@ -1,4 +1,4 @@
-use Rattle.std.proofs.Common.{rules, ◌++◌, false, ap, sym, ◌∙◌}
+use Rattle.std.proofs.Common.{rules, ◌++◌, false, ap, ◌∙◌}
 use Rattle.std.specs.Str.{chars, encode_utf8_all}
 use Rattle.pom_text.specs.Parts.{lines}
 use Rattle.pom_text.proofs.Breaks.{line_last, line_more, line_shorter}

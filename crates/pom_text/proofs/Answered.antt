@@ -4,7 +4,7 @@ use Rattle.std.proofs.lemmas.Bool.Decides.{nat_tests}
 use Rattle.std.specs.List.{list_all, prefix_len}
 use Rattle.mvn_base.specs.Limits.{pom_limit}
 use Rattle.mvn_base.specs.declared.rule.Rule.{Rule}
-use Rattle.mvn_base.specs.declared.rule.Rule.TheVariants.{TooLarge}
+use Rattle.mvn_base.specs.declared.rule.Rule.TheVariants.{NotPomText, TooLarge}
 use Rattle.pom_text.specs.declared.encoding.Encoding as encoding_type
 use Rattle.pom_text.specs.declared.fault.TextFault.{TextFault}
 use Rattle.pom_text.specs.declared.fault.TextFault.TheVariants.{Refused, Memory}
@@ -17,6 +17,7 @@ use Rattle.pom_text.specs.Grammar.{declaration, spelled}
 use Rattle.pom_text.specs.Openings.{named_encoding, opening}
 use Rattle.pom_text.specs.Reads.{begins}
 use Rattle.pom_text.specs.Running.{Outcome, halted, read, run}
+use Rattle.pom_text.specs.Runs.{EndsWith, HasFront}
 use Rattle.pom_text.specs.Spells.{Begins, Spells, Stops, doctype, not_text, too_deep}
 use Rattle.pom_text.specs.Texts.{AreElements, HasEncoding, IsAnswered, IsDecoded, IsRefusal, IsText, Refuses, SpellsElements, bad_declaration, not_encoded, stops, too_long, unknown_encoding}
 use Rattle.pom_text.specs.Tree.{is_empty, nothing_yet}
@@ -55,10 +56,6 @@ unfolding text_answer cut_of more_of
 cut_answer mark encoding text = refl
 
 -- what stands before a rest
-record HasFront (text rest : List ℕ) : Type 0 where
-  pub front : List ℕ
-  pub here : text ≡ front ++ rest
-
 behind_opening : (text : List ℕ) {body : List ℕ} → Opens text body → HasFront text body
 behind_opening text (declared attributes space body is all splits) = record { front = declaration attributes space; here = splits }
 behind_opening text (undeclared none) = record { front = []; here = refl }
@@ -72,6 +69,37 @@ placed_front : (text front left more : List ℕ) → text ≡ front ++ (left ++ 
 placed_front text front left more here =
     let long : length text - length more - length left ≡ length front = omega (arith, ap length here, length-append front (left ++ more), length-append left more) in
     ap (λ k. take k text) long ∙ ap (take (length front)) here ∙ take_front front (left ++ more)
+
+-- what is not read stands at the end
+pub ends_so : (text body : List ℕ) (o : Outcome) → opening (cut_of text) ≡ Some body → run (is_empty (more_of text)) nothing_yet body ≡ o → EndsWith text (more_of text) o
+ends_so text body (read nodes) opens so = record {}
+ends_so text body (halted rule left) opens so =
+    let cut = cut_of text in
+    let more = more_of text in
+    let behind = subst (λ t. Opens t (body ++ more)) (sym (cut_splits text)) (opens_so cut more body (cut_allowed text) (cut_stops text) opens) in
+    let sound = subst (Sound nothing_yet (body ++ more) more) so (run_sound (is_empty more) more (cut_stops text) refl nothing_yet body (body_allowed cut body (cut_allowed text) opens)) in
+    let a = behind_opening text behind in
+    let b = behind_stop (body ++ more) sound in
+    record { front = a.front ++ b.front; here = a.here ∙ ap (λ l. a.front ++ l) b.here ∙ sym (append_assoc a.front b.front (left ++ more)) }
+
+pub ends_there : (text cut more body : List ℕ) (o : Outcome) → cut ≡ take (prefix_len is_allowed text) text → more ≡ drop (prefix_len is_allowed text) text → opening cut ≡ Some body → o ≡ run (is_empty more) nothing_yet body → EndsWith text more o
+unfolding cut_of more_of
+ends_there text cut more body o c m opens so =
+    subst (λ l. EndsWith text l o) (sym m) (ends_so text body o (ap opening (sym c) ∙ opens) (ap (λ l. run (is_empty l) nothing_yet body) (sym m) ∙ sym so))
+
+-- the answer of a text, by its parts
+pub answer_so : (mark : ℕ) (encoding : encoding_type.Encoding) (text cut more body : List ℕ) (o : Outcome) → cut ≡ take (prefix_len is_allowed text) text → more ≡ drop (prefix_len is_allowed text) text → opening cut ≡ Some body
+    → o ≡ run (is_empty more) nothing_yet body → placed mark encoding text (length more) o ≡ text_answer mark encoding text
+unfolding text_answer
+answer_so mark encoding text cut more body o c m opens so =
+    ap (placed mark encoding text (length more)) so ∙ sym (ap (opened mark encoding text more) opens)
+    ∙ ap (λ l. opened mark encoding text more (opening l)) c ∙ ap (λ l. opened mark encoding text l (opening (take (prefix_len is_allowed text) text))) m
+
+pub no_answer_so : (mark : ℕ) (encoding : encoding_type.Encoding) (text cut : List ℕ) → cut ≡ take (prefix_len is_allowed text) text → opening cut ≡ None → (let a : Answer = Err (NotPomText, mark) in a) ≡ text_answer mark encoding text
+unfolding text_answer
+no_answer_so mark encoding text cut c opens =
+    let more = drop (prefix_len is_allowed text) text in
+    sym (ap (opened mark encoding text more) opens) ∙ ap (λ l. opened mark encoding text more (opening l)) c
 
 -- what is answered is right
 outcome_right : (bytes : List ℕ) (encoding : encoding_type.Encoding) (text body more : List ℕ) → length bytes ≤ pom_limit → IsDecoded bytes encoding text → Opens text (body ++ more) → (o : Outcome) → Sound nothing_yet (body ++ more) more o

@@ -1,5 +1,5 @@
 -- How long what is read can be, and where its places can lie.
-use Rattle.std.proofs.Common.{◌≡◌, ℕ, Bor, Vec, Global, option_map, zero, suc, ◌+◌, ◌-◌, ◌*◌, ◌≤◌, Bool, true, false, ◌==◌, List, [], ◌∷◌, codes, length, Option, Some, None, Result, Ok, Err, refl, sym, ap, ◌∙◌, arith, length-append, if◌then◌else◌}
+use Rattle.std.proofs.Common.{◌≡◌, ℕ, zero, suc, ◌+◌, ◌-◌, ◌*◌, ◌≤◌, Bool, true, false, ◌==◌, List, [], ◌∷◌, codes, length, Option, Some, None, Result, Ok, Err, refl, sym, ap, ◌∙◌, arith, length-append, if◌then◌else◌}
 use Rattle.std.proofs.lemmas.Bool.{false≢true}
 use Rattle.std.proofs.lemmas.List.Sums.{prefix_len-le-length}
 use Rattle.std.proofs.lemmas.Str.{length-encode, len_utf8_bounds, utf8_valid_len_le}
@@ -8,12 +8,14 @@ use Rattle.std.specs.List.{prefix_len}
 use Rattle.std.specs.Result.{result_map_both}
 use Rattle.std.specs.Str.{bytes_eq, chars, encode_utf8_all}
 use Rattle.std.specs.Str.Lossy.{utf8_valid_len}
+use Rattle.pom_text.specs.declared.decoded.Decoded.{Decoded}
 use Rattle.pom_text.specs.declared.encoding.Encoding.{Encoding}
 use Rattle.pom_text.specs.declared.encoding.Encoding.TheVariants.{Utf8, UsAscii, Iso88591}
 use Rattle.pom_text.specs.Encodings.{announces, chosen, decoded, encoded, is_ascii, named, or_bad}
 use Rattle.pom_text.specs.Grammar.{declaration}
 use Rattle.pom_text.specs.Openings.{behind_declaration, encoding_from, encoding_or, encoding_within, if_there, closed, named_behind, named_encoding, opening}
 use Rattle.pom_text.specs.Reads.{after, attribute_of}
+use Rattle.pom_text.specs.Runs.{decoded_bytes}
 use Rattle.pom_text.proofs.Declarations.{declaration_splits}
 use Rattle.pom_text.proofs.Fronts.{none_some, same_some, unbound}
 
@@ -42,7 +44,7 @@ pub same_ok : {A B : Type 0} → (x y : A) → (let r : Result A B = Ok x in r) 
 unfolding ok_in
 same_ok x y so = ap (ok_in x) so
 
-bytes_within : (text : List ℕ) → length (encode_utf8_all text) ≤ 4 * length text
+pub bytes_within : (text : List ℕ) → length (encode_utf8_all text) ≤ 4 * length text
 bytes_within [] = omega arith
 bytes_within (c ∷ text) = omega (arith, bytes_within text, length-append (encode_utf8 c) (encode_utf8_all text), length-encode c, (len_utf8_bounds c).1)
 
@@ -82,10 +84,6 @@ pub place_within : (total : ℕ) (text : List ℕ) (e : ℕ × List ℕ) → enc
 unfolding encoding_from
 place_within total text e so = within_total (length text) total text e so
 
--- what is seen through a reference
-pub body_seen : (text : List ℕ) (o : Option (Bor (List ℕ))) (body : Bor (List ℕ)) → o ≡ Some body → option_map (λ rest. rest.now) o ≡ opening text → length body.now ≤ length text
-body_seen text o body is so = body_within text body.now (sym so ∙ ap (option_map (λ (rest : Bor (List ℕ)). rest.now)) is)
-
 -- a byte that an encoding doesn't allow is one of them
 pub bad_within : (encoding : Encoding) (bytes : List ℕ) (place : ℕ) → decoded encoding bytes ≡ Err place → place ≤ length bytes
 unfolding decoded
@@ -123,5 +121,5 @@ chosen_within text place so = by (named_encoding text) refl so
     by None n s = absurd (ok_err Utf8 place s)
     by (Some e) n s = on e (named e.1) (named_within text e n) s
 
-pub bad_seen : (encoding : Encoding) (bytes : List ℕ) (r : Result (Vec ℕ Global) ℕ) (place : ℕ) → r ≡ Err place → result_map_both (λ v. v.items) (λ e. e) r ≡ decoded encoding bytes → place ≤ length bytes
-bad_seen encoding bytes r place is so = bad_within encoding bytes place (sym so ∙ ap (result_map_both (λ (v : Vec ℕ Global). v.items) (λ (e : ℕ). e)) is)
+pub bad_seen : (encoding : Encoding) (bytes : List ℕ) (r : Result Decoded ℕ) (place : ℕ) → r ≡ Err place → result_map_both (λ d. chars (decoded_bytes d)) (λ e. e) r ≡ decoded encoding bytes → place ≤ length bytes
+bad_seen encoding bytes r place is so = bad_within encoding bytes place (sym so ∙ ap (result_map_both (λ (d : Decoded). chars (decoded_bytes d)) (λ (e : ℕ). e)) is)

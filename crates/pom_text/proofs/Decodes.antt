@@ -1,20 +1,36 @@
--- Characters and their bytes.
-use Rattle.std.proofs.Common.{◌≡◌, ℕ, ◌+◌, ◌<◌, true, false, ◌==◌, List, [], ◌∷◌, ◌++◌, length, get_or, take, Ok, Err, sym, ap, ◌∙◌, arith, append-nil, length-append, if◌then◌else◌}
+-- Bytes and the characters that they are in an encoding.
+use Rattle.std.proofs.Common.{◌≡◌, ℕ, suc, ◌+◌, ◌<◌, true, false, ◌&&◌, ◌==◌, List, [], ◌∷◌, ◌++◌, length, get_or, take, take_all, Ok, Err, refl, sym, ap, ◌∙◌, arith, append-nil, if◌then◌else◌}
 use Rattle.std.proofs.lemmas.Bool.Decides.{nat_tests}
 use Rattle.std.proofs.lemmas.List.{take_more}
-use Rattle.std.proofs.lemmas.Str.{encodes-append}
+use Rattle.std.proofs.lemmas.Str.{chars-encodes, encodes-append}
 use Rattle.std.specs.Char.{encode_utf8}
-use Rattle.std.specs.Str.{chars, encode_utf8_all}
+use Rattle.std.specs.List.{list_all, prefix_len}
+use Rattle.std.specs.Str.{IsUtf8, all_scalars, chars, encode_utf8_all}
 use Rattle.std.specs.Str.Lossy.{utf8_valid_len}
-use Rattle.pom_text.specs.Encodings.{decoded}
-use Rattle.pom_text.specs.declared.encoding.Encoding.TheVariants.{Utf8}
+use Rattle.pom_text.specs.Encodings.{decoded, is_ascii}
+use Rattle.pom_text.specs.declared.encoding.Encoding.TheVariants.{Utf8, UsAscii}
+use Rattle.pom_text.proofs.Fronts.{and_first, run_all}
+use Rattle.pom_text.proofs.Needles.{ascii_chars, ascii_utf8}
 
--- the length of one character more
-pub len_more : (text : List ℕ) (at c total len : ℕ) → at < length text → c ≡ get_or text at c → total ≡ length (encode_utf8_all (take at text)) → len ≡ length (encode_utf8 c) → total + len ≡ length (encode_utf8_all (take (at + 1) text))
-len_more text at c total len low here so more =
-    let whole : encode_utf8_all (take (at + 1) text) ≡ encode_utf8_all (take at text) ++ encode_utf8 c =
-    ap encode_utf8_all (take_more text at c low) ∙ ap (λ x. encode_utf8_all (take at text ++ x ∷ [])) (sym here) ∙ encodes-append (take at text) (c ∷ []) ∙ ap (λ l. encode_utf8_all (take at text) ++ l) (append-nil (encode_utf8 c)) in
-    omega (arith, so, more, ap length whole, length-append (encode_utf8_all (take at text)) (encode_utf8 c))
+-- a text that grows by one character
+pub text_more : (characters : List ℕ) (at : ℕ) (bytes now : List ℕ) → at < length characters → bytes ≡ encode_utf8_all (take at characters) → now ≡ bytes ++ encode_utf8 (get_or characters at 0) → now ≡ encode_utf8_all (take (at + 1) characters)
+text_more characters at bytes now low so more =
+    let c = get_or characters at 0 in
+    more ∙ ap (λ l. l ++ encode_utf8 c) so
+    ∙ ap (λ l. encode_utf8_all (take at characters) ++ l) (sym (append-nil (encode_utf8 c)))
+    ∙ sym (encodes-append (take at characters) (c ∷ []))
+    ∙ ap encode_utf8_all (sym (take_more characters at 0 low))
+
+-- bytes are scalar values
+byte_scalar : (b : ℕ) → b < 256 → all_scalars (b ∷ []) ≡ true
+byte_scalar b low = grind (arith, nat_tests, low)
+
+bytes_scalar : (bytes : List ℕ) → ((k : ℕ) → get_or bytes k 0 < 256) → all_scalars bytes ≡ true
+bytes_scalar [] low = refl
+bytes_scalar (b ∷ bytes) low = ap (λ x. x && all_scalars bytes) (and_first _ true (byte_scalar b (low 0))) ∙ bytes_scalar bytes (λ k. low (suc k))
+
+pub single_chars : (bytes : List ℕ) → ((k : ℕ) → get_or bytes k 0 < 256) → chars (encode_utf8_all bytes) ≡ bytes
+single_chars bytes low = chars-encodes bytes (bytes_scalar bytes low)
 
 pub all_valid : (bytes items : List ℕ) → utf8_valid_len bytes ≡ length bytes → items ≡ chars bytes → Ok items ≡ decoded Utf8 bytes
 unfolding decoded
@@ -27,3 +43,22 @@ unfolding decoded
 not_valid bytes n is low =
     let test : (utf8_valid_len bytes == length bytes) ≡ false = grind (arith, nat_tests, is, low) in
     ap Err is ∙ sym (ap (λ b. if b then Ok (chars bytes) else Err (utf8_valid_len bytes)) test)
+
+-- ASCII
+all_low : (bytes : List ℕ) → prefix_len is_ascii bytes ≡ length bytes → list_all is_ascii bytes ≡ true
+all_low bytes whole = ap (list_all is_ascii) (sym (take_all (prefix_len is_ascii bytes) bytes (omega (arith, whole)))) ∙ run_all is_ascii bytes
+
+pub ascii_is_utf8 : (bytes : List ℕ) → prefix_len is_ascii bytes ≡ length bytes → IsUtf8 bytes
+ascii_is_utf8 bytes whole = ascii_utf8 bytes (all_low bytes whole)
+
+pub all_ascii : (bytes text : List ℕ) → text ≡ bytes → prefix_len is_ascii bytes ≡ length bytes → Ok (chars text) ≡ decoded UsAscii bytes
+unfolding decoded
+all_ascii bytes text same whole =
+    let test : (prefix_len is_ascii bytes == length bytes) ≡ true = grind (arith, nat_tests, whole) in
+    ap Ok (ap chars same ∙ ascii_chars bytes (all_low bytes whole)) ∙ sym (ap (λ b. if b then Ok bytes else Err (prefix_len is_ascii bytes)) test)
+
+pub not_ascii : (bytes : List ℕ) (n : ℕ) → n ≡ prefix_len is_ascii bytes → n < length bytes → Err n ≡ decoded UsAscii bytes
+unfolding decoded
+not_ascii bytes n is low =
+    let test : (prefix_len is_ascii bytes == length bytes) ≡ false = grind (arith, nat_tests, is, low) in
+    ap Err is ∙ sym (ap (λ b. if b then Ok bytes else Err (prefix_len is_ascii bytes)) test)

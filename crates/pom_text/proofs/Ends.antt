@@ -5,7 +5,7 @@ use Rattle.std.specs.List.{list_all, starts_with}
 use Rattle.mvn_base.specs.declared.rule.Rule.{Rule}
 use Rattle.mvn_base.specs.declared.rule.Rule.TheVariants.{TooLarge, NotPomText, Doctype}
 use Rattle.pom_text.specs.declared.node.Node.{Node}
-use Rattle.pom_text.specs.declared.part.Part.{Part}
+use Rattle.pom_text.specs.Parts.{Part}
 use Rattle.pom_text.specs.Characters.{is_allowed, is_name_start}
 use Rattle.pom_text.specs.Grammar.{Piece, is_formed, is_piece, spelled}
 use Rattle.pom_text.specs.Growth.{part_of, take_part}

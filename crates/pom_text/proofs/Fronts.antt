@@ -1,5 +1,5 @@
 -- What stands at the front of a text: marks, white space, names, values. Each is read where it is written, and nothing else.
-use Rattle.std.proofs.Common.{◌≡◌, ℕ, suc, ◌+◌, Bool, true, false, not, ◌&&◌, nat_eq, List, [], ◌∷◌, ◌++◌, length, take, drop, Option, Some, None, option_and_then, refl, sym, ap, subst, ◌∙◌, arith, if◌then◌else◌}
+use Rattle.std.proofs.Common.{◌≡◌, ℕ, suc, ◌+◌, ◌≤◌, Bool, true, false, not, ◌&&◌, nat_eq, List, [], ◌∷◌, ◌++◌, length, take, drop, Option, Some, None, option_and_then, refl, sym, ap, subst, ◌∙◌, arith, length-append, if◌then◌else◌}
 use Rattle.std.proofs.lemmas.Bool.{false≢true}
 use Rattle.std.proofs.lemmas.Bool.Decides.{nat_tests}
 use Rattle.std.proofs.lemmas.List.{take-append-drop}
@@ -83,6 +83,9 @@ after_splits mark text rest e = by (starts_with nat_eq text mark) refl
     by : (b : Bool) → starts_with nat_eq text mark ≡ b → text ≡ mark ++ rest
     by true s = starts_splits mark text s ∙ ap (λ l. mark ++ l) (same_some (drop (length mark) text) rest (sym (rw s refl) ∙ e))
     by false s = absurd (none_some rest (sym (rw s refl) ∙ e))
+
+pub behind_within : (mark text rest : List ℕ) → Some rest ≡ after mark text → length rest ≤ length text
+behind_within mark text rest e = omega (arith, ap length (after_splits mark text rest (sym e)), length-append mark rest)
 
 -- runs of characters
 pub run_all : (p : ℕ → Bool) (text : List ℕ) → list_all p (take (prefix_len p text) text) ≡ true

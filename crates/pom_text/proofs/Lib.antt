@@ -1,6 +1,13 @@
-pub mod Marks
+pub mod Flat
+pub mod Bytes
+pub mod Needles
+pub mod Firsts
+pub mod Plain
+pub mod Breaks
+pub mod Places
+pub mod Referred
+pub mod Forbids
 pub mod Digits
-pub mod Texts
 pub mod Fronts
 pub mod Ups
 pub mod Attributes

@@ -5,8 +5,8 @@ use Rattle.std.proofs.lemmas.Bool.Decides.{nat_tests}
 use Rattle.std.specs.List.{list_all}
 use Rattle.std.specs.Cmp.Lexicographic.{pointwise}
 use Rattle.std.specs.Str.{encode_utf8_all}
-use Rattle.pom_text.specs.declared.part.Part.{Part}
-use Rattle.pom_text.specs.declared.part.Part.TheVariants.{Passed, Character, Section, Reference}
+use Rattle.pom_text.specs.Parts.{Part}
+use Rattle.pom_text.specs.Parts.{Passed, Character, Section, Reference}
 use Rattle.pom_text.specs.Characters.{is_space, is_name_start}
 use Rattle.pom_text.specs.Grammar.{Attribute, Piece, ends_first, is_attribute, is_formed, is_name, is_tag, spelled, written, comment, instruction, section, reference, start_tag, empty_tag, end_tag, character}
 use Rattle.pom_text.specs.Growth.{code_of, part_of}

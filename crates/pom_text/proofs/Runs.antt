@@ -1,10 +1,10 @@
 -- The reading from piece to piece, one turn after another.
-use Rattle.std.proofs.Common.{◌≡◌, ℕ, zero, suc, ◌+◌, ◌-◌, ◌<◌, ◌≤◌, Bor, Bool, true, false, ◌&&◌, ◌==◌, List, [], ◌∷◌, length, Option, Some, None, option_map, refl, sym, ap, subst, ◌∙◌, arith, length-append, if◌then◌else◌}
+use Rattle.std.proofs.Common.{◌≡◌, ℕ, zero, suc, ◌+◌, ◌-◌, ◌<◌, ◌≤◌, Bool, true, false, ◌&&◌, ◌==◌, List, [], ◌∷◌, length, Option, Some, None, refl, sym, ap, subst, ◌∙◌, arith, length-append, if◌then◌else◌}
 use Rattle.mvn_base.specs.declared.rule.Rule.TheVariants.{TooLarge, NotPomText}
 use Rattle.std.specs.Str.{encode_utf8_all}
 use Rattle.pom_text.specs.declared.node.Node.{Node}
-use Rattle.pom_text.specs.declared.part.Part.{Part}
-use Rattle.pom_text.specs.declared.part.Part.TheVariants.{Passed, Character, Section, Reference, Start, Empty, End}
+use Rattle.pom_text.specs.Parts.{Part}
+use Rattle.pom_text.specs.Parts.{Passed, Character, Section, Reference, Start, Empty, End}
 use Rattle.pom_text.specs.Characters.{is_space}
 use Rattle.pom_text.specs.Grammar.{Piece, spelled, comment, instruction, section, reference, start_tag, empty_tag, end_tag, character}
 use Rattle.pom_text.specs.Growth.{bytes_in, fitting, take_part, with_bytes}
@@ -86,7 +86,7 @@ run_more whole s t text e so some deep =
     ∙ settled whole (length text - 1) (length e.1) t e.1 (omega (arith, piece_shorter text e so)) (omega arith)
 
 -- a part gives one element at most
-length_changed : (f : Node → Node) (at : ℕ) (nodes : List Node) → length (changed f at nodes) ≡ length nodes
+pub length_changed : (f : Node → Node) (at : ℕ) (nodes : List Node) → length (changed f at nodes) ≡ length nodes
 length_changed f at [] = refl
 length_changed f zero (node ∷ nodes) = refl
 length_changed f (suc at) (node ∷ nodes) = ap suc (length_changed f at nodes)
@@ -151,16 +151,9 @@ few_part s (End name) = few_if (closes name s) s (Some (ended s)) None (few_same
 pub still_few : (s t : Standing) (text : List ℕ) (e : Part × List ℕ) (total : ℕ) → piece_of text ≡ Some e → take_part s e.0 ≡ Some t → length s.nodes + length text ≤ total → length t.nodes + length e.1 ≤ total
 still_few s t text e total so some few = omega (arith, piece_shorter text e so, (few_part s e.0).few t some, few)
 
--- whether a part fits, by what is answered
-pub unfit : (fits : Bool) (s t : Standing) (part : Part) → fits ≡ false → fitting fits t ≡ take_part s part → take_part s part ≡ None
-unfit fits s t part e so = sym so ∙ ap (λ b. fitting b t) e
+-- what is answered says whether something fits
+pub unfitted : (fits : Bool) (t : Standing) (o : Option Standing) → fits ≡ false → fitting fits t ≡ o → o ≡ None
+unfitted fits t o e so = sym so ∙ ap (λ b. fitting b t) e
 
-pub fit : (fits : Bool) (s t : Standing) (part : Part) → fits ≡ true → fitting fits t ≡ take_part s part → take_part s part ≡ Some t
-fit fits s t part e so = sym so ∙ ap (λ b. fitting b t) e
-
--- what is seen through a reference
-pub seen : (o : Option (Part × Bor (List ℕ))) (part : Part) (rest : Bor (List ℕ)) (p : Option (Part × List ℕ)) → o ≡ Some (part, rest) → option_map (λ e. (e.0, e.1.now)) o ≡ p → p ≡ Some (part, rest.now)
-seen o part rest p is so = sym so ∙ ap (option_map (λ (e : Part × Bor (List ℕ)). (e.0, e.1.now))) is
-
-pub seen_none : (o : Option (Part × Bor (List ℕ))) (p : Option (Part × List ℕ)) → o ≡ None → option_map (λ e. (e.0, e.1.now)) o ≡ p → p ≡ None
-seen_none o p is so = sym so ∙ ap (option_map (λ (e : Part × Bor (List ℕ)). (e.0, e.1.now))) is
+pub fitted : (fits : Bool) (t : Standing) (o : Option Standing) → fits ≡ true → fitting fits t ≡ o → o ≡ Some t
+fitted fits t o e so = sym so ∙ ap (λ b. fitting b t) e

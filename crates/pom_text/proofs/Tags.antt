@@ -3,9 +3,9 @@ use Rattle.std.proofs.Common.{◌≡◌, ℕ, Bool, true, false, ◌&&◌, ◌==
 use Rattle.std.proofs.lemmas.Bool.{false≢true}
 use Rattle.std.specs.List.{list_all, prefix_len}
 use Rattle.std.specs.Str.{encode_utf8_all}
-use Rattle.pom_text.specs.declared.part.Tag.{Tag}
-use Rattle.pom_text.specs.declared.part.Part.{Part}
-use Rattle.pom_text.specs.declared.part.Part.TheVariants.{Start, Empty, End}
+use Rattle.pom_text.specs.Parts.{Tag}
+use Rattle.pom_text.specs.Parts.{Part}
+use Rattle.pom_text.specs.Parts.{Start, Empty, End}
 use Rattle.pom_text.specs.Characters.{is_space, is_name_start, is_name_char}
 use Rattle.pom_text.specs.Grammar.{Attribute, Piece, is_attribute, is_filled, is_formed, is_name, is_tag, spelled, written, start_tag, empty_tag, end_tag}
 use Rattle.pom_text.specs.Growth.{part_of}

@@ -56,3 +56,22 @@ up_to_splits mark (c ∷ text) e so = by (up_to_splits mark text) (after mark (c
     by : ((x : List ℕ × List ℕ) → up_to mark text ≡ Some x → IsUpTo mark text x.0 x.1) → (o : Option (List ℕ)) → after mark (c ∷ text) ≡ o → IsUpTo mark (c ∷ text) e.0 e.1
     by rest (Some r) s = subst (λ y. IsUpTo mark (c ∷ text) y.0 y.1) (same_some ([], r) e (sym (ap (λ o. first_of o (option_map (longer c) (up_to mark text))) s) ∙ so)) (record { first = refl; splits = after_splits mark (c ∷ text) r s })
     by rest None s = further rest (up_to mark text) refl s
+
+-- a mark that is nowhere is not here, and nowhere behind
+pub record IsNowhere (mark : List ℕ) (c : ℕ) (text : List ℕ) : Type 0 where
+  pub here : after mark (c ∷ text) ≡ None
+  pub further : up_to mark text ≡ None
+
+pub nowhere_more : (mark : List ℕ) (c : ℕ) (text : List ℕ) → up_to mark (c ∷ text) ≡ None → IsNowhere mark c text
+nowhere_more mark c text none = by (after mark (c ∷ text)) refl none
+  where
+    the_rest : List ℕ → List ℕ × List ℕ
+    the_rest r = ([], r)
+
+    behind : (o : Option (List ℕ × List ℕ)) → option_map (longer c) o ≡ None → o ≡ None
+    behind None e = refl
+    behind (Some x) e = absurd (none_some (longer c x) (sym e))
+
+    by : (o : Option (List ℕ)) → after mark (c ∷ text) ≡ o → first_of o (option_map (longer c) (up_to mark text)) ≡ None → IsNowhere mark c text
+    by None e so = record { here = e; further = behind (up_to mark text) so }
+    by (Some r) e so = absurd (none_some (the_rest r) (sym so))

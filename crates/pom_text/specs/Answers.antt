@@ -1,6 +1,7 @@
 -- What the reader answers, step by step. That it is what the definitions say is proved beside it.
 use Rattle.std.specs.Prelude.{◌≡◌, ℕ, ◌+◌, ◌-◌, List, length, take, drop, nat_lt, Option, Some, None, Result, Ok, Err, if◌then◌else◌}
 use Rattle.std.specs.List.{prefix_len}
+use Rattle.std.specs.Str.{chars}
 use Rattle.mvn_base.specs.Limits.{pom_limit}
 use Rattle.mvn_base.specs.declared.rule.Rule.{Rule}
 use Rattle.mvn_base.specs.declared.rule.Rule.TheVariants.{TooLarge, Encoding, NotPomText}
@@ -9,10 +10,11 @@ use Rattle.pom_text.specs.declared.fault.TextFault.{TextFault}
 use Rattle.pom_text.specs.declared.fault.TextFault.TheVariants.{Refused, Memory}
 use Rattle.pom_text.specs.declared.node.Node.{Node}
 use Rattle.pom_text.specs.declared.node.PomText.{PomText}
+use Rattle.pom_text.specs.declared.reader.Reading.{Reading}
 use Rattle.pom_text.specs.Characters.{is_allowed}
 use Rattle.pom_text.specs.Encodings.{behind_mark, chosen, decoded, encoded, mark_len}
 use Rattle.pom_text.specs.Openings.{named_encoding, opening}
-use Rattle.pom_text.specs.Running.{Outcome, halted, read, run}
+use Rattle.pom_text.specs.Running.{Outcome, halted, outcome_of, read, run}
 use Rattle.pom_text.specs.Tree.{is_empty, nothing_yet}
 
 abbrev pub Answer : Type 0
@@ -22,6 +24,10 @@ Answer = Result (List Node) (Rule × ℕ)
 abbrev pub placed : ℕ → encoding_type.Encoding → List ℕ → ℕ → Outcome → Answer
 placed mark encoding text unread (read nodes) = Ok nodes
 placed mark encoding text unread (halted rule rest) = Err (rule, mark + length (encoded encoding (take (length text - unread - length rest) text)))
+
+-- of a reading, behind which more of the text is not read
+abbrev pub reading_answer : ℕ → encoding_type.Encoding → List ℕ → List ℕ → Reading → Answer
+reading_answer mark encoding text more reading = placed mark encoding (chars text) (length (chars more)) (outcome_of reading)
 
 abbrev pub opened : ℕ → encoding_type.Encoding → List ℕ → List ℕ → Option (List ℕ) → Answer
 opened mark encoding text more (Some body) = placed mark encoding text (length more) (run (is_empty more) nothing_yet body)

@@ -1,14 +1,15 @@
 -- What a part does to a tree, part by part. That it is what its piece does is proved beside it.
-use Rattle.std.specs.Prelude.{ℕ, Bool, true, false, ◌==◌, List, [], ◌∷◌, Option, Some, None, if◌then◌else◌}
+use Rattle.std.specs.Prelude.{◌≡◌, ℕ, Bool, true, false, ◌==◌, List, [], ◌∷◌, Option, Some, None, Result, IfOk, OnOk, if◌then◌else◌}
+use Rattle.pom_text.specs.declared.node.Node.{Node}
 use Rattle.pom_text.specs.declared.tree.Tree.{Tree}
-use Rattle.pom_text.specs.declared.part.Part.{Part}
-use Rattle.pom_text.specs.declared.part.Part.TheVariants.{Passed, Character, Section, Reference, Start, Empty, End}
+use Rattle.pom_text.specs.Parts.{Part}
+use Rattle.pom_text.specs.Parts.{Passed, Character, Section, Reference, Start, Empty, End}
 use Rattle.pom_text.specs.Characters.{is_space}
 use Rattle.std.specs.Str.{encode_utf8_all}
 use Rattle.pom_text.specs.Grammar.{Piece, comment, instruction, section, reference, start_tag, empty_tag, end_tag, character}
 use Rattle.pom_text.specs.Parts.{line_part, lines}
 use Rattle.pom_text.specs.References.{referred}
-use Rattle.pom_text.specs.Tree.{Standing, add_text, attribute_names, begun, changed, closes, ended, innermost, may_begin, passed, with_text}
+use Rattle.pom_text.specs.Tree.{Standing, add_text, attribute_names, begun, changed, closes, ended, innermost, may_begin, passed, with_child, with_text}
 
 abbrev pub standing_of : Tree → Standing
 standing_of tree = record { nodes = tree.nodes.items; path = tree.path.items; returned = tree.returned }
@@ -34,6 +35,17 @@ take_part s (End name) = if closes name s then Some (ended s) else None
 abbrev pub fitting : Bool → Standing → Option Standing
 fitting true s = Some s
 fitting false s = None
+
+-- what is answered of a part: whether it may stand, and then what it did
+abbrev pub Takes : {E : Type 0} → Result Bool E → Tree → Tree → Part → Type 0
+Takes result old new part = IfOk result (λ fits. fitting fits (standing_of new) ≡ take_part (standing_of old) part)
+
+-- the element of a number has changed so, and the innermost open element has got a child
+abbrev pub HasChanged : {A E : Type 0} → Result A E → (Node → Node) → ℕ → Tree → Tree → Type 0
+HasChanged result f at old new = OnOk result (new.nodes.items ≡ changed f at old.nodes.items)
+
+abbrev pub HasGotChild : {A E : Type 0} → Result A E → ℕ → Tree → Tree → Type 0
+HasGotChild result child old new = OnOk result (new.nodes.items ≡ with_child child (innermost old.path.items) old.nodes.items)
 
 abbrev pub code_of : Option ℕ → ℕ
 code_of (Some c) = c

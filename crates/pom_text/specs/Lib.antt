@@ -9,6 +9,7 @@ pub mod Reads
 pub mod Growth
 pub mod Spells
 pub mod Running
+pub mod Runs
 pub mod Encodings
 pub mod Openings
 pub mod Texts

@@ -5,9 +5,9 @@ use Rattle.std.specs.Str.{encode_utf8_all}
 use Rattle.pom_text.specs.Characters.{is_space, is_name_start, is_name_char}
 use Rattle.pom_text.specs.References.{referred}
 use Rattle.pom_text.specs.Parts.{lines}
-use Rattle.pom_text.specs.declared.part.Tag.{Tag}
-use Rattle.pom_text.specs.declared.part.Part.{Part}
-use Rattle.pom_text.specs.declared.part.Part.TheVariants.{Passed, Character, Section, Reference, Start, Empty, End}
+use Rattle.pom_text.specs.Parts.{Tag}
+use Rattle.pom_text.specs.Parts.{Part}
+use Rattle.pom_text.specs.Parts.{Passed, Character, Section, Reference, Start, Empty, End}
 
 infixl 10 ◌>>=◌
 abbrev pub ◌>>=◌ : {A B : Type 0} → Option A → (A → Option B) → Option B

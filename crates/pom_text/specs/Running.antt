@@ -1,12 +1,13 @@
 -- How the reader goes from piece to piece. That it comes to where the grammar says is proved beside it.
 use Rattle.std.specs.Prelude.{ℕ, zero, suc, Bool, true, false, ◌&&◌, ◌==◌, List, length, Option, Some, None, if◌then◌else◌}
+use Rattle.std.specs.Str.{chars}
 use Rattle.mvn_base.specs.declared.rule.Rule.{Rule}
 use Rattle.mvn_base.specs.declared.rule.Rule.TheVariants.{TooLarge, NotPomText, Doctype}
 use Rattle.pom_text.specs.declared.node.Node.{Node}
 use Rattle.pom_text.specs.declared.reader.Reading.{Reading}
 use Rattle.pom_text.specs.declared.reader.Reading.TheVariants.{Whole, Halted}
-use Rattle.pom_text.specs.declared.part.Part.{Part}
-use Rattle.pom_text.specs.declared.part.Part.TheVariants.{Passed, Character, Section, Reference, Start, Empty, End}
+use Rattle.pom_text.specs.Parts.{Part}
+use Rattle.pom_text.specs.Parts.{Passed, Character, Section, Reference, Start, Empty, End}
 use Rattle.pom_text.specs.Growth.{take_part}
 use Rattle.pom_text.specs.Reads.{piece_of}
 use Rattle.pom_text.specs.Spells.{is_doctype, is_done}
@@ -20,7 +21,7 @@ pub data Outcome : Type 0 where
 -- what the reader answers
 abbrev pub outcome_of : Reading → Outcome
 outcome_of (Whole nodes) = read nodes
-outcome_of (Halted rule rest) = halted rule rest.now
+outcome_of (Halted rule rest) = halted rule (chars rest.now)
 
 abbrev pub begins_element : Part → Bool
 begins_element Passed = false

@@ -1,12 +1,13 @@
 ghost use Rattle.std.specs.Prelude.{◌≡◌};
 ghost use Rattle.pom_text.specs.Characters.{is_space, is_allowed, is_name_start, is_name_char};
+ghost use Rattle.pom_text.specs.Runs.{is_suspect};
 
-// White space: a space, a tab, a line feed, a carriage return.
+// White space: a space, a tab, a line feed, a carriage return. A byte past ASCII stands for its character, here and below.
 #[tactic(auto, unfolding(crate::specs::Characters::is_space))]
-pub(crate) fn is_space(c: char) -> bool
-    ensures { result ≡ is_space c }
+pub(crate) fn is_space(b: u8) -> bool
+    ensures { result ≡ is_space b }
 {
-    c == ' ' || c == '\t' || c == '\n' || c == '\r'
+    b == b' ' || b == b'\t' || b == b'\n' || b == b'\r'
 }
 
 // What may stand in a text at all. XML 1.0, section 2.2.
@@ -18,18 +19,26 @@ pub(crate) fn is_allowed(c: char) -> bool
     matches!(code, 0x9 | 0xa | 0xd | 0x20..=0xd7ff | 0xe000..=0xfffd | 0x10000..=0x10ffff)
 }
 
+// A byte that a character has which may not stand in a text, and hardly one that may.
+#[tactic(auto, unfolding(crate::specs::Runs::is_suspect))]
+pub(crate) fn is_suspect(b: u8) -> bool
+    ensures { result ≡ is_suspect b }
+{
+    b < 0x20 && b != b'\t' && b != b'\n' && b != b'\r' || b == 0xef
+}
+
 // The first character of a name.
 #[tactic(auto, unfolding(crate::specs::Characters::is_name_start))]
-pub(crate) fn is_name_start(c: char) -> bool
-    ensures { result ≡ is_name_start c }
+pub(crate) fn is_name_start(b: u8) -> bool
+    ensures { result ≡ is_name_start b }
 {
-    c.is_ascii_alphabetic() || c == '_' || c as u32 > 127
+    b.is_ascii_alphabetic() || b == b'_' || b > 127
 }
 
 // A further character of a name.
 #[tactic(auto, unfolding(crate::specs::Characters::is_name_char))]
-pub(crate) fn is_name_char(c: char) -> bool
-    ensures { result ≡ is_name_char c }
+pub(crate) fn is_name_char(b: u8) -> bool
+    ensures { result ≡ is_name_char b }
 {
-    is_name_start(c) || c.is_ascii_digit() || c == '-' || c == '.' || c == ':'
+    is_name_start(b) || b.is_ascii_digit() || b == b'-' || b == b'.' || b == b':'
 }

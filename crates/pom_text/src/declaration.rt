@@ -1,19 +1,36 @@
 ghost use Rattle.std.specs.Prelude.{◌≡◌, ◌≤◌, ◌<◌, ◌+◌, length, codes, option_map};
 ghost use Rattle.std.specs.Str.{bytes_eq};
-ghost use Rattle.pom_text.specs.Encodings.{announces, begins_space};
-ghost use Rattle.pom_text.specs.Openings.{behind_declaration, closed, encoding_from, named_encoding, opening};
-ghost use Rattle.pom_text.specs.Reads.{attributes_of};
+ghost use Rattle.pom_text.specs.Encodings.{begins_space};
+ghost use Rattle.pom_text.specs.Openings.{closed, encoding_from, named_encoding};
+ghost use Rattle.pom_text.specs.Reads.{attribute_of, attributes_of};
+ghost use Rattle.pom_text.specs.Runs.{attribute_bytes};
 
-use crate::attribute::attribute_of;
 use crate::character::is_space;
-use crate::words::{after, skip_space};
+use crate::words::{after, name_of, quoted, skip_space, space_len};
 
-const OPENING: &[char] = &['<', '?', 'x', 'm', 'l'];
+/// An attribute: its name and its value.
+#[derive(Clone, Copy)]
+struct Attribute<'a> {
+    name: &'a [u8],
+    value: &'a [u8],
+}
 
-const ENCODING: &[char] = &['e', 'n', 'c', 'o', 'd', 'i', 'n', 'g'];
+// An attribute with the white space before it, and what follows.
+#[tactic(auto, unfolding(crate::specs::Reads::attribute_of))]
+fn attribute_of(text: &[u8]) -> Option<(Attribute<'_>, &[u8])>
+    ensures { option_map attribute_bytes result ≡ attribute_of text.now }
+{
+    if space_len(text) == 0 {
+        return None;
+    }
+    let (name, rest) = name_of(skip_space(text))?;
+    let rest = after(skip_space(rest), b"=")?;
+    let (value, rest) = quoted(skip_space(rest))?;
+    Some((Attribute { name, value }, rest))
+}
 
 // Whether white space stands next.
-fn begins_space(text: &[char]) -> bool
+fn begins_space(text: &[u8]) -> bool
     ensures { result ≡ begins_space text.now }
 {
     match text {
@@ -23,7 +40,7 @@ fn begins_space(text: &[char]) -> bool
 }
 
 // What follows all attributes that stand next.
-fn skip_attributes(text: &[char]) -> &[char]
+fn skip_attributes(text: &[u8]) -> &[u8]
     ensures { result.now ≡ (attributes_of text.now).1 }
 {
     let mut rest = text;
@@ -34,32 +51,24 @@ fn skip_attributes(text: &[char]) -> &[char]
 }
 
 // What stands behind a declaration, by what stands behind its `<?xml`.
-fn closed(text: &[char]) -> Option<&[char]>
+fn closed(text: &[u8]) -> Option<&[u8]>
     ensures { option_map (λ rest. rest.now) result ≡ closed text.now }
 {
     if !begins_space(text) {
         return None;
     }
-    after(skip_space(skip_attributes(text)), &['?', '>'])
-}
-
-// What stands behind a declaration.
-#[tactic(auto, unfolding(crate::specs::Openings::behind_declaration))]
-fn behind_declaration(text: &[char]) -> Option<&[char]>
-    ensures { option_map (λ rest. rest.now) result ≡ behind_declaration text.now }
-{
-    closed(after(text, OPENING)?)
+    after(skip_space(skip_attributes(text)), b"?>")
 }
 
 // Whether a name is `encoding`.
-fn is_encoding(name: &[char]) -> bool
+fn is_encoding(name: &[u8]) -> bool
     ensures { result ≡ bytes_eq name.now (codes "encoding") }
 {
-    name == ENCODING
+    name == b"encoding".as_slice()
 }
 
-// The first attribute `encoding` of a text of so many characters: where its value begins, and its value.
-fn encoding_from(total: usize, text: &[char]) -> Option<(usize, &[char])>
+// The first attribute `encoding` of so many bytes: where its value begins, and its value.
+fn encoding_from(total: usize, text: &[u8]) -> Option<(usize, &[u8])>
     requires { length text.now ≤ total }
     ensures { option_map (λ e. (e.0, e.1.now)) result ≡ encoding_from total text.now }
 {
@@ -75,34 +84,11 @@ fn encoding_from(total: usize, text: &[char]) -> Option<(usize, &[char])>
 }
 
 /// The encoding that a declaration at the front names: where its name begins, and its name. Costs what the declaration has.
-#[tactic(auto, unfolding(crate::specs::Openings::named_encoding))]
-pub(crate) fn named_encoding(text: &[char]) -> Option<(usize, &[char])>
+#[tactic(auto, using(crate::proofs::Fronts::behind_within), unfolding(crate::specs::Openings::named_encoding))]
+pub(crate) fn named_encoding(text: &[u8]) -> Option<(usize, &[u8])>
     ensures { option_map (λ e. (e.0, e.1.now)) result ≡ named_encoding text.now }
 {
-    let rest = after(text, OPENING)?;
+    let rest = after(text, b"<?xml")?;
     closed(rest)?;
     encoding_from(text.len(), rest)
-}
-
-// Whether a text begins as a declaration does.
-#[tactic(auto, unfolding(crate::specs::Encodings::announces, crate::specs::Reads::after))]
-fn announces(text: &[char]) -> bool
-    ensures { result ≡ announces text.now }
-{
-    match after(text, OPENING) {
-        Some(rest) => begins_space(rest),
-        None => false,
-    }
-}
-
-/// What stands behind a declaration, or behind none where the text doesn't begin as one. Costs what the declaration has.
-#[tactic(auto, unfolding(crate::specs::Openings::opening))]
-pub(crate) fn opening(text: &[char]) -> Option<&[char]>
-    ensures { option_map (λ rest. rest.now) result ≡ opening text.now }
-{
-    if announces(text) {
-        behind_declaration(text)
-    } else {
-        Some(text)
-    }
 }

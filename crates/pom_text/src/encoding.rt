@@ -1,15 +1,17 @@
-ghost use Rattle.std.specs.Prelude.{◌≡◌, ◌≤◌, ◌<◌, length, IfOk};
+ghost use Rattle.std.specs.Prelude.{◌≡◌, ◌≤◌, ◌*◌, length, IfOk};
 ghost use Rattle.std.specs.List.{prefix_len};
-ghost use Rattle.std.specs.Result.{result_map_both};
-ghost use Rattle.std.specs.Str.{encode_utf8_all, str_to_ascii_lowercase, bytes_eq};
+ghost use Rattle.std.specs.Str.{bytes_eq, chars, str_to_ascii_lowercase};
+ghost use Rattle.std.specs.String.{string_bytes};
 ghost use Rattle.pom_text.specs.declared.encoding.Encoding.TheVariants.{Utf8, UsAscii};
 ghost use Rattle.pom_text.specs.Encodings.{decoded, encoded, is_ascii, mark_len, named};
+ghost use Rattle.pom_text.specs.Runs.{IsShort, decoded_chars};
 
+use crate::decoded::Decoded;
 use mvn_shared::Mem;
 use std::alloc::Global;
 
 /// An encoding that a POM may have.
-#[derive(Clone, Copy, PartialEq, Eq)]
+#[derive(Clone, Copy)]
 pub(crate) enum Encoding {
     Utf8,
     UsAscii,
@@ -41,106 +43,103 @@ fn ascii_len(bytes: &[u8]) -> usize
     bytes.len()
 }
 
-// Each byte as the character of its number.
-pub(crate) fn single_bytes(alloc: Global, bytes: &[u8]) -> Mem<Vec<char>>
-    ensures { IfOk result (λ text. text.items ≡ bytes.now) }
+// The text of bytes, each of which is the character of its number.
+fn single_bytes(alloc: Global, bytes: &[u8]) -> Mem<String>
+    ensures text { IfOk result (λ text. chars (string_bytes text) ≡ bytes.now) }
+    ensures within { IfOk result (λ text. length (string_bytes text) ≤ 4 * length bytes.now) }
 {
-    let mut text = Vec::with_capacity(alloc, bytes.len())?;
+    let mut text = String::with_capacity(alloc, bytes.len())?;
     for b in bytes {
         text.push(*b as char)?;
     }
     Ok(text)
 }
 
-// The characters of UTF-8, or the first byte that is none.
-fn decode_utf8(alloc: Global, bytes: &[u8]) -> Mem<Result<Vec<char>, usize>>
-    ensures text { IfOk result (λ r. result_map_both (λ v. v.items) (λ e. e) r ≡ decoded Utf8 bytes.now) }
-    ensures within { IfOk result (λ r. IfOk r (λ text. length text.items ≤ length bytes.now)) }
+// The text that bytes are in UTF-8, or the first byte that is none.
+fn decode_utf8(bytes: &[u8]) -> Result<Decoded<'_>, usize>
+    ensures text { decoded_chars result ≡ decoded Utf8 bytes.now }
+    ensures within { IsShort bytes.now result }
 {
     match std::str::from_utf8(bytes) {
-        Ok(text) => Ok(Ok(text.chars().collect(alloc)?)),
-        Err(error) => Ok(Err(error.valid_up_to())),
+        Ok(text) => Ok(Decoded::Lent(text)),
+        Err(error) => Err(error.valid_up_to()),
     }
 }
 
-// The characters of ASCII, or the first byte that is none.
-#[tactic(auto, unfolding(crate::specs::Encodings::decoded))]
-fn decode_ascii(alloc: Global, bytes: &[u8]) -> Mem<Result<Vec<char>, usize>>
-    ensures text { IfOk result (λ r. result_map_both (λ v. v.items) (λ e. e) r ≡ decoded UsAscii bytes.now) }
-    ensures within { IfOk result (λ r. IfOk r (λ text. length text.items ≤ length bytes.now)) }
+// The text that bytes are in ASCII, or the first byte that is none.
+fn decode_ascii(bytes: &[u8]) -> Result<Decoded<'_>, usize>
+    ensures text { decoded_chars result ≡ decoded UsAscii bytes.now }
+    ensures within { IsShort bytes.now result }
 {
     let n = ascii_len(bytes);
-    if n == bytes.len() {
-        Ok(Ok(single_bytes(alloc, bytes)?))
-    } else {
-        Ok(Err(n))
+    if n < bytes.len() {
+        return Err(n);
+    }
+    match std::str::from_utf8(bytes) {
+        Ok(text) => Ok(Decoded::Lent(text)),
+        Err(_) => unreachable!(),
     }
 }
 
-// How many bytes characters take in UTF-8.
-fn utf8_len(text: &[char]) -> usize
-    requires { length text.now < 4294967296 }
-    ensures { result ≡ length (encode_utf8_all text.now) }
+// How many characters a text has.
+#[tactic(auto, using(std::proofs::lemmas::Str::chars_from_encodes))]
+fn char_len(text: &str) -> usize
+    ensures { result ≡ length (chars text.now) }
 {
-    let mut total = 0;
-    for c in text {
-        total += c.len_utf8();
-    }
-    total
+    text.chars().count()
 }
 
 impl Encoding {
     /// The encoding of a name, without case.
     #[tactic(auto, unfolding(crate::specs::Encodings::named))]
-    pub(crate) fn named(name: &[char]) -> Option<Encoding>
+    pub(crate) fn named(name: &[u8]) -> Option<Encoding>
         ensures { result ≡ named name.now }
     {
-        if is_name(name, &['u', 't', 'f', '-', '8']) {
+        if is_name(name, b"utf-8") {
             Some(Encoding::Utf8)
-        } else if is_name(name, &['u', 's', '-', 'a', 's', 'c', 'i', 'i']) {
+        } else if is_name(name, b"us-ascii") {
             Some(Encoding::UsAscii)
-        } else if is_name(name, &['i', 's', 'o', '-', '8', '8', '5', '9', '-', '1']) {
+        } else if is_name(name, b"iso-8859-1") {
             Some(Encoding::Iso88591)
         } else {
             None
         }
     }
 
-    /// The characters of bytes, or the first byte that the encoding doesn't allow. Costs one pass.
+    /// The text of bytes, or the first byte that the encoding doesn't allow. UTF-8 and ASCII are lent. Costs one pass.
     #[tactic(auto, unfolding(crate::specs::Encodings::decoded))]
-    pub(crate) fn decode(self, alloc: Global, bytes: &[u8]) -> Mem<Result<Vec<char>, usize>>
-        ensures text { IfOk result (λ r. result_map_both (λ v. v.items) (λ e. e) r ≡ decoded self bytes.now) }
-        ensures within { IfOk result (λ r. IfOk r (λ text. length text.items ≤ length bytes.now)) }
+    pub(crate) fn decode(self, alloc: Global, bytes: &[u8]) -> Mem<Result<Decoded<'_>, usize>>
+        ensures text { IfOk result (λ r. decoded_chars r ≡ decoded self bytes.now) }
+        ensures within { IfOk result (λ r. IsShort bytes.now r) }
     {
         match self {
-            Encoding::Utf8 => decode_utf8(alloc, bytes),
-            Encoding::UsAscii => decode_ascii(alloc, bytes),
-            Encoding::Iso88591 => Ok(Ok(single_bytes(alloc, bytes)?)),
+            Encoding::Utf8 => Ok(decode_utf8(bytes)),
+            Encoding::UsAscii => Ok(decode_ascii(bytes)),
+            Encoding::Iso88591 => Ok(Ok(Decoded::Made(single_bytes(alloc, bytes)?))),
         }
     }
 
-    /// How many bytes these characters took.
-    #[tactic(auto, unfolding(crate::specs::Encodings::encoded))]
-    pub(crate) fn len(self, text: &[char]) -> usize
-        requires { length text.now < 4294967296 }
-        ensures { result ≡ length (encoded self text.now) }
+    /// How many bytes the characters of a text took.
+    #[tactic(auto, using(crate::proofs::Bytes::whole_len), unfolding(crate::specs::Encodings::encoded))]
+    pub(crate) fn len(self, text: &str) -> usize
+        ensures { result ≡ length (encoded self (chars text.now)) }
     {
         match self {
-            Encoding::Utf8 => utf8_len(text),
-            Encoding::UsAscii | Encoding::Iso88591 => text.len(),
+            Encoding::Utf8 => text.len(),
+            Encoding::UsAscii | Encoding::Iso88591 => char_len(text),
         }
     }
 }
 
 // Whether a text is a name, without case. The name is in lower case.
-fn is_name(text: &[char], name: &[char]) -> bool
+fn is_name(text: &[u8], name: &[u8]) -> bool
     ensures { result ≡ bytes_eq (str_to_ascii_lowercase text.now) name.now }
 {
     if text.len() != name.len() {
         return false;
     }
-    for (i, c) in text.iter().enumerate() {
-        if c.to_ascii_lowercase() != name[i] {
+    for (i, b) in text.iter().enumerate() {
+        if b.to_ascii_lowercase() != name[i] {
             return false;
         }
     }

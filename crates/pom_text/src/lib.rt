@@ -1,11 +1,15 @@
 //! The text of a POM, read into elements: the grammar, exactly, and the first place at which it fails.
 #![tactic(auto)]
 
+mod allowed;
 mod attribute;
 mod character;
+mod cuts;
 mod declaration;
+mod decoded;
 mod encoding;
 mod fault;
+mod front;
 mod law;
 mod node;
 mod part;

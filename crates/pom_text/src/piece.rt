@@ -1,102 +1,115 @@
-ghost use Rattle.std.specs.Prelude.{◌≡◌, option_map, IfOk};
-ghost use Rattle.pom_text.specs.Reads.{end_of, marked_of, passed_of, piece_of, section_of, tag_end, tag_of};
+ghost use Rattle.std.specs.Prelude.{◌≡◌, ◌++◌, false, codes, option_map};
+ghost use Rattle.std.specs.Str.{chars};
+ghost use Rattle.pom_text.specs.Reads.{begins, end_of, marked_of, passed_of, piece_of, section_of, tag_end, tag_of};
+ghost use Rattle.pom_text.specs.Runs.{is_run, said_next, said_tag};
 
-use crate::attribute::attributes_of;
+use crate::attribute::skip_attributes;
+use crate::cuts::{after, name_of, skip_space, up_to};
 use crate::part::{Part, Tag};
 use crate::reference::reference_of;
-use crate::spelled::{lines_of, text_of};
-use crate::words::{after, name_of, skip_space, up_to};
-use mvn_shared::Mem;
-use std::alloc::Global;
 
 // The end of a start tag or an empty tag.
 #[tactic(auto, unfolding(crate::specs::Reads::tag_end))]
-fn tag_end(tag: Tag, text: &[char]) -> Option<(Part, &[char])>
-    ensures { option_map (λ e. (e.0, e.1.now)) result ≡ tag_end tag text.now }
+fn tag_end<'a>(tag: Tag<'a>, text: &'a str) -> Option<(Part<'a>, &'a str)>
+    ensures { option_map said_next result ≡ tag_end (said_tag tag.entry) (chars text.now) }
 {
-    if let Some(rest) = after(text, &['>']) {
+    if let Some(rest) = after(text, b">") {
         return Some((Part::Start(tag), rest));
     }
-    let rest = after(text, &['/', '>'])?;
+    let rest = after(text, b"/>")?;
     Some((Part::Empty(tag), rest))
 }
 
 // A start tag or an empty tag behind its `<`.
 #[tactic(auto, unfolding(crate::specs::Reads::tag_of))]
-fn tag_of<'a>(alloc: Global, text: &'a [char]) -> Mem<Option<(Part, &'a [char])>>
-    ensures { IfOk result (λ o. option_map (λ e. (e.0, e.1.now)) o ≡ tag_of text.now) }
+fn tag_of(text: &str) -> Option<(Part<'_>, &str)>
+    ensures { option_map said_next result ≡ tag_of (chars text.now) }
 {
-    let Some((name, rest)) = name_of(text) else {
-        return Ok(None);
-    };
-    let name = text_of(alloc, name)?;
-    let (attributes, rest) = attributes_of(alloc, rest)?;
-    Ok(tag_end(Tag { name, attributes }, skip_space(rest)))
+    let (name, attributes) = name_of(text)?;
+    tag_end(
+        Tag { name, attributes },
+        skip_space(skip_attributes(attributes)),
+    )
 }
 
 // An end tag behind its `</`.
 #[tactic(auto, unfolding(crate::specs::Reads::end_of))]
-fn end_of<'a>(alloc: Global, text: &'a [char]) -> Mem<Option<(Part, &'a [char])>>
-    ensures { IfOk result (λ o. option_map (λ e. (e.0, e.1.now)) o ≡ end_of text.now) }
+fn end_of(text: &str) -> Option<(Part<'_>, &str)>
+    ensures { option_map said_next result ≡ end_of (chars text.now) }
 {
-    let Some((name, rest)) = name_of(text) else {
-        return Ok(None);
-    };
-    let Some(rest) = after(skip_space(rest), &['>']) else {
-        return Ok(None);
-    };
-    Ok(Some((Part::End(text_of(alloc, name)?), rest)))
+    let (name, rest) = name_of(text)?;
+    let rest = after(skip_space(rest), b">")?;
+    Some((Part::End(name), rest))
 }
 
-// A comment or an instruction behind its opening.
+// A comment behind its opening.
 #[tactic(auto, unfolding(crate::specs::Reads::passed_of))]
-fn passed_of<'a>(mark: &[char], text: &'a [char]) -> Option<(Part, &'a [char])>
-    ensures { option_map (λ e. (e.0, e.1.now)) result ≡ passed_of mark.now text.now }
+fn comment_of(text: &str) -> Option<(Part<'_>, &str)>
+    ensures { option_map said_next result ≡ passed_of (codes "-->") (chars text.now) }
 {
-    let (_, rest) = up_to(text, mark)?;
+    let (_, rest) = up_to(text, b"-->")?;
+    Some((Part::Passed, rest))
+}
+
+// An instruction behind its opening.
+#[tactic(auto, unfolding(crate::specs::Reads::passed_of))]
+fn instruction_of(text: &str) -> Option<(Part<'_>, &str)>
+    ensures { option_map said_next result ≡ passed_of (codes "?>") (chars text.now) }
+{
+    let (_, rest) = up_to(text, b"?>")?;
     Some((Part::Passed, rest))
 }
 
 // A CDATA part behind its opening.
 #[tactic(auto, unfolding(crate::specs::Reads::section_of))]
-fn section_of<'a>(alloc: Global, text: &'a [char]) -> Mem<Option<(Part, &'a [char])>>
-    ensures { IfOk result (λ o. option_map (λ e. (e.0, e.1.now)) o ≡ section_of text.now) }
+fn section_of(text: &str) -> Option<(Part<'_>, &str)>
+    ensures { option_map said_next result ≡ section_of (chars text.now) }
 {
-    match up_to(text, &[']', ']', '>']) {
-        None => Ok(None),
-        Some((inside, rest)) => Ok(Some((Part::Section(lines_of(alloc, inside)?), rest))),
-    }
+    let (inside, rest) = up_to(text, b"]]>")?;
+    Some((Part::Section(inside), rest))
 }
 
 // What stands behind a `<`.
 #[tactic(auto, unfolding(crate::specs::Reads::marked_of))]
-fn marked_of<'a>(alloc: Global, text: &'a [char]) -> Mem<Option<(Part, &'a [char])>>
-    ensures { IfOk result (λ o. option_map (λ e. (e.0, e.1.now)) o ≡ marked_of text.now) }
+fn marked_of(text: &str) -> Option<(Part<'_>, &str)>
+    ensures { option_map said_next result ≡ marked_of (chars text.now) }
 {
-    if let Some(rest) = after(text, &['!', '-', '-']) {
-        return Ok(passed_of(&['-', '-', '>'], rest));
+    if let Some(rest) = after(text, b"!--") {
+        return comment_of(rest);
     }
-    if let Some(rest) = after(text, &['!', '[', 'C', 'D', 'A', 'T', 'A', '[']) {
-        return section_of(alloc, rest);
+    if let Some(rest) = after(text, b"![CDATA[") {
+        return section_of(rest);
     }
-    if let Some(rest) = after(text, &['?']) {
-        return Ok(passed_of(&['?', '>'], rest));
+    if let Some(rest) = after(text, b"?") {
+        return instruction_of(rest);
     }
-    match after(text, &['/']) {
-        Some(rest) => end_of(alloc, rest),
-        None => tag_of(alloc, text),
+    match after(text, b"/") {
+        Some(rest) => end_of(rest),
+        None => tag_of(text),
     }
 }
 
-/// The piece at the front of a text, and what follows. Costs what the piece has.
+// A reference behind its `&`.
 #[tactic(auto, unfolding(crate::specs::Reads::piece_of))]
-pub(crate) fn piece_of<'a>(alloc: Global, text: &'a [char]) -> Mem<Option<(Part, &'a [char])>>
-    ensures { IfOk result (λ o. option_map (λ e. (e.0, e.1.now)) o ≡ piece_of text.now) }
+fn reference_part(text: &str) -> Option<(Part<'_>, &str)>
+    ensures { option_map said_next result ≡ piece_of (codes "&" ++ chars text.now) }
 {
-    match text {
-        [] => Ok(None),
-        ['<', rest @ ..] => marked_of(alloc, rest),
-        ['&', rest @ ..] => Ok(reference_of(rest).map(|(c, rest)| (Part::Reference(c), rest))),
-        [c, rest @ ..] => Ok(Some((Part::Character(*c), rest))),
+    let (c, rest) = reference_of(text)?;
+    Some((Part::Reference(c), rest))
+}
+
+/// The piece at the front of a text that doesn't begin with a run, and what follows. Costs what the piece has.
+#[tactic(auto, using(crate::proofs::Firsts::marked, crate::proofs::Firsts::referred_to, crate::proofs::Firsts::returned, crate::proofs::Firsts::nothing))]
+pub(crate) fn piece_of(text: &str) -> Option<(Part<'_>, &str)>
+    requires { begins is_run (chars text.now) ≡ false }
+    ensures { option_map said_next result ≡ piece_of (chars text.now) }
+{
+    if let Some(rest) = after(text, b"<") {
+        return marked_of(rest);
     }
+    if let Some(rest) = after(text, b"&") {
+        return reference_part(rest);
+    }
+    let rest = after(text, b"\r")?;
+    Some((Part::Return, rest))
 }

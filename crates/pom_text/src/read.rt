@@ -1,22 +1,24 @@
-ghost use Rattle.std.specs.Prelude.{◌≡◌, ◌<◌, ◌+◌, ℕ, List, length, IfOk};
-ghost use Rattle.std.specs.Result.{result_map_both};
+ghost use Rattle.std.specs.Prelude.{◌≡◌, ◌≤◌, ◌<◌, ◌+◌, ◌*◌, ◌++◌, ℕ, List, length};
+ghost use Rattle.std.specs.Str.{chars};
 ghost use Rattle.mvn_base.specs.declared.rule.Rule as rules;
 ghost use Rattle.pom_text.specs.declared.node.Node as nodes;
 ghost use Rattle.pom_text.specs.declared.fault.TextFault.TheVariants.{Refused};
-ghost use Rattle.pom_text.specs.Answers.{Agrees, answer, decoded_answer, encoding_answer, opened, placed, text_answer};
+ghost use Rattle.pom_text.specs.Answers.{Agrees, answer, decoded_answer, encoding_answer, reading_answer, text_answer};
 ghost use Rattle.pom_text.specs.Encodings.{chosen, decoded};
 ghost use Rattle.pom_text.specs.Openings.{named_encoding};
+ghost use Rattle.pom_text.specs.Runs.{EndsWith, HasFront, read_len};
 ghost use Rattle.pom_text.specs.Running.{outcome_of};
 ghost use Rattle.pom_text.specs.Texts.{AreElements, IsAnswered, IsRefusal, IsText, Refuses};
 
-use crate::declaration::{named_encoding, opening};
-use crate::encoding::{Encoding, mark_len, single_bytes};
+use crate::allowed::allowed_of;
+use crate::cuts::is_over;
+use crate::declaration::named_encoding;
+use crate::encoding::{Encoding, mark_len};
 use crate::fault::TextFault;
+use crate::front::opening;
 use crate::node::PomText;
 use crate::reader::{Reading, read_pieces};
-use crate::words::allowed_len;
 use mvn_base::{POM_LIMIT, Rule};
-use mvn_shared::Mem;
 use std::alloc::Global;
 
 // A refusal, at a byte behind a mark of so many bytes.
@@ -31,59 +33,70 @@ fn refused(rule: Rule, mark: usize, place: usize) -> TextFault
 }
 
 // The encoding of bytes, or the first byte of a name that is none's.
-fn encoding_of(alloc: Global, bytes: &[u8]) -> Mem<Result<Encoding, usize>>
-    ensures { IfOk result (λ r. r ≡ chosen (named_encoding bytes.now)) }
+fn encoding_of(bytes: &[u8]) -> Result<Encoding, usize>
+    ensures { result ≡ chosen (named_encoding bytes.now) }
 {
-    let text = single_bytes(alloc, bytes)?;
-    match named_encoding(text.as_slice()) {
-        None => Ok(Ok(Encoding::Utf8)),
+    match named_encoding(bytes) {
+        None => Ok(Encoding::Utf8),
         Some((place, name)) => match Encoding::named(name) {
-            Some(encoding) => Ok(Ok(encoding)),
-            None => Ok(Err(place)),
+            Some(encoding) => Ok(encoding),
+            None => Err(place),
         },
     }
 }
 
-// What an outcome of the reading says of a text whose last characters are not read.
+// How many bytes of a text are read, by what is not: a rest, and more behind it.
+fn place_of(encoding: Encoding, text: &str, rest: &str, more: &str) -> usize
+    requires { HasFront (chars text.now) (chars rest.now ++ chars more.now) }
+    ensures place { result ≡ read_len encoding (chars text.now) (chars rest.now) (chars more.now) }
+    ensures within { result ≤ 4 * length text.now }
+{
+    let unread = rest.len() + more.len();
+    let read = text.len() - unread;
+    let (front, _) = text.split_at(read);
+    encoding.len(front)
+}
+
+// What an outcome of the reading says of a text, behind which more is not read.
 fn placed(
     mark: usize,
     encoding: Encoding,
-    text: &[char],
-    unread: usize,
+    text: &str,
+    more: &str,
     reading: Reading<'_>,
 ) -> Result<PomText, TextFault>
     requires mark { mark < 4 }
     requires text { length text.now < 4294967295 }
-    ensures { Agrees (placed mark encoding text.now unread (outcome_of reading.entry)) result }
+    requires rest { EndsWith (chars text.now) (chars more.now) (outcome_of reading) }
+    ensures { Agrees (reading_answer mark encoding text.now more.now reading.entry) result }
 {
     match reading {
         Reading::Whole(nodes) => Ok(PomText { nodes }),
         Reading::Halted(rule, rest) => {
-            let read = text.len().saturating_sub(unread).saturating_sub(rest.len());
-            let (front, _) = text.split_at(read);
-            Err(refused(rule, mark, encoding.len(front)))
+            let place = place_of(encoding, text, rest, more);
+            Err(refused(rule, mark, place))
         }
     }
 }
 
-// Reads characters whose bytes stand behind a mark.
+// Reads a text whose bytes stand behind a mark.
 #[tactic(auto, unfolding(crate::specs::Answers::text_answer))]
 fn read_characters(
     alloc: Global,
     mark: usize,
     encoding: Encoding,
-    text: &[char],
+    text: &str,
 ) -> Result<PomText, TextFault>
     requires mark { mark < 4 }
     requires text { length text.now < 4294967295 }
-    ensures { Agrees (text_answer mark encoding text.now) result }
+    ensures { Agrees (text_answer mark encoding (chars text.now)) result }
 {
-    let (cut, more) = text.split_at(allowed_len(text));
+    let (cut, more) = allowed_of(text);
     match opening(cut) {
         None => Err(refused(Rule::NotPomText, mark, 0)),
         Some(body) => {
-            let reading = read_pieces(alloc, body, more.is_empty())?;
-            placed(mark, encoding, text, more.len(), reading)
+            let reading = read_pieces(alloc, body, is_over(more))?;
+            placed(mark, encoding, text, more, reading)
         }
     }
 }
@@ -100,7 +113,7 @@ fn read_encoded(
     ensures { Agrees (decoded_answer mark encoding (decoded encoding bytes.now)) result }
 {
     match encoding.decode(alloc, bytes)? {
-        Ok(text) => read_characters(alloc, mark, encoding, text.as_slice()),
+        Ok(text) => read_characters(alloc, mark, encoding, text.as_str()),
         Err(place) => Err(refused(Rule::Encoding, mark, place)),
     }
 }
@@ -111,7 +124,7 @@ fn read_marked(alloc: Global, mark: usize, bytes: &[u8]) -> Result<PomText, Text
     requires bytes { length bytes.now < 1048577 }
     ensures { Agrees (encoding_answer mark bytes.now (chosen (named_encoding bytes.now))) result }
 {
-    match encoding_of(alloc, bytes)? {
+    match encoding_of(bytes) {
         Ok(encoding) => read_encoded(alloc, mark, encoding, bytes),
         Err(place) => Err(refused(Rule::Encoding, mark, place)),
     }

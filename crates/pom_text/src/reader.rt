@@ -1,9 +1,13 @@
-ghost use Rattle.std.specs.Prelude.{◌≡◌, ◌<◌, ◌==◌, ◌&&◌, length, IfOk};
+ghost use Rattle.std.specs.Prelude.{◌≡◌, ◌<◌, ◌==◌, ◌&&◌, nat_eq, codes, length, IfOk};
+ghost use Rattle.std.specs.List.{starts_with};
+ghost use Rattle.std.specs.Str.{chars};
 ghost use Rattle.pom_text.specs.Growth.{standing_of};
+ghost use Rattle.pom_text.specs.Runs.{said};
 ghost use Rattle.pom_text.specs.Running.{begins_element, finish, outcome_of, run};
 ghost use Rattle.pom_text.specs.Spells.{is_done, is_doctype};
 ghost use Rattle.pom_text.specs.Tree.{nothing_yet};
 
+use crate::cuts::{after, is_over, run_of, skip_space};
 use crate::node::Node;
 use crate::part::Part;
 use crate::piece::piece_of;
@@ -19,7 +23,7 @@ const DEPTH: usize = 64;
 #[derive(Drop)]
 pub(crate) enum Reading<'a> {
     Whole(List<Node>),
-    Halted(Rule, &'a [char]),
+    Halted(Rule, &'a str),
 }
 
 // Whether the root has begun and nothing is open.
@@ -29,22 +33,32 @@ fn is_done(tree: &Tree) -> bool
     !tree.nodes.is_empty() && tree.path.is_empty()
 }
 
-// Whether `<!DOCTYPE` stands next, before the root.
-fn is_doctype(tree: &Tree, text: &[char]) -> bool
-    ensures { result ≡ is_doctype (standing_of tree.now) text.now }
+// Whether `<!DOCTYPE` stands next.
+fn begins_doctype(text: &str) -> bool
+    ensures { result ≡ starts_with nat_eq (chars text.now) (codes "<!DOCTYPE") }
 {
-    tree.nodes.is_empty() && text.starts_with(&['<', '!', 'D', 'O', 'C', 'T', 'Y', 'P', 'E'])
+    match after(text, b"<!DOCTYPE") {
+        Some(_) => true,
+        None => false,
+    }
+}
+
+// And before the root.
+fn is_doctype(tree: &Tree, text: &str) -> bool
+    ensures { result ≡ is_doctype (standing_of tree.now) (chars text.now) }
+{
+    tree.nodes.is_empty() && begins_doctype(text)
 }
 
 // What comes of a text where no piece goes on.
 #[tactic(auto, unfolding(crate::specs::Running::finish))]
-fn finish(tree: Tree, text: &[char], whole: bool) -> Reading<'_>
-    ensures { outcome_of result ≡ finish whole (standing_of tree) text.now }
+fn finish(tree: Tree, text: &str, whole: bool) -> Reading<'_>
+    ensures { outcome_of result ≡ finish whole (standing_of tree) (chars text.now) }
 {
     if is_doctype(&tree, text) {
         return Reading::Halted(Rule::Doctype, text);
     }
-    if text.is_empty() && is_done(&tree) && whole {
+    if is_over(text) && is_done(&tree) && whole {
         return Reading::Whole(List::of(tree.nodes));
     }
     Reading::Halted(Rule::NotPomText, text)
@@ -52,27 +66,33 @@ fn finish(tree: Tree, text: &[char], whole: bool) -> Reading<'_>
 
 // Whether a part begins an element in as many others as may be.
 fn is_deep(tree: &Tree, part: &Part) -> bool
-    ensures { result ≡ (length tree.now.path.items == 64 && begins_element part.now) }
+    ensures { result ≡ (length tree.now.path.items == 64 && begins_element (said part.now)) }
 {
     tree.path.len() == DEPTH && part.begins_element()
 }
 
 /// Reads a text in which each character may stand; `whole` says that nothing follows it. Costs one pass.
-pub(crate) fn read_pieces(alloc: Global, text: &[char], whole: bool) -> Mem<Reading<'_>>
-    requires { length text.now < 4294967295 }
-    ensures { IfOk result (λ reading. outcome_of reading ≡ run whole nothing_yet text.now) }
+pub(crate) fn read_pieces(alloc: Global, text: &str, whole: bool) -> Mem<Reading<'_>>
+    requires { length (chars text.now) < 4294967295 }
+    ensures { IfOk result (λ reading. outcome_of reading ≡ run whole nothing_yet (chars text.now)) }
 {
     let mut tree = Tree::new(alloc);
     let mut rest = text;
-    while let Some((part, behind)) = piece_of(alloc, rest)? {
+    'pieces: loop {
+        let (run, marked) = run_of(rest);
+        if !tree.take_run(run)? {
+            return Ok(Reading::Halted(Rule::NotPomText, skip_space(rest)));
+        }
+        let Some((part, behind)) = piece_of(marked) else {
+            return Ok(finish(tree, marked, whole));
+        };
         let deep = is_deep(&tree, &part);
         if !tree.take(alloc, part)? {
-            return Ok(Reading::Halted(Rule::NotPomText, rest));
+            return Ok(Reading::Halted(Rule::NotPomText, marked));
         }
         if deep {
-            return Ok(Reading::Halted(Rule::TooLarge, rest));
+            return Ok(Reading::Halted(Rule::TooLarge, marked));
         }
         rest = behind;
     }
-    Ok(finish(tree, rest, whole))
 }

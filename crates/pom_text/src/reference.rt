@@ -1,12 +1,13 @@
 ghost use Rattle.std.specs.Prelude.{◌≡◌, ◌≤◌, ◌<◌, ◌+◌, ◌*◌, ℕ, is_some, option_map, IfSome};
 ghost use Rattle.std.specs.Char.{is_digit};
 ghost use Rattle.std.specs.List.{list_all};
+ghost use Rattle.std.specs.Str.{chars};
 ghost use Rattle.pom_text.specs.Reads.{reference_of};
 ghost use Rattle.pom_text.specs.Numerals.{Keeps};
 ghost use Rattle.pom_text.specs.References.{allowed, entity, number, numbered, numeral, referred};
 
 use crate::character::is_allowed;
-use crate::words::up_to;
+use crate::cuts::up_to;
 
 // One past the greatest code of a character.
 const PAST_CHARACTERS: u32 = 0x11_0000;
@@ -26,15 +27,15 @@ fn with_digit(value: u32, radix: u32, digit: u32) -> u32
 }
 
 // The number that digits write, where all are digits. From the last character on it is some number that is no character's.
-fn number(radix: u32, digits: &[char]) -> Option<u32>
+fn number(radix: u32, digits: &[u8]) -> Option<u32>
     requires lower { 2 ≤ radix }
     requires upper { radix ≤ 16 }
     ensures digits { is_some result ≡ list_all (λ d. is_digit d radix) digits.now }
     ensures value { IfSome result (λ value. allowed value ≡ allowed (number radix digits.now)) }
 {
     let mut value = 0;
-    for c in digits {
-        value = with_digit(value, radix, c.to_digit(radix)?);
+    for b in digits {
+        value = with_digit(value, radix, (*b as char).to_digit(radix)?);
     }
     Some(value)
 }
@@ -52,7 +53,7 @@ fn allowed(code: u32) -> Option<char>
 
 // The character that one digit or more write.
 #[tactic(auto, unfolding(crate::specs::References::numbered))]
-fn numbered(radix: u32, digits: &[char]) -> Option<char>
+fn numbered(radix: u32, digits: &[u8]) -> Option<char>
     requires lower { 2 ≤ radix }
     requires upper { radix ≤ 16 }
     ensures { result ≡ numbered radix digits.now }
@@ -65,30 +66,30 @@ fn numbered(radix: u32, digits: &[char]) -> Option<char>
 
 // The character of a numeric reference, by what stands behind its `#`.
 #[tactic(auto, unfolding(crate::specs::References::numeral))]
-fn numeral(text: &[char]) -> Option<char>
+fn numeral(text: &[u8]) -> Option<char>
     ensures { result ≡ numeral text.now }
 {
     match text {
         [] => None,
-        ['x', digits @ ..] => numbered(16, digits),
+        [b'x', digits @ ..] => numbered(16, digits),
         digits => numbered(10, digits),
     }
 }
 
 // One of the five entities that need no declaration.
 #[tactic(auto, unfolding(crate::specs::References::entity))]
-fn entity(name: &[char]) -> Option<char>
+fn entity(name: &[u8]) -> Option<char>
     ensures { result ≡ entity name.now }
 {
-    if name == ['l', 't'].as_slice() {
+    if name == b"lt".as_slice() {
         Some('<')
-    } else if name == ['g', 't'].as_slice() {
+    } else if name == b"gt".as_slice() {
         Some('>')
-    } else if name == ['a', 'm', 'p'].as_slice() {
+    } else if name == b"amp".as_slice() {
         Some('&')
-    } else if name == ['q', 'u', 'o', 't'].as_slice() {
+    } else if name == b"quot".as_slice() {
         Some('"')
-    } else if name == ['a', 'p', 'o', 's'].as_slice() {
+    } else if name == b"apos".as_slice() {
         Some('\'')
     } else {
         None
@@ -97,21 +98,21 @@ fn entity(name: &[char]) -> Option<char>
 
 // The character that a reference means, by what stands between `&` and `;`.
 #[tactic(auto, unfolding(crate::specs::References::referred))]
-fn referred(name: &[char]) -> Option<char>
+fn referred(name: &[u8]) -> Option<char>
     ensures { result ≡ referred name.now }
 {
     match name {
         [] => None,
-        ['#', numeric @ ..] => numeral(numeric),
+        [b'#', numeric @ ..] => numeral(numeric),
         name => entity(name),
     }
 }
 
 // A reference behind its `&`: the character, and what follows.
-#[tactic(auto, unfolding(crate::specs::Reads::reference_of))]
-pub(crate) fn reference_of(text: &[char]) -> Option<(char, &[char])>
-    ensures { option_map (λ e. (e.0, e.1.now)) result ≡ reference_of text.now }
+#[tactic(auto, using(crate::proofs::Referred::same_meaning), unfolding(crate::specs::Reads::reference_of))]
+pub(crate) fn reference_of(text: &str) -> Option<(char, &str)>
+    ensures { option_map (λ e. (e.0, chars e.1.now)) result ≡ reference_of (chars text.now) }
 {
-    let (name, rest) = up_to(text, &[';'])?;
-    Some((referred(name)?, rest))
+    let (name, rest) = up_to(text, b";")?;
+    Some((referred(name.as_bytes())?, rest))
 }

@@ -1,44 +1,45 @@
-ghost use Rattle.std.specs.Prelude.{◌≡◌, ◌++◌, false, IfOk, OnOk};
-ghost use Rattle.std.specs.Str.{encode_utf8_all};
-ghost use Rattle.pom_text.specs.Parts.{line_part, lines};
-ghost use Rattle.std.specs.String.{string_bytes};
+ghost use Rattle.std.specs.Prelude.{◌≡◌, ◌++◌, IfOk, OnOk};
+ghost use Rattle.std.specs.Str.{chars, encode_utf8_all};
+ghost use Rattle.pom_text.specs.Runs.{line_bytes, unfed};
 
+use crate::cuts::{after, up_to};
 use mvn_shared::{Mem, Text};
 use std::alloc::Global;
 
-// The text of these characters.
-pub(crate) fn text_of(alloc: Global, characters: &[char]) -> Mem<Text>
-    ensures { IfOk result (λ text. text ≡ encode_utf8_all characters.now) }
+// A copy of a text, told by its characters.
+#[tactic(auto, using(crate::proofs::Bytes::whole_again))]
+pub(crate) fn text_of(alloc: Global, text: &str) -> Mem<Text>
+    ensures { IfOk result (λ copy. copy ≡ encode_utf8_all (chars text.now)) }
 {
-    let mut text = String::with_capacity(alloc, characters.len())?;
-    for c in characters {
-        text.push(*c)?;
-    }
-    Ok(Text::of(text))
+    Text::from_str(alloc, text)
 }
 
-// A character more, where the one before it is a carriage return or not.
-#[tactic(auto, unfolding(crate::specs::Parts::line_part))]
-pub(crate) fn push_in_line(text: &mut String, returned: bool, c: char) -> Mem<()>
-    ensures { OnOk result (string_bytes text.new ≡ string_bytes text.old ++ encode_utf8_all (line_part returned c)) }
+// A text without the line feed at its front, where a carriage return stands before it.
+#[tactic(auto, using(crate::proofs::Firsts::unreturned, crate::proofs::Firsts::with_feed, crate::proofs::Firsts::without_feed))]
+pub(crate) fn behind_feed(returned: bool, text: &str) -> &str
+    ensures { chars result.now ≡ unfed returned (chars text.now) }
 {
-    if c == '\r' {
-        text.push('\n')?;
-    } else if !(returned && c == '\n') {
-        text.push(c)?;
+    if !returned {
+        return text;
     }
-    Ok(())
+    match after(text, b"\n") {
+        Some(rest) => rest,
+        None => text,
+    }
 }
 
-// The text of these characters, each line end as a line feed.
-pub(crate) fn lines_of(alloc: Global, characters: &[char]) -> Mem<Text>
-    ensures { IfOk result (λ text. text ≡ encode_utf8_all (lines false characters.now)) }
+// A text more, each of its line ends as a line feed.
+pub(crate) fn push_lines(text: &mut Text, more: &str) -> Mem<()>
+    ensures { OnOk result (text.new ≡ text.old ++ line_bytes more.now) }
 {
-    let mut text = String::with_capacity(alloc, characters.len())?;
     let mut returned = false;
-    for c in characters {
-        push_in_line(&mut text, returned, *c)?;
-        returned = *c == '\r';
+    let mut rest = more;
+    while let Some((line, behind)) = up_to(rest, b"\r") {
+        text.push_str(behind_feed(returned, line))?;
+        text.push_str("\n")?;
+        returned = true;
+        rest = behind;
     }
-    Ok(Text::of(text))
+    text.push_str(behind_feed(returned, rest))?;
+    Ok(())
 }

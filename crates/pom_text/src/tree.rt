@@ -1,14 +1,16 @@
-ghost use Rattle.std.specs.Prelude.{◌≡◌, ◌≤◌, ◌<◌, ◌+◌, ◌∷◌, [], ◌++◌, length, option_copied, IfOk, OnOk};
-ghost use Rattle.std.specs.Str.{encode_utf8_all};
-ghost use Rattle.pom_text.specs.Growth.{fitting, standing_of, take_part};
-ghost use Rattle.pom_text.specs.declared.part.Part.TheVariants.{Character, Section, Reference};
-ghost use Rattle.pom_text.specs.Parts.{line_part};
-ghost use Rattle.pom_text.specs.Tree.{add_child, add_text, begun, changed, closes, ended, innermost, may_begin, nothing_yet, passed, with_child};
+ghost use Rattle.std.specs.Prelude.{◌≡◌, ◌<◌, true, length, OnOk};
+ghost use Rattle.std.specs.List.{list_all};
+ghost use Rattle.std.specs.Str.{bytes_eq, chars, encode_utf8_all};
+ghost use Rattle.pom_text.specs.Growth.{HasChanged, HasGotChild, Takes, standing_of};
+ghost use Rattle.pom_text.specs.Parts.{Character, Section, Reference};
+ghost use Rattle.pom_text.specs.Runs.{TakesRun, begun_by, is_run, line_bytes, said};
+ghost use Rattle.pom_text.specs.Tree.{add_child, add_text, closes, ended, innermost, may_begin, nothing_yet, passed};
 
-use crate::character::is_space;
+use crate::attribute::names_in;
+use crate::cuts::{is_over, skip_space};
 use crate::node::Node;
 use crate::part::{Part, Tag};
-use crate::spelled::push_in_line;
+use crate::spelled::{behind_feed, push_lines, text_of};
 use mvn_shared::{List, Mem, Text};
 use std::alloc::Global;
 
@@ -21,24 +23,19 @@ pub(crate) struct Tree {
     pub(crate) returned: bool,
 }
 
-// A character more in an element's text, where a carriage return stands before it or not.
-fn push_character(alloc: Global, node: &mut Node, returned: bool, c: char) -> Mem<()>
-    ensures { OnOk result (node.new ≡ add_text (encode_utf8_all (line_part returned c)) node.old) }
+// A text more in an element's text, each of its line ends as a line feed.
+fn push_section(node: &mut Node, more: &str) -> Mem<()>
+    ensures { OnOk result (node.new ≡ add_text (line_bytes more.now) node.old) }
 {
-    let mut text = std::mem::replace(&mut node.text, Text::of(String::new(alloc))).into_string();
-    push_in_line(&mut text, returned, c)?;
-    node.text = Text::of(text);
-    Ok(())
+    push_lines(&mut node.text, more)
 }
 
-// Bytes more in an element's text.
-fn push_text(alloc: Global, node: &mut Node, more: &Text) -> Mem<()>
-    ensures { OnOk result (node.new ≡ add_text more.now node.old) }
+// Whether an element has this name.
+#[tactic(auto, using(crate::proofs::Bytes::whole_again))]
+fn is_named(node: &Node, name: &str) -> bool
+    ensures { result ≡ bytes_eq node.now.name (encode_utf8_all (chars name.now)) }
 {
-    let mut text = std::mem::replace(&mut node.text, Text::of(String::new(alloc))).into_string();
-    text.push_str(more.as_str())?;
-    node.text = Text::of(text);
-    Ok(())
+    node.name.as_str() == name
 }
 
 impl Tree {
@@ -60,32 +57,31 @@ impl Tree {
         self.path.last().copied()
     }
 
-    // An element is changed by a character.
-    fn add_character(&mut self, alloc: Global, at: u32, c: char) -> Mem<()>
-        ensures nodes { OnOk result (self.new.nodes.items ≡ changed (add_text (encode_utf8_all (line_part self.old.returned c))) at self.old.nodes.items) }
+    // An element's text grows.
+    fn add_text(&mut self, at: u32, more: &str) -> Mem<()>
+        ensures nodes { HasChanged result (add_text more.now) at self.old self.new }
         ensures path { self.new.path.items ≡ self.old.path.items }
-        ensures returned { self.new.returned ≡ self.old.returned }
     {
         if (at as usize) < self.nodes.len() {
-            push_character(alloc, &mut self.nodes[at as usize], self.returned, c)?;
+            self.nodes[at as usize].text.push_str(more)?;
         }
         Ok(())
     }
 
-    // An element is changed by a text.
-    fn add_bytes(&mut self, alloc: Global, at: u32, more: &Text) -> Mem<()>
-        ensures nodes { OnOk result (self.new.nodes.items ≡ changed (add_text more.now) at self.old.nodes.items) }
+    // An element's text grows by lines.
+    fn add_lines(&mut self, at: u32, more: &str) -> Mem<()>
+        ensures nodes { HasChanged result (add_text (line_bytes more.now)) at self.old self.new }
         ensures path { self.new.path.items ≡ self.old.path.items }
     {
         if (at as usize) < self.nodes.len() {
-            push_text(alloc, &mut self.nodes[at as usize], more)?;
+            push_section(&mut self.nodes[at as usize], more)?;
         }
         Ok(())
     }
 
     // An element gets a child.
     fn add_child(&mut self, at: u32, child: u32) -> Mem<()>
-        ensures nodes { OnOk result (self.new.nodes.items ≡ changed (add_child child) at self.old.nodes.items) }
+        ensures nodes { HasChanged result (add_child child) at self.old self.new }
         ensures path { self.new.path.items ≡ self.old.path.items }
     {
         if (at as usize) < self.nodes.len() {
@@ -101,44 +97,61 @@ impl Tree {
         self.returned = false;
     }
 
-    // A character that stands for itself.
-    #[tactic(auto, unfolding(crate::specs::Tree::with_text, crate::specs::Growth::take_part))]
-    fn take_character(&mut self, alloc: Global, c: char) -> Mem<bool>
-        ensures { IfOk result (λ fits. fitting fits (standing_of self.new) ≡ take_part (standing_of self.old) (Character c)) }
+    /// Characters that stand for themselves, none of which is a carriage return: whether they may stand. Costs one copy.
+    pub(crate) fn take_run(&mut self, run: &str) -> Mem<bool>
+        requires { list_all is_run (chars run.now) ≡ true }
+        ensures { TakesRun result self.old self.new run.now }
+    {
+        if is_over(run) {
+            return Ok(true);
+        }
+        let Some(at) = self.innermost() else {
+            self.returned = false;
+            return Ok(is_over(skip_space(run)));
+        };
+        self.add_text(at, behind_feed(self.returned, run))?;
+        self.returned = false;
+        Ok(true)
+    }
+
+    // A carriage return that stands for itself.
+    #[tactic(auto, using(crate::proofs::Breaks::return_bytes), unfolding(crate::specs::Tree::with_text, crate::specs::Growth::take_part, crate::specs::Characters::is_space))]
+    fn take_return(&mut self) -> Mem<bool>
+        ensures { Takes result self.old self.new (Character 13) }
     {
         let Some(at) = self.innermost() else {
             self.returned = false;
-            return Ok(is_space(c));
+            return Ok(true);
         };
-        self.add_character(alloc, at, c)?;
-        self.returned = c == '\r';
+        self.add_text(at, "\n")?;
+        self.returned = true;
         Ok(true)
     }
 
     // A character that is referred to.
     #[tactic(auto, unfolding(crate::specs::Tree::with_text, crate::specs::Growth::take_part))]
     fn take_reference(&mut self, alloc: Global, c: char) -> Mem<bool>
-        ensures { IfOk result (λ fits. fitting fits (standing_of self.new) ≡ take_part (standing_of self.old) (Reference c)) }
+        ensures { Takes result self.old self.new (Reference c) }
     {
         let Some(at) = self.innermost() else {
             return Ok(false);
         };
         let mut text = String::new(alloc);
         text.push(c)?;
-        self.add_bytes(alloc, at, &Text::of(text))?;
+        self.add_text(at, text.as_str())?;
         self.returned = false;
         Ok(true)
     }
 
-    // A CDATA part.
+    // What stands in a CDATA part.
     #[tactic(auto, unfolding(crate::specs::Growth::with_bytes, crate::specs::Growth::take_part))]
-    fn take_section(&mut self, alloc: Global, bytes: &Text) -> Mem<bool>
-        ensures { IfOk result (λ fits. fitting fits (standing_of self.new) ≡ take_part (standing_of self.old) (Section bytes.now)) }
+    fn take_section(&mut self, inside: &str) -> Mem<bool>
+        ensures { Takes result self.old self.new (Section (line_bytes inside.now)) }
     {
         let Some(at) = self.innermost() else {
             return Ok(false);
         };
-        self.add_bytes(alloc, at, bytes)?;
+        self.add_lines(at, inside)?;
         self.returned = false;
         Ok(true)
     }
@@ -152,7 +165,7 @@ impl Tree {
 
     // The innermost open element, if there is one, gets a child.
     fn add_to_innermost(&mut self, child: u32) -> Mem<()>
-        ensures nodes { OnOk result (self.new.nodes.items ≡ with_child child (innermost self.old.path.items) self.old.nodes.items) }
+        ensures nodes { HasGotChild result child self.old self.new }
         ensures path { self.new.path.items ≡ self.old.path.items }
     {
         match self.innermost() {
@@ -161,17 +174,19 @@ impl Tree {
         }
     }
 
-    // An element begins.
+    // An element begins, by its name and a text that begins with its attributes.
     #[tactic(auto, unfolding(crate::specs::Tree::begun))]
-    fn begin(&mut self, alloc: Global, tag: Tag) -> Mem<()>
+    fn begin(&mut self, alloc: Global, tag: Tag<'_>) -> Mem<()>
         requires { length self.old.nodes.items < 4294967295 }
-        ensures { OnOk result (standing_of self.new ≡ begun tag.name tag.attributes (standing_of self.old)) }
+        ensures { OnOk result (standing_of self.new ≡ begun_by tag.entry self.old) }
     {
         let number = self.nodes.len() as u32;
+        let name = text_of(alloc, tag.name)?;
+        let attributes = names_in(alloc, tag.attributes)?;
         self.add_to_innermost(number)?;
         self.nodes.push(Node {
-            name: tag.name,
-            attributes: tag.attributes,
+            name,
+            attributes,
             text: Text::of(String::new(alloc)),
             children: List::new(alloc),
         })?;
@@ -191,31 +206,31 @@ impl Tree {
 
     // Whether the innermost open element has this name.
     #[tactic(auto, unfolding(crate::specs::Tree::closes))]
-    fn closes(&self, name: &Text) -> bool
-        ensures { result ≡ closes name.now (standing_of self.now) }
+    fn closes(&self, name: &str) -> bool
+        ensures { result ≡ closes (encode_utf8_all (chars name.now)) (standing_of self.now) }
     {
         match self.innermost() {
             None => false,
             Some(at) => match self.nodes.get(at as usize) {
                 None => false,
-                Some(node) => node.name == *name,
+                Some(node) => is_named(node, name),
             },
         }
     }
 
     /// One part more: whether it may stand. Constant time on the average, besides the bytes that it gives.
     #[tactic(auto, unfolding(crate::specs::Growth::take_part))]
-    pub(crate) fn take(&mut self, alloc: Global, part: Part) -> Mem<bool>
+    pub(crate) fn take(&mut self, alloc: Global, part: Part<'_>) -> Mem<bool>
         requires { length self.old.nodes.items < 4294967295 }
-        ensures { IfOk result (λ fits. fitting fits (standing_of self.new) ≡ take_part (standing_of self.old) part) }
+        ensures { Takes result self.old self.new (said part.entry) }
     {
         match part {
             Part::Passed => {
                 self.pass();
                 Ok(true)
             }
-            Part::Character(c) => self.take_character(alloc, c),
-            Part::Section(bytes) => self.take_section(alloc, &bytes),
+            Part::Return => self.take_return(),
+            Part::Section(inside) => self.take_section(inside),
             Part::Reference(c) => self.take_reference(alloc, c),
             Part::Start(tag) => {
                 if !self.may_begin() {
@@ -233,7 +248,7 @@ impl Tree {
                 Ok(true)
             }
             Part::End(name) => {
-                if !self.closes(&name) {
+                if !self.closes(name) {
                     return Ok(false);
                 }
                 self.end();

@@ -1,15 +1,16 @@
-ghost use Rattle.std.specs.Prelude.{◌≡◌, ◌≤◌, length, option_map, IfSome};
-ghost use Rattle.std.specs.List.{prefix_len};
-ghost use Rattle.pom_text.specs.Characters.{is_space, is_allowed, is_name_char};
-ghost use Rattle.pom_text.specs.Reads.{after, skip_space, name_of, up_to, is_value, value_of, quoted};
+ghost use Rattle.std.specs.Prelude.{◌≡◌, ◌≤◌, length, option_map};
+ghost use Rattle.std.specs.List.{list_any, prefix_len};
+ghost use Rattle.pom_text.specs.Characters.{is_space, is_name_char};
+ghost use Rattle.pom_text.specs.Reads.{after, skip_space, name_of, is_value, value_of, quoted};
+ghost use Rattle.pom_text.specs.Runs.{is_run, is_suspect};
 
-use crate::character::{is_allowed, is_name_char, is_name_start, is_space};
+use crate::character::{is_name_char, is_name_start, is_space, is_suspect};
+use memchr::{memchr2, memchr3};
 
-// What follows a mark, where the text begins with it.
+// What follows a mark, where the bytes begin with it.
 #[tactic(auto, unfolding(crate::specs::Reads::after))]
-pub(crate) fn after<'a>(text: &'a [char], mark: &[char]) -> Option<&'a [char]>
-    ensures rest { option_map (λ rest. rest.now) result ≡ after mark.now text.now }
-    ensures within { IfSome result (λ rest. length rest.now ≤ length text.now) }
+pub(crate) fn after<'a>(text: &'a [u8], mark: &[u8]) -> Option<&'a [u8]>
+    ensures { option_map (λ rest. rest.now) result ≡ after mark.now text.now }
 {
     if text.starts_with(mark) {
         Some(&text[mark.len()..])
@@ -18,47 +19,57 @@ pub(crate) fn after<'a>(text: &'a [char], mark: &[char]) -> Option<&'a [char]>
     }
 }
 
-// How many characters of white space stand at the front.
-pub(crate) fn space_len(text: &[char]) -> usize
+// How many bytes of white space stand at the front.
+pub(crate) fn space_len(text: &[u8]) -> usize
     ensures within { result ≤ length text.now }
     ensures len { result ≡ prefix_len is_space text.now }
 {
-    for (i, c) in text.iter().enumerate() {
-        if !is_space(*c) {
+    for (i, b) in text.iter().enumerate() {
+        if !is_space(*b) {
             return i;
         }
     }
     text.len()
 }
 
-// How many characters at the front may stand in a text.
-pub(crate) fn allowed_len(text: &[char]) -> usize
-    ensures within { result ≤ length text.now }
-    ensures len { result ≡ prefix_len is_allowed text.now }
+// Whether some byte is of a character that may not stand in a text, or nearly so.
+pub(crate) fn has_suspect(text: &[u8]) -> bool
+    ensures { result ≡ list_any is_suspect text.now }
 {
-    for (i, c) in text.iter().enumerate() {
-        if !is_allowed(*c) {
-            return i;
-        }
+    let mut found = false;
+    for b in text {
+        found |= is_suspect(*b);
     }
-    text.len()
+    found
+}
+
+// How many bytes stand before the first `<`, `&` and carriage return.
+#[tactic(auto, using(crate::proofs::Needles::run_found, crate::proofs::Needles::run_all))]
+pub(crate) fn run_len(text: &[u8]) -> usize
+    ensures within { result ≤ length text.now }
+    ensures len { result ≡ prefix_len is_run text.now }
+{
+    match memchr3(b'<', b'&', b'\r', text) {
+        Some(at) => at,
+        None => text.len(),
+    }
 }
 
 // What follows the white space at the front.
 #[tactic(auto, unfolding(crate::specs::Reads::skip_space))]
-pub(crate) fn skip_space(text: &[char]) -> &[char]
+pub(crate) fn skip_space(text: &[u8]) -> &[u8]
     ensures { result.now ≡ skip_space text.now }
 {
     text.split_at(space_len(text)).1
 }
 
-// How many characters of a name stand at the front.
-fn name_len(text: &[char]) -> usize
+// How many bytes of a name stand at the front.
+pub(crate) fn name_len(text: &[u8]) -> usize
     ensures within { result ≤ length text.now }
     ensures len { result ≡ prefix_len is_name_char text.now }
 {
-    for (i, c) in text.iter().enumerate() {
-        if !is_name_char(*c) {
+    for (i, b) in text.iter().enumerate() {
+        if !is_name_char(*b) {
             return i;
         }
     }
@@ -67,7 +78,7 @@ fn name_len(text: &[char]) -> usize
 
 // A name, and what follows it.
 #[tactic(auto, unfolding(crate::specs::Reads::name_of))]
-pub(crate) fn name_of(text: &[char]) -> Option<(&[char], &[char])>
+pub(crate) fn name_of(text: &[u8]) -> Option<(&[u8], &[u8])>
     ensures { option_map (λ e. (e.0.now, e.1.now)) result ≡ name_of text.now }
 {
     match text {
@@ -79,42 +90,21 @@ pub(crate) fn name_of(text: &[char]) -> Option<(&[char], &[char])>
     }
 }
 
-// What stands before the first of a mark, and what follows that.
-pub(crate) fn up_to<'a>(text: &'a [char], mark: &[char]) -> Option<(&'a [char], &'a [char])>
-    ensures { option_map (λ e. (e.0.now, e.1.now)) result ≡ up_to mark.now text.now }
-{
-    for at in 0..text.len() {
-        let (front, rest) = text.split_at(at);
-        if let Some(rest) = after(rest, mark) {
-            return Some((front, rest));
-        }
-    }
-    None
-}
-
-#[tactic(auto, unfolding(crate::specs::Reads::is_value))]
-fn is_value(quote: char, c: char) -> bool
-    ensures { result ≡ is_value quote c }
-{
-    c != quote && c != '<'
-}
-
-// How many characters of a value in these quotes stand at the front.
-fn value_len(quote: char, text: &[char]) -> usize
+// How many bytes of a value in these quotes stand at the front.
+#[tactic(auto, using(crate::proofs::Needles::value_found, crate::proofs::Needles::value_all))]
+pub(crate) fn value_len(quote: u8, text: &[u8]) -> usize
     ensures within { result ≤ length text.now }
     ensures len { result ≡ prefix_len (is_value quote) text.now }
 {
-    for (i, c) in text.iter().enumerate() {
-        if !is_value(quote, *c) {
-            return i;
-        }
+    match memchr2(quote, b'<', text) {
+        Some(at) => at,
+        None => text.len(),
     }
-    text.len()
 }
 
 // A value behind its opening quote, and what follows its closing one.
 #[tactic(auto, unfolding(crate::specs::Reads::value_of))]
-fn value_of(quote: char, text: &[char]) -> Option<(&[char], &[char])>
+fn value_of(quote: u8, text: &[u8]) -> Option<(&[u8], &[u8])>
     ensures { option_map (λ e. (e.0.now, e.1.now)) result ≡ value_of quote text.now }
 {
     let n = value_len(quote, text);
@@ -124,11 +114,11 @@ fn value_of(quote: char, text: &[char]) -> Option<(&[char], &[char])>
 
 // A value in quotes, and what follows it.
 #[tactic(auto, unfolding(crate::specs::Reads::quoted))]
-pub(crate) fn quoted(text: &[char]) -> Option<(&[char], &[char])>
+pub(crate) fn quoted(text: &[u8]) -> Option<(&[u8], &[u8])>
     ensures { option_map (λ e. (e.0.now, e.1.now)) result ≡ quoted text.now }
 {
     match text {
-        [quote, rest @ ..] if *quote == '"' || *quote == '\'' => value_of(*quote, rest),
+        [quote, rest @ ..] if *quote == b'"' || *quote == b'\'' => value_of(*quote, rest),
         _ => None,
     }
 }

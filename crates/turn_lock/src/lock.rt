@@ -1,4 +1,10 @@
 // The lock and its calls.
+//
+// The table's first word is twice the length of the log, and one more while a turn is out. On the second those park that wait for a turn, on the third
+// those that rest. Each of these two is odd where a thread asked to be called, and a call makes it the next even number. Each step is sequentially
+// consistent; who parks asks before it looks at the first word again, and a giver writes that word before it looks whether one asked. So either the
+// giver finds that one asked, and calls, or the thread finds what was given, and doesn't park; and where the call comes in between, the word on which
+// the thread would park is another by then. A call for the turn wakes one thread, which asks again for those that may still be parked.
 ghost use Rattle.std.specs.Prelude.{◌≡◌, ◌+◌, ◌<◌, ◌≤◌, true, List, [], ◌∷◌, Some, None, IfOk, IfErr, IfSome, IfNone};
 ghost use Rattle.std.specs.Result.{is_ok};
 ghost use Rattle.turn_lock.specs.declared.lock.NewError.TheVariants.{Memory};
@@ -18,12 +24,6 @@ use std::sync::Wait;
 
 /// A value behind a lock. It may cross threads, and be shared by them, where the value may cross. Of waiting nothing is promised: not that a thread
 /// that waits is woken, nor that it is served at last or in its order, nor that threads with several locks don't wait for one another for ever. Own.
-//
-// The table's first word is twice the length of the log, and one more while a turn is out. On the second those park that wait for a turn, on the third
-// those that rest. Each of these two is odd where a thread asked to be called, and a call makes it the next even number. Each step is sequentially
-// consistent; who parks asks before it looks at the first word again, and a giver writes that word before it looks whether one asked. So either the
-// giver finds that one asked, and calls, or the thread finds what was given, and doesn't park; and where the call comes in between, the word on which
-// the thread would park is another by then. A call for the turn wakes one thread, which asks again for those that may still be parked.
 #[derive(Drop)]
 pub struct TurnLock<V: Kept> {
     table: Table<Option<V>, View<V::Fixed, V::Entry>, Snapshot<V>, TurnRule<V>, Global>,

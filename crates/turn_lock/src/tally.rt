@@ -1,9 +1,9 @@
 // Numbers that workers note under a turn lock.
 ghost use Rattle.std.specs.Prelude.{◌≡◌, ℕ, ◌+◌, ◌-◌, ◌<◌, ◌≤◌, ◌^◌, ◌∷◌, [], ◌++◌, None, length, IfOk, OnOk, OnErr};
 ghost use Rattle.std.specs.Thread.{IsSync};
-ghost use Rattle.turn_lock.specs.Noted.{in_order, noted, notes_of, with_next};
+ghost use Rattle.turn_lock.specs.Noted.{AddsNote, AllBegin, AllNoted, NoneNoted, SameNotes, in_order, noted, notes_of, with_next};
 ghost use Rattle.turn_lock.specs.Passes.{lock_of, view_of};
-ghost use Rattle.turn_lock.specs.Resting.{IsAtRest};
+ghost use Rattle.turn_lock.specs.Resting.{IsAtRest, IsBack, IsFor, Rests, RestsAgain};
 ghost use Rattle.turn_lock.specs.Turns.{Begins};
 
 use crate::{Kept, Pass, Turn, TurnLock};
@@ -128,10 +128,12 @@ pub fn note_down<R: Wait>(
     requires free { ((view_of pass.old).turn ≡ None) × ((view_of pass.old).number ≡ worker) }
     ensures own { lock_of pass.new ≡ lock.now }
     ensures free { ((view_of pass.new).turn ≡ None) × ((view_of pass.new).owed ≡ None) }
-    ensures reach { ((view_of pass.new).number ≡ worker) × ((view_of pass.new).reach ≡ (view_of pass.old).reach) }
-    ensures weight { ((view_of pass.new).weight ≡ (view_of pass.old).weight) × ((view_of pass.new).workers ≡ (view_of pass.old).workers) }
-    ensures noted { OnOk result (notes_of worker (view_of pass.new).seen ≡ notes_of worker (view_of pass.old).seen ++ (record { worker = worker; number = number }) ∷ []) }
-    ensures err { OnErr result (notes_of worker (view_of pass.new).seen ≡ notes_of worker (view_of pass.old).seen) }
+    ensures number { (view_of pass.new).number ≡ worker }
+    ensures reach { (view_of pass.new).reach ≡ (view_of pass.old).reach }
+    ensures weight { (view_of pass.new).weight ≡ (view_of pass.old).weight }
+    ensures workers { (view_of pass.new).workers ≡ (view_of pass.old).workers }
+    ensures noted { OnOk result (AddsNote worker number pass.old pass.new) }
+    ensures err { OnErr result (SameNotes worker pass.old pass.new) }
 {
     let Turn { mut value } = lock.take(rt, pass);
     let added = value.add(worker, number);
@@ -164,9 +166,9 @@ fn held<R: Wait + Clock>(
     worker: u32,
     millis: u32,
 ) -> u64
-    requires rest { IsAtRest lock.now worker (view_of pass.old).reach (view_of pass.old).weight (view_of pass.old).workers pass.old }
-    ensures rest { IsAtRest lock.now worker (view_of pass.old).reach (view_of pass.old).weight (view_of pass.old).workers pass.new }
-    ensures noted { notes_of worker (view_of pass.new).seen ≡ notes_of worker (view_of pass.old).seen }
+    requires rest { Rests lock.now worker pass.old }
+    ensures rest { RestsAgain lock.now worker pass.old pass.new }
+    ensures noted { SameNotes worker pass.old pass.new }
 {
     let Turn { value } = lock.take(rt, pass);
     let notes = value.entries();
@@ -183,9 +185,9 @@ fn rest_until<R: Wait + Clock>(
     worker: u32,
     notes: u64,
 )
-    requires rest { IsAtRest lock.now worker (view_of pass.old).reach (view_of pass.old).weight (view_of pass.old).workers pass.old }
-    ensures rest { IsAtRest lock.now worker (view_of pass.old).reach (view_of pass.old).weight (view_of pass.old).workers pass.new }
-    ensures noted { notes_of worker (view_of pass.new).seen ≡ notes_of worker (view_of pass.old).seen }
+    requires rest { Rests lock.now worker pass.old }
+    ensures rest { RestsAgain lock.now worker pass.old pass.new }
+    ensures noted { SameNotes worker pass.old pass.new }
 {
     for _ in rt.forever() {
         if held(rt, lock, pass, worker, 0) >= notes {
@@ -205,9 +207,9 @@ fn come<R: Wait + Clock>(
     number: u32,
     task: &Task,
 )
-    requires rest { IsAtRest lock.now worker (view_of pass.old).reach (view_of pass.old).weight (view_of pass.old).workers pass.old }
-    ensures rest { IsAtRest lock.now worker (view_of pass.old).reach (view_of pass.old).weight (view_of pass.old).workers pass.new }
-    ensures noted { notes_of worker (view_of pass.new).seen ≡ notes_of worker (view_of pass.old).seen }
+    requires rest { Rests lock.now worker pass.old }
+    ensures rest { RestsAgain lock.now worker pass.old pass.new }
+    ensures noted { SameNotes worker pass.old pass.new }
 {
     if task.round > 0 {
         let before = (number as u64).wrapping_mul(task.round as u64);
@@ -227,9 +229,9 @@ fn work<R: Wait + Clock>(
     worker: u32,
     task: &Task,
 ) -> Mem<()>
-    requires rest { IsAtRest lock.now worker (view_of pass.old).reach (view_of pass.old).weight (view_of pass.old).workers pass.old }
+    requires rest { Rests lock.now worker pass.old }
     requires fresh { notes_of worker (view_of pass.old).seen ≡ [] }
-    ensures rest { IsAtRest lock.now worker (view_of pass.old).reach (view_of pass.old).weight (view_of pass.old).workers pass.new }
+    ensures rest { RestsAgain lock.now worker pass.old pass.new }
     ensures noted { OnOk result (notes_of worker (view_of pass.new).seen ≡ noted worker task.now.count) }
 {
     for number in 0..task.count {
@@ -249,11 +251,11 @@ fn crew<R: Threads + Wait + Clock + Sync>(
     reach: u32,
     task: &Task,
 ) -> Mem<()>
-    requires rest { IsAtRest lock.now first reach (reach - first) (view_of pass.old).workers pass.old }
+    requires rest { IsFor lock.now first reach pass.old }
     requires some_worker { first < reach }
-    requires fresh { (k : ℕ) → first ≤ k → k < reach → notes_of k (view_of pass.old).seen ≡ [] }
-    ensures rest { IsAtRest lock.now first (first + 1) (reach - first) (view_of pass.old).workers pass.new }
-    ensures noted { OnOk result ((k : ℕ) → first ≤ k → k < reach → Begins (noted k task.now.count) (notes_of k (view_of pass.new).seen)) }
+    requires fresh { NoneNoted first reach pass.old }
+    ensures rest { IsBack lock.now first reach pass.old pass.new }
+    ensures noted { OnOk result (AllNoted first reach task.now.count pass.new) }
 {
     if reach - first < 2 {
         return work(rt, lock, pass, first, task);
@@ -280,27 +282,27 @@ fn fork<R: Threads + Wait + Clock + Sync>(
     reach: u32,
     task: &Task,
 ) -> (Mem<()>, Mem<()>)
-    requires rest { IsAtRest lock.now first middle (middle - first) (view_of pass.old).workers pass.old }
-    requires other_rest { IsAtRest lock.now middle reach (reach - middle) (view_of other.old).workers other.old }
+    requires rest { IsFor lock.now first middle pass.old }
+    requires other_rest { IsFor lock.now middle reach other.old }
     requires some_worker { (first < middle) × (middle < reach) }
-    requires fresh { (k : ℕ) → first ≤ k → k < middle → notes_of k (view_of pass.old).seen ≡ [] }
-    requires other_fresh { (k : ℕ) → middle ≤ k → k < reach → notes_of k (view_of other.old).seen ≡ [] }
-    ensures rest { IsAtRest lock.now first (first + 1) (middle - first) (view_of pass.old).workers pass.new }
-    ensures other_rest { IsAtRest lock.now middle (middle + 1) (reach - middle) (view_of other.old).workers other.new }
-    ensures noted { OnOk result.0 ((k : ℕ) → first ≤ k → k < middle → Begins (noted k task.now.count) (notes_of k (view_of pass.new).seen)) }
-    ensures other_noted { OnOk result.1 ((k : ℕ) → middle ≤ k → k < reach → Begins (noted k task.now.count) (notes_of k (view_of other.new).seen)) }
+    requires fresh { NoneNoted first middle pass.old }
+    requires other_fresh { NoneNoted middle reach other.old }
+    ensures rest { IsBack lock.now first middle pass.old pass.new }
+    ensures other_rest { IsBack lock.now middle reach other.old other.new }
+    ensures noted { OnOk result.0 (AllNoted first middle task.now.count pass.new) }
+    ensures other_noted { OnOk result.1 (AllNoted middle reach task.now.count other.new) }
 {
     join_mut(
         rt,
         &mut || -> Mem<()>
-            requires { IsSync R.row × IsAtRest lock.now first middle (middle - first) (view_of pass.now).workers pass.now × (first < middle) × ((k : ℕ) → first ≤ k → k < middle → notes_of k (view_of pass.now).seen ≡ []) }
-            ensures rest { IsAtRest lock.entry.now first (first + 1) (middle - first) (view_of pass.entry.now).workers pass.exit.now }
-            ensures noted { OnOk result ((k : ℕ) → first ≤ k → k < middle → Begins (noted k task.entry.now.count) (notes_of k (view_of pass.exit.now).seen)) }
+            requires { IsSync R.row × IsFor lock.now first middle pass.now × (first < middle) × NoneNoted first middle pass.now }
+            ensures rest { IsBack lock.entry.now first middle pass.entry.now pass.exit.now }
+            ensures noted { OnOk result (AllNoted first middle task.entry.now.count pass.exit.now) }
         { crew(rt, lock, pass, first, middle, task) },
         &mut || -> Mem<()>
-            requires { IsSync R.row × IsAtRest lock.now middle reach (reach - middle) (view_of other.now).workers other.now × (middle < reach) × ((k : ℕ) → middle ≤ k → k < reach → notes_of k (view_of other.now).seen ≡ []) }
-            ensures rest { IsAtRest lock.entry.now middle (middle + 1) (reach - middle) (view_of other.entry.now).workers other.exit.now }
-            ensures noted { OnOk result ((k : ℕ) → middle ≤ k → k < reach → Begins (noted k task.entry.now.count) (notes_of k (view_of other.exit.now).seen)) }
+            requires { IsSync R.row × IsFor lock.now middle reach other.now × (middle < reach) × NoneNoted middle reach other.now }
+            ensures rest { IsBack lock.entry.now middle reach other.entry.now other.exit.now }
+            ensures noted { OnOk result (AllNoted middle reach task.entry.now.count other.exit.now) }
         { crew(rt, lock, other, middle, reach, task) },
     )
 }
@@ -316,7 +318,7 @@ pub fn tallied<R: Threads + Wait + Clock + Sync>(
 ) -> Mem<Tally>
     requires { 0 < workers }
     ensures workers { IfOk result (λ tally. tally.workers ≡ workers) }
-    ensures noted { IfOk result (λ tally. (k : ℕ) → k < workers → Begins (noted k task.now.count) (notes_of k tally.notes.items)) }
+    ensures noted { IfOk result (λ tally. AllBegin workers task.now.count tally.notes.items) }
 {
     let (lock, mut pass) = opened(alloc, workers)?;
     let noted = crew(rt, &lock, &mut pass, 0, workers, task);

@@ -1,6 +1,8 @@
-use Rattle.std.proofs.Common.{arith}
-use Rattle.pom_text.proofs.Bounds.{encoded_within}
+use Rattle.std.proofs.Common.{subst}
+use Rattle.std.specs.Str.{chars}
+use Rattle.pom_text.specs.Running.{outcome_of}
+use Rattle.pom_text.specs.Runs.{EndsWith}
 use Rattle.pom_text.proofs.read.placed.Goals as goal
 
-pub refused-requires : goal.refused-requires
-refused-requires c = omega (arith, c.requires.mark, c.requires.text, c.len.ensures, encoded_within c.args.encoding c.split_at.result.0.now, c.split_at.ensures.front_len)
+pub place_of-place-requires : goal.place_of-place-requires
+place_of-place-requires c = subst (λ r. EndsWith (chars c.args.text.now) (chars c.args.more.now) (outcome_of r)) c.in-Halted.is c.requires.rest

@@ -1,7 +1,0 @@
-use Rattle.std.proofs.Common.{◌≡◌, ◌+◌, drop}
-use Rattle.std.specs.List.{prefix_len}
-use Rattle.pom_text.specs.Characters.{is_allowed}
-use Rattle.pom_text.proofs.words.allowed_len.Given as goal
-
-abbrev pub invariant-loop-i : goal.invariant-loop-i
-invariant-loop-i l = l.i + prefix_len is_allowed (drop l.i l.text) ≡ prefix_len is_allowed l.text

@@ -3,6 +3,7 @@
 
 mod bound;
 mod causes;
+pub mod course;
 pub mod deed;
 pub mod edges;
 pub mod entry;
@@ -15,9 +16,8 @@ pub mod outline;
 pub mod progress;
 pub mod refused;
 mod run;
-pub mod spot;
-mod stand;
-pub mod way;
+pub mod script_place;
+mod standing;
 
 pub use entry::{Carried, RunEntry};
 pub use outline::{ModuleOutline, Outline};

@@ -24,10 +24,10 @@ use Rattle.run_law.proofs.Invariants.{IsFetchFile, IsOwnFile, is_begun, outs, su
 use Rattle.run_law.specs.Given.{Extends, IsPresent, supply_by}
 use Rattle.build_core.specs.OneThread.{Supply, is_built, lacks_artifact, most_classpath, name_of, one_thread, remote_bytes}
 use Rattle.event_core.specs.Outlines.{is_listed, module_outline, outline_of}
-use Rattle.event_core.specs.Runs.{IsRunOf, answers_in, contents, goals_in, now_after}
+use Rattle.event_core.specs.Runs.{IsRunOf, answers_in, contents, goals_in, standing_of_run}
 use Rattle.event_core.specs.Scripts.{is_there}
 use Rattle.build_core.specs.Slots.{GoalsEnd, all_answered, goal_failed, kept_of, output_too_large, run_goals}
-use Rattle.event_core.specs.Standing.{Now, is_done, progress_of, state_of, upstream_of}
+use Rattle.event_core.specs.Standing.{Standing, is_done, progress_of, state_of, upstream_of}
 use Rattle.event_core.specs.Worlds.{AllFit, HandTold, is_good}
 use Rattle.run_law.proofs.AllAnswered.{all_answered_in}
 use Rattle.run_law.proofs.Carried.{same_name}
@@ -117,8 +117,8 @@ module _ (plan : Plan) (start remote : Files) (fit : IsFitPlan plan) (present : 
   abbrev kept : List Answered
   kept = answers_in plan entries
 
-  abbrev now : Now
-  now = now_after plan entries
+  abbrev now : Standing
+  now = standing_of_run plan entries
 
   abbrev files : Files
   files = contents plan start entries

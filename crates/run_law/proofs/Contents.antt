@@ -17,7 +17,7 @@ use Rattle.run_law.proofs.Invariants.{IsFetchFile, IsOwnFile, outs, supply_of}
 use Rattle.run_law.specs.Given.{Extends, IsPresent, supply_by}
 use Rattle.build_core.specs.OneThread.{Supply, is_built, name_of, one_thread}
 use Rattle.event_core.specs.Outlines.{is_listed, module_outline, outline_of}
-use Rattle.event_core.specs.Runs.{IsComplete, IsQuiet, IsRunOf, answers_in, contents, now_after}
+use Rattle.event_core.specs.Runs.{IsComplete, IsQuiet, IsRunOf, answers_in, contents, standing_of_run}
 use Rattle.event_core.specs.SoundPlans.{IsSoundPlan}
 use Rattle.event_core.specs.Standing.{state_of}
 use Rattle.event_core.specs.Worlds.{AllFit, HandTold}
@@ -123,8 +123,8 @@ left_by plan start remote kept said s o files left = record { other = left.other
 pub core : Core
 core plan start remote fit present owns hands tell entries run fits complete quiet said extends =
     let supply = supply_by start remote said in
-    left_once plan supply (λ number. state_of (outline_of plan) (now_after plan entries).progress number) (state_at (one_thread plan supply)) (outs plan (answers_in plan entries)) (outputs_at (one_thread plan supply)) (contents plan start entries) (one_thread plan supply).files
-    (left_by plan start remote (answers_in plan entries) said (λ number. state_of (outline_of plan) (now_after plan entries).progress number) (outs plan (answers_in plan entries)) (contents plan start entries) (left_so plan start remote fit present owns hands tell entries run fits complete quiet))
+    left_once plan supply (λ number. state_of (outline_of plan) (standing_of_run plan entries).progress number) (state_at (one_thread plan supply)) (outs plan (answers_in plan entries)) (outputs_at (one_thread plan supply)) (contents plan start entries) (one_thread plan supply).files
+    (left_by plan start remote (answers_in plan entries) said (λ number. state_of (outline_of plan) (standing_of_run plan entries).progress number) (outs plan (answers_in plan entries)) (contents plan start entries) (left_so plan start remote fit present owns hands tell entries run fits complete quiet))
     (hand_left plan supply fit owns) (core_ends plan start remote fit present hands tell entries run fits complete quiet said extends)
 
 -- and a sound plan is as it asks

@@ -22,7 +22,7 @@ use Rattle.run_law.proofs.Invariants.{is_quiet_end, outs}
 use Rattle.name_locks.specs.Locks.{below}
 use Rattle.build_core.specs.OneThread.{Supply, beginning, one_thread}
 use Rattle.event_core.specs.Outlines.{is_listed, module_outline, outline_of}
-use Rattle.event_core.specs.Runs.{IsComplete, answers_in, contents, now_after, outputs_from, outputs_in}
+use Rattle.event_core.specs.Runs.{IsComplete, answers_in, contents, outputs_from, outputs_in, standing_of_run}
 use Rattle.event_core.specs.SoundPlans.{IsSoundPlan}
 use Rattle.event_core.specs.Standing.{first_lost, progress_of}
 use Rattle.run_law.proofs.Betweens.{lies}
@@ -30,7 +30,7 @@ use Rattle.run_law.proofs.JudgedRuns.{IsFitPlan, behind_all, core_ends, isolatio
 use Rattle.run_law.proofs.Contents.{core, sound_owns}
 use Rattle.run_law.proofs.Fold.{IsSoFar, fold_judged, hand_judged, in_list}
 use Rattle.run_law.proofs.Kept.{outputs_are}
-use Rattle.event_core.proofs.Places.{length_below}
+use Rattle.event_core.proofs.ScriptPlaces.{length_below}
 use Rattle.run_law.proofs.Reruns.{ends_again, files_again}
 use Rattle.run_law.proofs.Sounds.{sound_fit}
 use Rattle.run_law.proofs.Stored.{get_in, get_map, length_map}
@@ -93,8 +93,8 @@ outputs_all plan run outputs long each = ext_get_or [] (outputs_in plan run) out
 -- ---- the closed form
 
 -- a module that stands as one that ended has ended
-ended_state : (plan : Plan) (run : List RunEntry) (number : ℕ) (e : Ending) → state_after plan run number ≡ state.Ended e → progress_of (now_after plan run).progress number ≡ Ended e
-ended_state plan run number e is = by (progress_of (now_after plan run).progress number) refl
+ended_state : (plan : Plan) (run : List RunEntry) (number : ℕ) (e : Ending) → state_after plan run number ≡ state.Ended e → progress_of (standing_of_run plan run).progress number ≡ Ended e
+ended_state plan run number e is = by (progress_of (standing_of_run plan run).progress number) refl
   where
     ended : State → Option Ending
     ended (state.Ended x) = Some x
@@ -103,7 +103,7 @@ ended_state plan run number e is = by (progress_of (now_after plan run).progress
     none : (x : Ending) → ◌≡◌ {A = Option Ending} None (Some x) → ⊥
     none x e = false≢true (ap is_some e)
 
-    by : (p : Progress) → progress_of (now_after plan run).progress number ≡ p → progress_of (now_after plan run).progress number ≡ Ended e
+    by : (p : Progress) → progress_of (standing_of_run plan run).progress number ≡ p → progress_of (standing_of_run plan run).progress number ≡ Ended e
     by Waiting at = absurd (none e (sym (ap ended stands) ∙ ap ended is))
       where
         stands : state_after plan run number ≡ state.Waiting
@@ -114,7 +114,7 @@ ended_state plan run number e is = by (progress_of (now_after plan run).progress
         stands = rw at refl
     by Skipped at = absurd (none e (sym (ap ended stands) ∙ ap ended is))
       where
-        stands : state_after plan run number ≡ state.Skipped (unwrap_or (first_lost (outline_of plan) (now_after plan run).progress number) 0)
+        stands : state_after plan run number ≡ state.Skipped (unwrap_or (first_lost (outline_of plan) (standing_of_run plan run).progress number) 0)
         stands = rw at refl
     by (Ended x) at = at ∙ ap (λ o. Ended (unwrap_or o ending.Memory)) (sym (ap ended stands) ∙ ap ended is)
       where
@@ -169,10 +169,10 @@ quiet_of (ending.OutputTooLarge i) is = refl
 quiet_of (ending.Fault d) is = absurd (false≢true (sym is))
 quiet_of ending.Memory is = absurd (false≢true (sym is))
 
-ended_is : (plan : Plan) (run : List RunEntry) (number : ℕ) (e : Ending) → progress_of (now_after plan run).progress number ≡ Ended e → state_after plan run number ≡ state.Ended e
+ended_is : (plan : Plan) (run : List RunEntry) (number : ℕ) (e : Ending) → progress_of (standing_of_run plan run).progress number ≡ Ended e → state_after plan run number ≡ state.Ended e
 ended_is plan run number e is = rw is refl
 
-untouched_quiet : (plan : Plan) (run : List RunEntry) {number : ℕ} → IsUntouched plan run number → (e : Ending) → progress_of (now_after plan run).progress number ≡ Ended e → is_quiet_end e ≡ true
+untouched_quiet : (plan : Plan) (run : List RunEntry) {number : ℕ} → IsUntouched plan run number → (e : Ending) → progress_of (standing_of_run plan run).progress number ≡ Ended e → is_quiet_end e ≡ true
 untouched_quiet plan run (untouched number not ups) e is = quiet_of e (ap is_fault (sym (ended_is plan run number e is)) ∙ not)
 
 untouched_up : (plan : Plan) (run : List RunEntry) {number : ℕ} (u : ℕ) (m : PlanModule) → slice_get plan.modules number ≡ Some m → is_listed u m.upstream ≡ true → IsUntouched plan run number → IsUntouched plan run u

@@ -1,6 +1,6 @@
-# What each measurement begins with: a built program by its path, a folder of its own to work in, gone when it ends, and how
-# the time of one run is taken and told. A script says what one run is, by a function `once`, and what comes before it
-# untimed, by `prepare`.
+# Common to the measurements of bench/, each of which reads this first: the path of a built program, a temporary folder that is removed at
+# the end, and functions that take and print the time of a run. A script says by a function `once` what one run is, and by `prepare`
+# what is done before it and isn't timed.
 set -eu
 . "$(dirname "$0")/../tests/program.sh"
 work=$(mktemp -d)

@@ -1,10 +1,14 @@
 #!/usr/bin/env bash
 # How fast texts are read, in MB/s of the built program `bench_elements`, each of 1 MiB or just below: a POM like those that
-# people write, elements in 63 others, one long text, references alone, and one comment that doesn't end. A tenth of each is
-# measured beside it: ten times its time is what linear costs.
+# people write, elements in 63 others, one long text, white space, references alone, empty elements of three attributes, and
+# one comment that doesn't end. A tenth of each is measured beside it: ten times its time is what linear costs. Where xmllint
+# is installed, its SAX reader runs beside it on the same bytes, and the ratio is told, in which 0.5 is half of its speed; and
+# where GNU time is, the most memory that was resident.
 . "$(dirname "$0")/common.sh"
 want crates/bench_elements/out/bench_elements '(cd crates/bench_elements && rt run)'
-once() { "$program" < in > out; }
+once() {
+  if [ "$reader" = sax ]; then xmllint --sax --noout in > out.sax 2>&1 || true; else "$program" < in > out; fi
+}
 
 # BYTES: a text of as many or a few less
 dependencies() {
@@ -27,13 +31,29 @@ long() { printf '<r>'; head -c $(($1 - 8)) /dev/zero | tr '\0' 'x'; printf '</r>
 references() { awk -v most="$1" 'BEGIN { printf "<r>"; for (i = 0; (i + 3) * 5 < most; i++) printf "&amp;"; printf "</r>" }'; }
 unfinished() { printf '<r><!--'; head -c $(($1 - 8)) /dev/zero | tr '\0' '-'; }
 
+white() { printf '<r>'; head -c $(($1 - 8)) /dev/zero | tr '\0' ' '; printf '</r>'; }
+attributes() { awk -v most="$1" 'BEGIN { printf "<r>"; for (i = 0; (i + 1) * 47 + 7 < most; i++) printf "<b name=\"one\" second=\"two\" third=\"%010d\"/>", i; printf "</r>" }'; }
+
+# The kilobytes that were resident at most, or nothing where it can't be told
+resident() { [ -x /usr/bin/time ] || return 0; /usr/bin/time -f '%M KiB' "$program" < in 2>&1 > out | tail -n 1; }
+
 printf '<r/>' > in
+reader=own
 base=$(least 15)
-for kind in dependencies nested long references unfinished; do
+reader=sax
+if command -v xmllint > xmllint.path; then sax_base=$(least 15); else sax_base=; fi
+for kind in dependencies nested long white references attributes unfinished; do
   for most in 104857 1048576; do
     "$kind" "$most" > in
+    reader=own
     spent=$(($(least 15) - base))
-    awk -v kind="$kind" -v bytes="$(wc -c < in)" -v spent="$spent" -v told="$(cat out)" \
-      'BEGIN { printf "%-12s %7d bytes  %8.2f ms  %7.1f MB/s  %s\n", kind, bytes, spent / 1e6, bytes * 1e3 / spent, told }'
+    ratio=
+    if [ -n "$sax_base" ]; then
+      reader=sax
+      sax=$(($(least 15) - sax_base))
+      ratio=$(awk -v own="$spent" -v sax="$sax" 'BEGIN { printf "%5.2f of SAX", sax / own }')
+    fi
+    awk -v kind="$kind" -v bytes="$(wc -c < in)" -v spent="$spent" -v ratio="$ratio" -v most="$(resident)" -v told="$(cat out)" \
+      'BEGIN { printf "%-12s %7d bytes  %8.2f ms  %7.1f MB/s  %s  %s  %s\n", kind, bytes, spent / 1e6, bytes * 1e3 / spent, ratio, most, told }'
   done
 done

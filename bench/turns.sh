@@ -1,7 +1,7 @@
 #!/usr/bin/env bash
-# How the time of turns under a turn lock grows with their number, and how they compare with the same notes under a plain mutex, one after the
-# other in one run of this script, as ratios: of the number of turns, and for each number of threads of the lock over the mutex. All with the
-# built program `bench_turns`. A ratio of the numbers is a constant time a turn; with more threads the number of turns stays the same.
+# How the time of turns under a turn lock grows with their number, and how it compares with that of a plain mutex, for 1 to 16 threads that
+# do the same work: ratios, all taken in one run of this script with the built program `bench_turns`. If the ratio of the times is that of
+# the numbers, a turn takes a constant time; with more threads the number of turns stays the same.
 . "$(dirname "$0")/common.sh"
 want crates/bench_turns/out/bench_turns '(cd crates/bench_turns && rt run < stdin)'
 once() { "$program" < in > out; }

@@ -1,4 +1,5 @@
-# What each script of tests/ begins with: a folder of its own in `work`, gone when it ends, and how its cases are told and counted.
+# Common to the scripts of tests/ that try cases, each of which reads this first: a temporary folder, `work`, that is removed at the
+# end, and functions that print and count the cases.
 set -u
 . "$(dirname "${BASH_SOURCE[0]}")/program.sh"
 work=$(mktemp -d)

@@ -41,6 +41,45 @@ head -c 1048577 /dev/zero > pom.xml
 want 'a POM over the limit' 2 $'refused pom.xml rule 1 TooLarge at 1048576\n' validate
 { printf '%s' "$pom"; head -c $((1048576 - ${#pom})) /dev/zero | tr '\0' '\n'; } > pom.xml
 want 'a POM at the limit' 0 "$report" validate
+
+# Each of these fills a POM of 1,048,576 bytes, in an element that is skipped. None is answered by a want of memory.
+# OPENING, PART, ENDING: the POM whose skipped element has these, the part as often as there is room, and spaces
+fill() {
+  LC_ALL=C awk -v before="${pom%</project>}<x>$1" -v part="$2" -v after="$3" -v behind='</x></project>' 'BEGIN {
+    room = 1048576 - length(before) - length(after) - length(behind)
+    printf "%s", before
+    for (used = 0; used + length(part) <= room; used += length(part)) printf "%s", part
+    printf "%s", after
+    for (; used < room; used++) printf " "
+    printf "%s", behind }' > pom.xml
+}
+fill '' '<a/>' ''
+want '1 MiB of empty elements' 0 "$report" validate
+fill '' '<a b="" c="" d="" e=""></a>' ''
+want '1 MiB of elements with attributes' 0 "$report" validate
+fill '<a' ' b=""' '/>'
+want '1 MiB of attributes' 0 "$report" validate
+fill '<' 'n' '/>'
+want 'a name of 1 MiB' 0 "$report" validate
+fill '<![CDATA[' 'x' ']]>'
+want '1 MiB of CDATA' 0 "$report" validate
+fill '<![CDATA[' $'\r' ']]>'
+want '1 MiB of carriage returns in CDATA' 0 "$report" validate
+fill '' $'\r\n' ''
+want '1 MiB of line ends' 0 "$report" validate
+fill '' '&amp;' ''
+want '1 MiB of references' 0 "$report" validate
+fill '<!--' 'x' '-->'
+want 'a comment of 1 MiB' 0 "$report" validate
+fill '' $'\xc3\xa9' ''
+want '1 MiB of characters past ASCII' 0 "$report" validate
+{
+  printf '%s<build><plugins><plugin><artifactId>p</artifactId><configuration>' "${pom%</project>}"
+  for _ in $(seq 59); do printf '<c>'; done
+  for _ in $(seq 59); do printf '</c>'; done
+  printf '</configuration></plugin></plugins></build></project>'
+} > pom.xml
+want 'a configuration of 59 levels' 2 $'not built yet\n' validate
 want 'two words' 2 $'not built yet\n' validate validate
 want 'a part of a word' 2 $'not built yet\n' valida
 
@@ -115,7 +154,7 @@ rm -r src/main/java/part
 ln -s ../../../elsewhere/part src/main/java/part
 same 'a link to a folder of sources'
 ln -s .. elsewhere/part/circle
-ln -s nowhere elsewhere/part/nowhere
+ln -s missing elsewhere/part/nowhere
 same 'a circle of links, and a link that leads nowhere'
 rm src/main/java/part elsewhere/part/circle elsewhere/part/nowhere
 mkdir src/main/java/part

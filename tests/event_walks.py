@@ -1,7 +1,7 @@
 #!/usr/bin/env python3
-"""Decides by the definition itself which events of a build may come, and why the others may not, slowly: where the build stands is worked
-out from the list of events at each question. Walks through builds as the program `bench_events` does, and prints the lines that it is to
-print. usage: event_walks.py FIRST LAST"""
+"""Prints what the program `bench_events` has to print for its walks through small builds: which events the definition of the event core
+allows at each step, and why it forbids the others. It is plain and slow: at each question it works out from the list of events so far
+where the build stands. usage: event_walks.py FIRST LAST, the numbers of the walks"""
 import sys
 
 SHARED, EXCLUSIVE = 'Shared', 'Exclusive'

@@ -1,5 +1,5 @@
 #!/usr/bin/env bash
-# What a run of the gate costs, by crate: processor minutes of its proofs, its tests and its wrong bodies.
+# Measures what a CI run (`rt ci`) costs, by crate: processor minutes of its proofs, its tests and its wrong bodies.
 #
 #     tests/gate_cost.sh --run LOG [--anew] [NAME..]     runs `rt ci` with these words, keeps what it says in LOG, and ends with its status
 #     tests/gate_cost.sh LOG                             prints the table of such a log

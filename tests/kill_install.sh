@@ -1,8 +1,9 @@
 #!/usr/bin/env bash
-# Kills installs of a project of three modules at random moments, up to half as late again as one takes, and looks after each that no name
-# is torn: each POM and each jar is absent, or has its whole old bytes or its whole new ones. At the end one more install, undisturbed,
-# leaves what it leaves in a new repository. As long as `mvn` builds one POM at a time, an install of the project is one of each module, in
-# their order. usage: kill_install.sh [KILLS], 100 by itself. The program is the one that MVN names, or bin/mvn.
+# Shows that a killed install leaves no torn file: kills installs of a project of three modules at random moments, up to half as late again
+# as one install takes, and checks after each that every POM and every jar is absent, or has all its old bytes or all its new ones. At the
+# end one more install, undisturbed, leaves what it leaves in a new repository. As long as `mvn` builds one POM at a time, an install of the
+# project is one of each module, in their order. usage: kill_install.sh [KILLS], 100 if absent. The program is the one that MVN names, or
+# bin/mvn.
 . "$(dirname "$0")/cases.sh"
 find_program
 kills=${1-100}

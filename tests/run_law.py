@@ -1,5 +1,6 @@
-"""Plans, runs and the build by one thread, written down as a table of trails and a table of endings and worked out slowly, from nothing but
-the entries of a run. Nothing here chooses: `may_come` and `fits` judge an entry, `one_thread` builds.
+"""Plans, runs and the build by one thread as a plain, slow program, with which run_walks.py tries the law of runs. It is a table of trails
+and a table of endings, and works everything out from the entries of a run. Nothing here chooses: `may_come` and `fits` judge an entry,
+`one_thread` builds.
 
 Bytes are `('bytes', what, length)`, so that they can be as long as the real limits. An answer is `('answer', 'done')`, `('answer', 'failed',
 text)` or `('answer', 'produced', bytes)`. Names and files are numbers. An event is a kind, a worker and what it is of; an entry of a run is

@@ -1,8 +1,8 @@
 #!/usr/bin/env bash
-# Shows that an install whose status is 0 has brought the names of every folder from the repository's root to its files to the disk, also
-# of folders that an earlier run made and was stopped before it settled them. First without a tool: a folder that may not be read can't be
-# brought to the disk, so each of them, made unreadable, is a fault. Then by a trace of system calls, where strace is installed and may
-# trace: a first install is killed in its first rename, and the next one syncs each folder after its last rename and before it answers.
+# Shows that an install whose status is 0 has synced every folder from the repository's root to its files, also the folders that an earlier
+# run made before it was stopped. First without a tool: a folder that may not be read can't be synced, so each of them, made unreadable,
+# is a fault. Then by a trace of system calls, if strace is installed and may trace: a first install is killed in its first rename, and
+# the next one syncs each folder after its last rename and before it answers.
 # The program is the one that MVN names, or bin/mvn.
 . "$(dirname "$0")/cases.sh"
 find_program

@@ -1,9 +1,9 @@
 #!/usr/bin/env bash
-# Runs two installs of one artifact into one repository at once, from two folders with other sources and other POMs, and looks after each
-# pair at what the two answered and that no name is torn: POM and jar have the whole bytes of the one or of the other. Then the same where
-# one of the two is killed at a random moment: the other is to answer as if it were alone. Last, one more install finds no leftover piece
-# in its way, and leaves none. usage: two_builds.sh [PAIRS], of each kind; by itself as many as there is time for in 15 seconds. The
-# program is the one that MVN names, or bin/mvn.
+# Shows that two installs at once into one repository don't disturb each other: runs pairs of installs of one artifact, from two folders
+# with different sources and POMs, and checks after each pair what the two answered and that no file is torn: POM and jar have all bytes of
+# the one or of the other. Then the same with one of the two killed at a random moment: the other has to answer as if it were alone. Last,
+# one more install is not hindered by a leftover staged file, and leaves none. usage: two_builds.sh [PAIRS], of each kind; if absent, as
+# many as there is time for in 15 seconds. The program is the one that MVN names, or bin/mvn.
 . "$(dirname "$0")/cases.sh"
 find_program
 pairs=${1-}

@@ -34,11 +34,7 @@ fn pom_name(alloc: Global, artifact: &str) -> Mem<Option<FileName>> {
 }
 
 // The first staging folder of the repository in a folder, as a process of this name uses it.
-fn area<'a>(
-    rt: &'a HostRuntime,
-    folder: &str,
-    process: &str,
-) -> Mem<RealArea<'a, HostRuntime>> {
+fn area<'a>(rt: &'a HostRuntime, folder: &str, process: &str) -> Mem<RealArea<'a, HostRuntime>> {
     let staging = Text::of(format!(in rt.alloc(); "{folder}/.staging/0")?);
     Ok(RealArea::new(rt, staging, Text::from_str(rt.alloc(), process)?))
 }

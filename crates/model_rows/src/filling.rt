@@ -1,19 +1,17 @@
 // Expressions in a POM.
-use crate::fields::{field, pairs};
-use crate::machine::machine;
-use crate::poms::project;
-use crate::shown::push_texts;
 use interpolate::fill;
 use model_types::RawModel;
 use mvn_base::{ModelError, Pair};
-use mvn_shared::{List, Mem, Text};
+use mvn_shared::{List, Mem, Shared, Text};
+use row_models::{field, machine, pairs, project, push_texts};
 use std::alloc::Global;
 
 // The POM of the folder `/w/app` with what its expressions come to.
-fn filled(alloc: Global, raw: &RawModel, defines: &[Pair]) -> Result<RawModel, ModelError> {
+fn filled(alloc: Global, raw: &RawModel, defines: &[Pair]) -> Result<Shared<RawModel>, ModelError> {
     let machine = machine(alloc)?;
     let basedir = Text::from_str(alloc, "/w/app")?;
-    fill(alloc, raw, Some(&basedir), &machine, defines)
+    let model = fill(alloc, raw, Some(&basedir), &machine, defines)?;
+    Ok(Shared::new(alloc, model)?)
 }
 
 // The packaging and the modules.
@@ -23,12 +21,17 @@ fn shown(alloc: Global, model: &RawModel) -> Mem<String> {
     Ok(shown)
 }
 
+// The packaging and the modules of a POM filled with these properties of the command line too.
+fn told_filled(alloc: Global, raw: &RawModel, defines: &[Pair]) -> Result<String, ModelError> {
+    let model = filled(alloc, raw, defines)?;
+    Ok(shown(alloc, &model)?)
+}
+
 /// The packaging of a POM and its modules, filled with these properties of the command line too.
 pub(crate) fn told(alloc: Global, fields: &[&str]) -> Result<String, ModelError> {
     let raw = project(alloc, field(fields, 0))?;
     let defines = pairs(alloc, field(fields, 1))?;
-    let model = filled(alloc, &raw, defines.as_slice())?;
-    Ok(shown(alloc, &model)?)
+    told_filled(alloc, &raw, defines.as_slice())
 }
 
 // The property of a number, which names the one before it twice.
@@ -38,14 +41,21 @@ fn twice(alloc: Global, number: u32, before: u32) -> Mem<Pair> {
     Ok(Pair { name, value })
 }
 
+// The property p0.
+fn base(alloc: Global, value: &str) -> Mem<Pair> {
+    let name = Text::from_str(alloc, "p0")?;
+    let value = Text::from_str(alloc, value)?;
+    Ok(Pair { name, value })
+}
+
 // So many properties from p0 on, which is this text; each further one names the one before it twice.
 fn doubled(alloc: Global, count: u32, first: &str) -> Mem<List<Pair>> {
-    let name = Text::from_str(alloc, "p0")?;
-    let value = Text::from_str(alloc, first)?;
+    let first = base(alloc, first)?;
     let mut list = List::new(alloc);
-    list.push(Pair { name, value })?;
+    list.push(first)?;
     for before in 0..count.saturating_sub(1) {
-        list.push(twice(alloc, before + 1, before)?)?;
+        let pair = twice(alloc, before + 1, before)?;
+        list.push(pair)?;
     }
     Ok(list)
 }
@@ -56,11 +66,16 @@ fn length(alloc: Global, model: &RawModel) -> Mem<String> {
     Ok(format!(in alloc; "{bytes} bytes")?)
 }
 
+// The length of a POM's packaging, filled with these properties of the command line.
+fn told_length(alloc: Global, raw: &RawModel, defines: &[Pair]) -> Result<String, ModelError> {
+    let model = filled(alloc, raw, defines)?;
+    Ok(length(alloc, &model)?)
+}
+
 /// The length of a POM's packaging, filled with so many properties of the command line, each of which names the one before it twice.
 pub(crate) fn told_doubled(alloc: Global, fields: &[&str]) -> Result<String, ModelError> {
     let raw = project(alloc, field(fields, 0))?;
     let count = field(fields, 1).parse::<u32>().unwrap_or(0);
     let defines = doubled(alloc, count, field(fields, 2))?;
-    let model = filled(alloc, &raw, defines.as_slice())?;
-    Ok(length(alloc, &model)?)
+    told_length(alloc, &raw, defines.as_slice())
 }

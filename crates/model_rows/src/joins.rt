@@ -1,54 +1,60 @@
 // POMs and parts of POMs that are joined.
-use crate::fields::field;
-use crate::poms::{behind, shown};
-use crate::shown::{push_build, push_dependencies, push_pairs, push_plugin, push_settings};
+use crate::parts::{both_needs, both_properties, build_text, plugin_text, settings_text};
 use inheritance::{inherit, super_pom};
 use model_merge::{merged_configuration, merged_plugin, settled, with_others};
 use model_types::{Dependency, Plugin, RawModel};
 use mvn_base::{ModelError, Pair};
 use mvn_shared::{Mem, Shared};
+use row_models::{behind, field, model_text, word};
 use std::alloc::Global;
 
-// What a POM has with its parent's.
-fn inherited(alloc: Global, child: &RawModel, parent: &RawModel) -> Mem<String> {
+// A POM with its parent's.
+fn inherited(alloc: Global, child: &RawModel, parent: &RawModel) -> Mem<Shared<RawModel>> {
     let model = inherit(alloc, child, parent)?;
-    shown(alloc, &model)
+    Shared::new(alloc, model)
+}
+
+// What a POM has with its parent's.
+fn shown_inherited(alloc: Global, child: &RawModel, parent: &RawModel) -> Mem<String> {
+    let model = inherited(alloc, child, parent)?;
+    model_text(alloc, &model)
+}
+
+fn root(alloc: Global) -> Mem<Shared<RawModel>> {
+    let root = super_pom(alloc)?;
+    Shared::new(alloc, root)
 }
 
 // How a module is built whose POM builds on no other.
 fn over_super(alloc: Global, child: &RawModel) -> Mem<String> {
-    let root = super_pom(alloc)?;
-    let model = inherit(alloc, child, &root)?;
-    let mut shown = String::new(alloc);
-    push_build(&mut shown, &model.build)?;
-    Ok(shown)
+    let root = root(alloc)?;
+    let model = inherited(alloc, child, &root)?;
+    build_text(alloc, &model.build)
 }
 
 // Two plugins merged.
-fn plugins(alloc: Global, child: &Plugin, parent: &Plugin) -> Mem<String> {
+fn merged(alloc: Global, child: &Plugin, parent: &Plugin) -> Mem<Shared<Plugin>> {
     let merged = merged_plugin(alloc, child, parent)?;
-    let mut shown = String::new(alloc);
-    push_plugin(&mut shown, &merged)?;
-    Ok(shown)
+    Shared::new(alloc, merged)
+}
+
+fn plugins(alloc: Global, child: &Plugin, parent: &Plugin) -> Mem<String> {
+    let merged = merged(alloc, child, parent)?;
+    plugin_text(alloc, &merged)
 }
 
 // The configurations of two plugins merged.
 fn configurations(alloc: Global, child: &Plugin, parent: &Plugin) -> Mem<String> {
     let child = child.configuration.as_slice();
     let merged = merged_configuration(alloc, child, parent.configuration.as_slice())?;
-    let mut shown = String::new(alloc);
-    push_settings(&mut shown, &merged)?;
-    Ok(shown)
+    settings_text(alloc, &merged)
 }
 
 // Two lists of properties joined, and the same settled once more.
 fn properties(alloc: Global, child: &[Pair], parent: &[Pair]) -> Mem<String> {
     let joined = with_others(alloc, child, parent)?;
-    let mut shown = String::new(alloc);
-    push_pairs(&mut shown, &joined)?;
-    shown.push_str(" settled")?;
-    push_pairs(&mut shown, &settled(alloc, joined.as_slice())?)?;
-    Ok(shown)
+    let again = settled(alloc, joined.as_slice())?;
+    both_properties(alloc, &joined, &again)
 }
 
 // The same of dependencies.
@@ -58,38 +64,44 @@ fn needs(
     parent: &[Shared<Dependency>],
 ) -> Mem<String> {
     let joined = with_others(alloc, child, parent)?;
-    let mut shown = String::new(alloc);
-    push_dependencies(&mut shown, " needs[", &joined)?;
-    shown.push_str(" settled")?;
-    push_dependencies(&mut shown, " needs[", &settled(alloc, joined.as_slice())?)?;
-    Ok(shown)
+    let again = settled(alloc, joined.as_slice())?;
+    both_needs(alloc, &joined, &again)
 }
 
-// A join of two whole POMs.
-fn joined(alloc: Global, kind: &str, child: &RawModel, parent: &RawModel) -> Mem<String> {
+// A join of two plugins.
+fn joined_plugins(alloc: Global, kind: &str, child: &Plugin, parent: &Plugin) -> Mem<String> {
     match kind {
-        "inherit" => inherited(alloc, child, parent),
-        "properties" => properties(
-            alloc,
-            child.base.properties.as_slice(),
-            parent.base.properties.as_slice(),
-        ),
-        _ => needs(
-            alloc,
-            child.base.dependencies.as_slice(),
-            parent.base.dependencies.as_slice(),
-        ),
+        "merged-plugin" => plugins(alloc, child, parent),
+        _ => configurations(alloc, child, parent),
     }
 }
 
 // A join of the first plugins of two POMs.
-fn merged(alloc: Global, kind: &str, child: &RawModel, parent: &RawModel) -> Mem<String> {
+fn first_plugins(alloc: Global, kind: &str, child: &RawModel, parent: &RawModel) -> Mem<String> {
     let child = child.build.base.plugins.get(0);
     let parent = parent.build.base.plugins.get(0);
     match (child, parent) {
-        (Some(child), Some(parent)) if kind == "merged-plugin" => plugins(alloc, child, parent),
-        (Some(child), Some(parent)) => configurations(alloc, child, parent),
-        _ => Ok(String::from_str(alloc, "no plugin")?),
+        (Some(child), Some(parent)) => joined_plugins(alloc, kind, child, parent),
+        _ => word(alloc, "no plugin"),
+    }
+}
+
+// A join of two POMs.
+fn joined(alloc: Global, kind: &str, child: &RawModel, parent: &RawModel) -> Mem<String> {
+    let (own, others) = (&child.base, &parent.base);
+    match kind {
+        "inherit" => shown_inherited(alloc, child, parent),
+        "properties" => properties(
+            alloc,
+            own.properties.as_slice(),
+            others.properties.as_slice(),
+        ),
+        "needs" => needs(
+            alloc,
+            own.dependencies.as_slice(),
+            others.dependencies.as_slice(),
+        ),
+        _ => first_plugins(alloc, kind, child, parent),
     }
 }
 
@@ -97,10 +109,7 @@ fn merged(alloc: Global, kind: &str, child: &RawModel, parent: &RawModel) -> Mem
 pub(crate) fn told(alloc: Global, kind: &str, fields: &[&str]) -> Result<String, ModelError> {
     let child = behind(alloc, field(fields, 0))?;
     let parent = behind(alloc, field(fields, 1))?;
-    match kind {
-        "inherit" | "properties" | "needs" => Ok(joined(alloc, kind, &child, &parent)?),
-        _ => Ok(merged(alloc, kind, &child, &parent)?),
-    }
+    Ok(joined(alloc, kind, &child, &parent)?)
 }
 
 /// How a module is built whose POM builds on no other.

@@ -1,12 +1,11 @@
 // What is managed, and what declarations take from it.
-use crate::fields::field;
-use crate::poms::behind;
-use crate::shown::{push_dependencies, push_plugins};
+use crate::parts::{needs_text, plugins_text};
 use managed_deps::{apply, apply_plugins, managed};
 use model_merge::copies;
 use model_types::{Dependency, RawModel};
 use mvn_base::ModelError;
 use mvn_shared::{List, Mem, Shared};
+use row_models::{behind, field};
 use std::alloc::Global;
 
 // What a POM manages.
@@ -15,14 +14,20 @@ fn managed_in(alloc: Global, inside: &str) -> Result<List<Shared<Dependency>>, M
     Ok(copies(&model.base.managed)?)
 }
 
+fn push_import(
+    imports: &mut Vec<List<Shared<Dependency>>>,
+    list: List<Shared<Dependency>>,
+) -> Mem<()> {
+    imports.push(list)?;
+    Ok(())
+}
+
 // What each of these POMs manages.
 fn imports(alloc: Global, fields: &[&str]) -> Result<Vec<List<Shared<Dependency>>>, ModelError> {
     let mut imports = Vec::new(alloc);
     for inside in fields {
         let list = managed_in(alloc, *inside)?;
-        if imports.push(list).is_err() {
-            return Err(ModelError::Memory);
-        }
+        push_import(&mut imports, list)?;
     }
     Ok(imports)
 }
@@ -31,9 +36,7 @@ fn imports(alloc: Global, fields: &[&str]) -> Result<Vec<List<Shared<Dependency>
 fn needs(alloc: Global, model: &RawModel, imports: &[List<Shared<Dependency>>]) -> Mem<String> {
     let set = managed(alloc, model.base.managed.as_slice(), imports)?;
     let applied = apply(alloc, model.base.dependencies.as_slice(), &set)?;
-    let mut shown = String::new(alloc);
-    push_dependencies(&mut shown, " needs[", &applied)?;
-    Ok(shown)
+    needs_text(alloc, &applied)
 }
 
 // The plugins of a POM with what it manages.
@@ -41,16 +44,13 @@ fn plugins(alloc: Global, model: &RawModel) -> Mem<String> {
     let base = &model.build.base;
     let managed = base.managed_plugins.as_slice();
     let applied = apply_plugins(alloc, base.plugins.as_slice(), managed)?;
-    let mut shown = String::new(alloc);
-    push_plugins(&mut shown, " plugin[", &applied)?;
-    Ok(shown)
+    plugins_text(alloc, &applied)
 }
 
 /// The dependencies of a POM with what it manages, and what the POMs in the further fields do.
 pub(crate) fn told(alloc: Global, fields: &[&str]) -> Result<String, ModelError> {
     let model = behind(alloc, field(fields, 0))?;
-    let further = fields.get(1..).unwrap_or(&[]);
-    let imports = imports(alloc, further)?;
+    let imports = imports(alloc, fields.get(1..).unwrap_or(&[]))?;
     Ok(needs(alloc, &model, imports.as_slice())?)
 }
 

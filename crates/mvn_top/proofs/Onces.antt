@@ -1,8 +1,8 @@
 -- Each name is published at most once.
-use Rattle.std.proofs.Common.{◌≡◌, ◌≢◌, ℕ, zero, suc, Bool, true, false, ◌&&◌, nat_eq, List, [], ◌∷◌, ◌++◌, map, codes, take, Option, Some, None, Result, Ok, Err, OnOk, OnErr, refl, sym, ap, subst, ◌∙◌}
+use Rattle.std.proofs.Common.{◌≡◌, ◌≢◌, ◌≤◌, arith, ℕ, zero, suc, Bool, true, false, ◌&&◌, nat_eq, List, [], ◌∷◌, ◌++◌, map, codes, take, length, Option, Some, None, IfSome, Result, Ok, Err, OnOk, OnErr, refl, sym, ap, subst, ◌∙◌}
 use Rattle.std.specs.List.{AllByRecursion}
 use Rattle.std.specs.Cmp.Lexicographic.{pointwise, nat_list_eq_equiv}
-use Rattle.std.proofs.lemmas.List.{append-nil, append_assoc}
+use Rattle.std.proofs.lemmas.List.{append-nil, append_assoc, length-append}
 use Rattle.mvn_base.specs.declared.gav.Gav.{Gav}
 use Rattle.mvn_base.specs.FileName.{file_name, artifact_folder, classifier_part}
 use Rattle.mvn_outside.specs.declared.fault.DeviceFault.{DeviceFault}
@@ -21,7 +21,7 @@ use Rattle.mvn_top.specs.Once.{IsDistinct, PublishesOnce}
 -- nothing is published
 pub same_once : (told : Option ShelfTold) → PublishesOnce told told
 same_once None = refl
-same_once (Some told) = ([], told.settled, ap (λ (ps : List Published). Some (record { opening = told.opening; publishes = ps; settled = told.settled })) (sym (append-nil told.publishes)), tt)
+same_once (Some told) = ([], told.settled, ap (λ (ps : List Published). Some (record { opening = told.opening; publishes = ps; settled = told.settled })) (sym (append-nil told.publishes)), tt, omega arith)
 
 abbrev names : List Published → List (List ℕ)
 names ps = map (λ p. p.name) ps
@@ -58,17 +58,21 @@ distinct_taken plan (o ∷ files) (suc count) h = (none_taken plan files count (
 
 -- ---- what was put, and settled or not
 
-settles : (told : ShelfTold) (more : List Published) (settled : Result (Unit {0}) DeviceFault) (now : Option ShelfTold) → IsDistinct (names more)
-    → OnOk settled (now ≡ settled_all (Some (record told { publishes = told.publishes ++ more }))) → OnErr settled (MaySettle (Some (record told { publishes = told.publishes ++ more })) now) → PublishesOnce (Some told) now
-settles told more (Ok done) now distinct ok err = (more, _, ok, distinct)
-settles told more (Err f) now distinct ok (count, low, high, is) = (more, count, is, distinct)
+-- the settled number is within the publishes, also where there are more
+within_more : (settled : ℕ) (before more : List Published) → settled ≤ length before → settled ≤ length (before ++ more)
+within_more settled before more le = let sum = length-append before more in omega (arith, le, sum)
 
-pub once_of_adds : (plan : Plan) (m : PlanModule) (own : List OwnBytes) (before middle now : Option ShelfTold) (tells : Bool) (settled : Result (Unit {0}) DeviceFault) → IsDistinct (map (λ o. name_of plan o.file) m.own)
+settles : (told : ShelfTold) (more : List Published) (settled : Result (Unit {0}) DeviceFault) (now : Option ShelfTold) → told.settled ≤ length told.publishes → IsDistinct (names more)
+    → OnOk settled (now ≡ settled_all (Some (record told { publishes = told.publishes ++ more }))) → OnErr settled (MaySettle (Some (record told { publishes = told.publishes ++ more })) now) → PublishesOnce (Some told) now
+settles told more (Ok done) now within distinct ok err = (more, _, ok, distinct, within_more told.settled told.publishes more within)
+settles told more (Err f) now within distinct ok (count, low, high, is) = (more, count, is, distinct, low)
+
+pub once_of_adds : (plan : Plan) (m : PlanModule) (own : List OwnBytes) (before middle now : Option ShelfTold) (tells : Bool) (settled : Result (Unit {0}) DeviceFault) → IfSome before (λ t. t.settled ≤ length t.publishes) → IsDistinct (map (λ o. name_of plan o.file) m.own)
     → ((count : ℕ) × Adds before middle tells (own_publishes plan m own (take count m.own))) → OnOk settled (now ≡ settled_all middle) → OnErr settled (MaySettle middle now) → PublishesOnce before now
-once_of_adds plan m own None middle now tells (Ok done) d (count, p) ok err = ok ∙ ap settled_all p
-once_of_adds plan m own None middle now tells (Err f) d (count, p) ok err = subst (λ (t : Option ShelfTold). MaySettle t now) p err
-once_of_adds plan m own (Some told) middle now tells settled d (count, (more, is, same_names, same)) ok err =
-    settles told more settled now (subst IsDistinct (sym same_names) (distinct_own plan m own (take count m.own) (distinct_taken plan m.own count d)))
+once_of_adds plan m own None middle now tells (Ok done) within d (count, p) ok err = ok ∙ ap settled_all p
+once_of_adds plan m own None middle now tells (Err f) within d (count, p) ok err = subst (λ (t : Option ShelfTold). MaySettle t now) p err
+once_of_adds plan m own (Some told) middle now tells settled within d (count, (more, is, same_names, same)) ok err =
+    settles told more settled now within (subst IsDistinct (sym same_names) (distinct_own plan m own (take count m.own) (distinct_taken plan m.own count d)))
     (subst (λ (t : Option ShelfTold). OnOk settled (now ≡ settled_all t)) is ok) (subst (λ (t : Option ShelfTold). OnErr settled (MaySettle t now)) is err)
 
 -- ---- the names of a jar's files

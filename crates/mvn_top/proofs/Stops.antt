@@ -74,7 +74,7 @@ take_past (x ∷ xs) ys (suc count) le = ap (λ (l : List Published). x ∷ l) (
 
 pub stops_between : (before now : Option ShelfTold) → PublishesOnce before now → StopsBetween before now
 stops_between None now h = tt
-stops_between (Some told) now (more, settled, is, distinct) = λ quiet.
+stops_between (Some told) now (more, settled, is, distinct, low) = λ quiet.
     subst (λ (t : Option ShelfTold). IfSome t (λ after. (files : Files) → Left after (length told.publishes) files → Between (files_now told) files (files_now after))) (sym is)
     (λ files left name. between files name (left name))
   where

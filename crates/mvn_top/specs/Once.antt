@@ -1,5 +1,5 @@
 -- What a call publishes, and what a stop may leave of it. Own rules.
-use Rattle.std.specs.Prelude.{◌≡◌, ◌≢◌, ℕ, List, [], ◌∷◌, ◌++◌, map, length, Option, Some, None, IfSome}
+use Rattle.std.specs.Prelude.{◌≡◌, ◌≢◌, ◌≤◌, ℕ, List, [], ◌∷◌, ◌++◌, map, length, Option, Some, None, IfSome}
 use Rattle.std.specs.List.{AllByRecursion}
 use Rattle.mvn_shared.specs.Files.{Files}
 use Rattle.mvn_outside.specs.declared.shelf.Published.{Published}
@@ -11,12 +11,12 @@ abbrev pub IsDistinct : List (List ℕ) → Type 0
 IsDistinct [] = Unit {0}
 IsDistinct (name ∷ names) = AllByRecursion (λ other. name ≢ other) names × IsDistinct names
 
--- of what a repository tells only its publishes have grown, by some of distinct names, and the settled number
+-- of what a repository tells only its publishes have grown, by some of distinct names, and the settled number, which never falls
 abbrev pub PublishesOnce : (before now : Option ShelfTold) → Type 0
 PublishesOnce None now = now ≡ None
 PublishesOnce (Some told) now = (more : List Published) × (settled : ℕ)
     × (now ≡ Some (record { opening = told.opening; publishes = told.publishes ++ more; settled = settled }))
-    × IsDistinct (map (λ p. p.name) more)
+    × IsDistinct (map (λ p. p.name) more) × (told.settled ≤ settled)
 
 -- where all was settled before, every map that a stop may have left since lies, name by name, between the files before and after
 abbrev pub StopsBetween : (before now : Option ShelfTold) → Type 0

@@ -145,7 +145,7 @@ fn call_hand<T: Tree, R, S: Shelf, G: Gate, O: Sink>(
 /// where the module is built, 1 where it isn't, 2 where the words or the project are refused, 3 after a fault of a device,
 /// 4 where memory ran out. The words are the one word `validate` or `install`, for now: so the machine isn't asked. The
 /// first hand builds: its area is swept first of all calls to it, and its remote isn't asked. What was published is settled
-/// once, before the report is written. Own rule.
+/// once, before the report is written. Project rule.
 ///
 /// The POM is read once; the sources are read once, and only where goals run. They are copied once, into the request that
 /// all goals share. Costs what reading, the goals and publishing cost, and memory for the sources twice, for the module's
@@ -179,7 +179,8 @@ pub fn mvn<T: Tree, R, S: Shelf, G: Gate, O: Sink>(
     // Below 3 there is one answer for each goal that the definition reaches.
     ensures count { IfSome (T.files tree.old) (λ files. result.status < 3 → (plan : Plan) → plan_of words.now files ≡ Ok plan → CountFits plan (kept_answers result.answers)) }
 
-    // Each name is published at most once; so at every moment, and after a stop, it has its old value or its new one.
+    // Each name is published at most once, and the settled number never falls; so at every moment, and after a stop, a name has
+    // its old value or its new one.
     ensures once { PublishesOnce (S.told shelf) (S.told result.shelf) }
     ensures whole_files { StopsBetween (S.told shelf) (S.told result.shelf) }
 

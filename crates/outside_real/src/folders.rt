@@ -27,9 +27,7 @@ pub(crate) fn full_path(alloc: Global, root: &str, path: &str) -> Mem<String>
 fn is_step(step: &[u8]) -> bool
     ensures { result ≡ is_step step.now }
 {
-    !step.is_empty()
-        && step != b".".as_slice()
-        && step != b"..".as_slice()
+    !step.is_empty() && step != b".".as_slice() && step != b"..".as_slice()
 }
 
 fn leads_below(path: &[u8]) -> bool

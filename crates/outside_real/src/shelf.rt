@@ -65,7 +65,12 @@ impl<'a, R: rt::Files<File = File> + AllocGlobal + Clone + Drop> RealShelf<'a, R
         ensures { shelf_faults self.new ≡ shelf_faults self.old }
     {
         let alloc = self.rt.alloc();
-        note_way(alloc, self.root.as_str(), name.as_text().as_str(), &mut self.changed)
+        note_way(
+            alloc,
+            self.root.as_str(),
+            name.as_text().as_str(),
+            &mut self.changed,
+        )
     }
 
     // Whether a file has the name; where one has, the folders on the way to it are noted.

@@ -8,6 +8,7 @@ use mvn_outside::ListFault;
 use mvn_shared::{Mem, Text};
 use std::alloc::Global;
 use std::fs::Metadata;
+use std::io::ErrorKind;
 use std::os::unix::fs::MetadataExt;
 use std::{fs, rt};
 
@@ -30,6 +31,17 @@ fn below(alloc: Global, folder: &str, name: &str) -> Mem<Text> {
         return Text::from_str(alloc, name);
     }
     Ok(Text::of(format!(in alloc; "{folder}/{name}")?))
+}
+
+// What stands at the path of a name that was read in its folder, links followed; nothing where a link leads nowhere.
+fn behind<R: rt::Files>(rt: &R, path: &str) -> Result<Option<Metadata>, ListFault> {
+    match rt.metadata(path) {
+        Ok(metadata) => Ok(Some(metadata)),
+        Err(e) => match e.kind() {
+            ErrorKind::NotFound | ErrorKind::NotADirectory => Ok(None),
+            _ => Err(ListFault::from(fault_of(&e))),
+        },
+    }
 }
 
 // Whether the folder at a place, or one of those that it was met in, is this one.
@@ -94,7 +106,7 @@ impl<'a, R: rt::Files + AllocGlobal + Clone + Drop> Walk<'a, R> {
     // Takes in what stands at a path, links followed. What is neither a file nor a folder, as a link that leads nowhere, is left out.
     fn take(&mut self, path: Text, above: usize) -> Result<(), ListFault> {
         let full = full_path(self.rt.alloc(), self.root, path.as_str())?;
-        let Some(metadata) = found(self.rt, full.as_str())? else {
+        let Some(metadata) = behind(self.rt, full.as_str())? else {
             return Ok(());
         };
         if metadata.is_dir() {
@@ -123,8 +135,9 @@ impl<'a, R: rt::Files + AllocGlobal + Clone + Drop> Walk<'a, R> {
     fn look_into(&mut self, folder: &str, place: usize) -> Result<(), ListFault> {
         let alloc = self.rt.alloc();
         let full = full_path(alloc, self.root, folder)?;
-        let entries =
-            fs::read_dir(self.rt, full.as_str()).map_err(|e| ListFault::from(fault_of(&e)))?;
+        let entries = fs::read_dir(self.rt, full.as_str()).map_err(|e| ListFault::from(fault_of(
+            &e,
+        )))?;
         for entry in entries {
             match entry {
                 Ok(entry) => self.take(below(alloc, folder, entry.file_name())?, place)?,

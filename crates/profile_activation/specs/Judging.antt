@@ -90,5 +90,5 @@ asks_for_any j profiles = is_some j.place && list_any (needs_file (on_by j) (off
 pub record Judges (j : Judge) (machine : Machine) (defines : List Pair) (choice : Choice)
     (pom : PomId) (profiles : List Profile) : Type 0 where
   pub places : (world : List ℕ → Bool)
-    → active_in j world profiles ≡ active machine defines choice world pom profiles
+      → active_in j world profiles ≡ active machine defines choice world pom profiles
   pub none : needs_files choice pom profiles ≡ false → asks_for_any j profiles ≡ false

@@ -183,8 +183,7 @@ impl<'a> Judge<'a> {
         ensures alone { Alone
             (is_some self.now.place && option_map_or asks_file activation.now false) result
             (λ world. option_map_or (holds_by self.now world) activation.now false) }
-        ensures untouched
-            { (is_some self.now.place && option_map_or asks_file activation.now false) ≡ false
+        ensures untouched { (is_some self.now.place && option_map_or asks_file activation.now false) ≡ false
             → files.new ≡ files.old }
     {
         match activation {

@@ -48,6 +48,7 @@ IsAbsentAt there (on_course number script last) = (f : ℕ) → wanted script �
 abbrev pub AreAbsent : Standing → Type 0
 AreAbsent now = (w : ℕ) → IsAbsentAt now.there (course_of now w)
 
+-- behind a deed that was due, what a course is to fetch next isn't there
 absent_deed : (there : List Bool) (held : List ℕ) (d : Deed) (answered : Option ℕ) (c : Course) → is_due c d ≡ true → IsAbsentAt there (after_deed there held d answered c)
 absent_deed there held d answered idle due = tt
 absent_deed there held d answered (off_course number file gathered) due = tt
@@ -57,6 +58,7 @@ absent_deed there held d answered (on_course number script last) due = by (done 
     by None some = absurd (false≢true some)
     by (Some rest) some = λ f e. settled_wants there (is_empty held) rest f e
 
+-- nor behind a free
 absent_free : (o : Outline) (there : List Bool) (held : List ℕ) (c : Course) → IsAbsentAt there (after_free o there held c)
 absent_free o there held idle = tt
 absent_free o there held (off_course number file gathered) = tt
@@ -66,6 +68,7 @@ absent_free o there held (on_course number script last) = by (done script deed.F
     by None = tt
     by (Some rest) = λ f e. settled_wants there (is_empty held) rest f e
 
+-- what a script is to fetch next is of its module's fetch list
 fit_wanted : (fetch own : List ℕ) (script : Script) (f : ℕ) → files_fit fetch own script ≡ true → wanted script ≡ Some f → is_listed f fetch ≡ true
 fit_wanted fetch own (step stage (fetches g) rest) f fit e = subst (λ x. is_listed x fetch ≡ true) (some_same g f e) (both (is_listed g fetch) (files_fit fetch own rest) fit).0
 fit_wanted fetch own whole f fit e = absurd (nothing_is f e)
@@ -98,6 +101,7 @@ module _ (plan : Plan) (sound : IsSoundPlan plan) where
         let fit : IsCourseFit o (on_course number script last) = subst (IsCourseFit o) on (s.courses.courses v) in
         (at.0, at.1, fit.0 (module_outline at.0) (get_map module_outline plan.modules number at.0 at.1))
 
+    -- who is at a module is one of the plan's workers
     inside : (v number : ℕ) (script : Script) (last : Option ℕ) → course_of now v ≡ on_course number script last → v < o.workers
     inside v number script last on = (s.standing.tied.running number v (s.standing.tied.busy v number (ap module_of on))).0
 
@@ -127,6 +131,7 @@ module _ (plan : Plan) (sound : IsSoundPlan plan) where
                 (ap is_some (holds_now o now s.guarded v number f cover.0 (module_outline his.0) script last (get_map module_outline plan.modules number his.0 his.1) on wants (cover.1 number his.0 his.1 listed)))
             which (inr own) = absurd (false≢true (sym (sound.not_fetched f x.0 number m.0 his.0 m.1 his.1 own) ∙ listed))
 
+    -- behind a publish, what any worker is to fetch next isn't there
     absent_publish : (w f : ℕ) → w < o.workers → is_due (course_of now w) (deed.Publish f) ≡ true → (v : ℕ) → IsAbsentAt (set now.there f true) (get_or (set now.courses w (after_deed (set now.there f true) (held_by now w) (deed.Publish f) None (course_of now w))) v idle)
     absent_publish w f low due v = by (same_or_not v w)
       where
@@ -146,6 +151,7 @@ module _ (plan : Plan) (sound : IsSoundPlan plan) where
         by (inl e) = subst (λ u. IsAbsentAt (set now.there f true) (get_or (set now.courses w course) u idle)) (sym e) (subst (IsAbsentAt (set now.there f true)) (sym (get_or-set_same now.courses w course idle (omega (arith, low, s.standing.fit.courses)))) (absent_deed (set now.there f true) (held_by now w) (deed.Publish f) None (course_of now w) due))
         by (inr other) = subst (IsAbsentAt (set now.there f true)) (sym (get_or-set_other now.courses w v course idle other)) (kept other (course_of now v) refl (s.absent v))
 
+  -- nor behind any event
   absent_after : (now : Standing) (e : Event) → Stands now → IsEnabled o now e → AreAbsent (after o now e)
   unfolding after
   absent_after now (event.Start w m) s is = at_place (IsAbsentAt now.there) now.courses w (on_course m (settled now.there (is_empty (held_by now w)) (start_of o m)) None) idle (λ f e. settled_wants now.there (is_empty (held_by now w)) (start_of o m) f e) s.absent
@@ -161,9 +167,11 @@ module _ (plan : Plan) (sound : IsSoundPlan plan) where
   absent_after now (event.Answer w g) s is = at_place (IsAbsentAt now.there) now.courses w (after_deed now.there (held_by now w) (deed.Answer g) (Some g) (course_of now w)) idle (absent_deed now.there (held_by now w) (deed.Answer g) (Some g) (course_of now w) is.2) s.absent
   absent_after now (event.End w e) s is = at_place (IsAbsentAt now.there) now.courses w idle idle tt s.absent
 
+  -- all of it holds where nothing has happened
   pub stands_first : Stands (at_first o)
   stands_first = record { standing = standing_first o; guarded = guarded_first o; excluding = excluding_first o; courses = courses_first o; absent = λ w. subst (IsAbsentAt (at_first o).there) (sym (any_idle o.workers w)) tt }
 
+  -- and stays behind each event
   pub stands_after : (now : Standing) (e : Event) → Stands now → IsEnabled o now e → Stands (after o now e)
   stands_after now e s is = record {
     standing = standing_after o now e s.standing is;
@@ -173,6 +181,7 @@ module _ (plan : Plan) (sound : IsSoundPlan plan) where
     absent = absent_after now e s is;
   }
 
+  -- so it holds behind every run
   pub stands : (events : List Event) → IsRun o [] events → Stands (standing_of o events)
   stands events run = by_events o Stands stands_after [] events stands_first run
 

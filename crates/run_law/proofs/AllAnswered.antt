@@ -26,6 +26,7 @@ use Rattle.run_law.proofs.Stored.{get_map}
 use Rattle.run_law.specs.Given.{is_answer, is_kept, reaches}
 
 module _ (p : Answered → Bool) where
+  -- what is found in the front of a list is found in the whole
   pub find_front : (xs ys : List Answered) → is_some (find p xs) ≡ true → is_some (find p (xs ++ ys)) ≡ true
   find_front [] ys is = absurd (false≢true is)
   find_front (x ∷ xs) ys is = by (p x) is (find_front xs ys)
@@ -34,6 +35,7 @@ module _ (p : Answered → Bool) where
       by true is again = refl
       by false is again = again is
 
+  -- and what is found in its end
   find_back : (xs ys : List Answered) → is_some (find p ys) ≡ true → is_some (find p (xs ++ ys)) ≡ true
   find_back [] ys is = is
   find_back (x ∷ xs) ys is = by (p x) (find_back xs ys is)
@@ -42,12 +44,14 @@ module _ (p : Answered → Bool) where
       by true again = refl
       by false again = again
 
+-- an answer to a goal is found in the list of it alone
 one_found : (number goal : ℕ) (a : Answered) → a.«module» ≡ number → a.goal ≡ goal → is_some (find (is_answer number goal) (a ∷ [])) ≡ true
 one_found number goal a m g = ap (λ b. is_some (if b then Some a else None)) both
   where
     both : is_answer number goal a ≡ true
     both = ap (λ k. nat_eq k number && nat_eq a.goal goal) m ∙ ap (λ b. b && nat_eq a.goal goal) (nat_eq_equiv.refl number) ∙ ap (λ k. nat_eq k goal) g ∙ nat_eq_equiv.refl goal
 
+-- the answer that an entry has to carry is kept
 kept_new : (plan : Plan) (past : List RunEntry) (area : Bool) (w goal number : ℕ) (what : Carried) → module_by plan past w ≡ Some number → is_told area (event.Answer w goal) what ≡ true → is_kept (kept_by plan past (event.Answer w goal) what) number goal ≡ true
 kept_new plan past area w goal number (carried.Answered answer) whose told =
     subst (λ found. is_kept (option_map_or (λ m. (record { «module» = m; goal = goal; answer = answer }) ∷ []) found []) number goal ≡ true) (sym whose) (one_found number goal (record { «module» = number; goal = goal; answer = answer }) refl refl)
@@ -57,6 +61,7 @@ kept_new plan past area w goal number (carried.Published bytes) whose told = abs
 abbrev pub Paid : Plan → List RunEntry → Type 0
 Paid plan past = ArePaid (outline_of plan) (is_kept (answers_in plan past)) (standing_of_run plan past)
 
+-- that answers are kept goes on behind each entry that fits
 pub step_paid : (plan : Plan) (start : Files) (hands : ℕ → HandTold) (past : List RunEntry) (e : RunEntry) → Paid plan past → Enabled (outline_of plan) (events_of past) e.event → Fits plan (Some start) hands past e → Paid plan (past ++ e ∷ [])
 unfolding Enabled
 step_paid plan start hands past e paid is fits =
@@ -76,6 +81,7 @@ step_paid plan start hands past e paid is fits =
         (subst (λ x. is_kept (kept_by plan past x e.carried) number goal ≡ true) (sym same)
         (kept_new plan past (is_told_by (Some start) hands e.event) w goal number e.carried whose (subst (λ x. is_told (is_told_by (Some start) hands e.event) x e.carried ≡ true) same fits.0)))
 
+-- each goal that a module's ending stands for is answered in the run
 pub all_answered_in : (plan : Plan) (start : Files) (hands : ℕ → HandTold) (entries : List RunEntry) → IsRunOf plan entries → AllFit plan (Some start) hands [] entries → (number goal : ℕ) (m : PlanModule) (e : Ending) → slice_get plan.modules number ≡ Some m
     → progress_of (standing_of_run plan entries).progress number ≡ Ended e → goal < length m.goals → reaches e goal ≡ true → is_kept (answers_in plan entries) number goal ≡ true
 all_answered_in plan start hands entries run fits number goal m e at ends less for =

@@ -25,6 +25,7 @@ use Rattle.run_law.proofs.Ended.{lt_is}
 use Rattle.run_law.proofs.Ready.{all_listed}
 use Rattle.event_core.proofs.Ties.{any_idle, rows_other, rows_same}
 use Rattle.event_core.proofs.Weights.{nothing_is}
+use Rattle.run_law.proofs.Basics.{chosen}
 
 -- a script fetches only where all names of the batch are held alone: those that are, and those that it takes so, until it frees
 abbrev pub Guards : (batch taken : List ℕ) → Script → Type 0
@@ -47,6 +48,7 @@ IsPart t taken = (n : ℕ) → is_listed n t ≡ true → is_listed n taken ≡ 
 abbrev Settles : (batch taken : List ℕ) → Script → Type 0
 Settles batch taken s = (t : List ℕ) × IsPart t taken × Guards batch t s
 
+-- settling a script leaves its guards
 settled_guards : (batch taken : List ℕ) (there : List Bool) (empty : Bool) (s : Script) → Guards batch taken s → Settles batch taken (settled there empty s)
 settled_guards batch taken there empty whole g = (taken, λ n l. l, g)
 settled_guards batch taken there empty (absent files this that) g = by (list_all (is_there there) files) (settled_guards batch taken there empty this g.0) (settled_guards batch taken there empty that g.1)
@@ -85,6 +87,7 @@ is_plain (takes mode n) = false
 is_plain frees = false
 is_plain other = true
 
+-- a deed of a plain step takes no name
 same_taken : (s : Step) (d : Deed) (taken : List ℕ) → is_plain s ≡ true → is_wanted s d ≡ true → more_by d taken ≡ taken
 same_taken s (deed.Read f) taken p w = refl
 same_taken s (deed.Publish f) taken p w = refl
@@ -102,10 +105,7 @@ same_taken (may_publish f) deed.Free taken p w = absurd (false≢true w)
 same_taken (answers g) (deed.Take m n) taken p w = absurd (false≢true w)
 same_taken (answers g) deed.Free taken p w = absurd (false≢true w)
 
-chosen : (b : Bool) (s rest : Script) → (if b then Some s else None) ≡ Some rest → (b ≡ true) × (s ≡ rest)
-chosen true s rest e = (refl, ap (λ o. unwrap_or o whole) e)
-chosen false s rest e = absurd (nothing_is rest e)
-
+-- a name that is taken alone is one more
 alone_wanted : (batch taken : List ℕ) (n : ℕ) (more : Script) (d : Deed) → is_wanted (takes Exclusive n) d ≡ true → Guards batch (n ∷ taken) more → Guards batch (more_by d taken) more
 alone_wanted batch taken n more (deed.Take Exclusive k) w g = subst (λ x. Guards batch (x ∷ taken) more) (sym (eqb-true k n w)) g
 alone_wanted batch taken n more (deed.Take Shared k) w g = absurd (false≢true w)
@@ -114,6 +114,7 @@ alone_wanted batch taken n more (deed.Read f) w g = absurd (false≢true w)
 alone_wanted batch taken n more (deed.Publish f) w g = absurd (false≢true w)
 alone_wanted batch taken n more (deed.Answer h) w g = absurd (false≢true w)
 
+-- one that is taken with others is not
 shared_wanted : (batch taken : List ℕ) (n : ℕ) (more : Script) (d : Deed) → is_wanted (takes Shared n) d ≡ true → Guards batch taken more → Guards batch (more_by d taken) more
 shared_wanted batch taken n more (deed.Take Shared k) w g = g
 shared_wanted batch taken n more (deed.Take Exclusive k) w g = absurd (false≢true w)
@@ -122,6 +123,7 @@ shared_wanted batch taken n more (deed.Read f) w g = absurd (false≢true w)
 shared_wanted batch taken n more (deed.Publish f) w g = absurd (false≢true w)
 shared_wanted batch taken n more (deed.Answer h) w g = absurd (false≢true w)
 
+-- behind a free nothing is held
 free_wanted : (batch taken : List ℕ) (more : Script) (d : Deed) → is_wanted frees d ≡ true → Guards batch [] more → Guards batch (more_by d taken) more
 free_wanted batch taken more deed.Free w g = g
 free_wanted batch taken more (deed.Take m n) w g = absurd (false≢true w)
@@ -129,9 +131,11 @@ free_wanted batch taken more (deed.Read f) w g = absurd (false≢true w)
 free_wanted batch taken more (deed.Publish f) w g = absurd (false≢true w)
 free_wanted batch taken more (deed.Answer h) w g = absurd (false≢true w)
 
+-- a plain step leaves what is taken
 plain_wanted : (batch taken : List ℕ) (s : Step) (more rest : Script) (d : Deed) → is_plain s ≡ true → (if is_wanted s d then Some more else None) ≡ Some rest → Guards batch taken more → Guards batch (more_by d taken) rest
 plain_wanted batch taken s more rest d p e g = let c = chosen (is_wanted s d) more rest e in subst (λ t. Guards batch t rest) (sym (same_taken s d taken p c.0)) (subst (Guards batch taken) c.1 g)
 
+-- a deed leaves the guards of what is left
 done_guards : (batch taken : List ℕ) (s : Script) (d : Deed) (rest : Script) → Guards batch taken s → done s d ≡ Some rest → Guards batch (more_by d taken) rest
 done_guards batch taken whole d rest g e = absurd (nothing_is rest e)
 done_guards batch taken (absent files this that) d rest g e = absurd (nothing_is rest e)
@@ -151,10 +155,12 @@ done_guards batch taken (step stage (answers h) more) d rest g e = plain_wanted 
 -- ---- at the start
 
 module _ (batch : List ℕ) where
+  -- plain steps before a guarded script are guarded
   plain_guards : (stage : ℕ) (f : ℕ → Step) (rest : Script) (taken : List ℕ) → ((x : ℕ) (more : Script) → Guards batch taken more → Guards batch taken (step stage (f x) more)) → (xs : List ℕ) → Guards batch taken rest → Guards batch taken (steps stage f xs rest)
   plain_guards stage f rest taken same [] g = g
   plain_guards stage f rest taken same (x ∷ xs) g = same x (steps stage f xs rest) (plain_guards stage f rest taken same xs g)
 
+  -- taking the rest of the batch alone guards what follows
   alone_guards : (xs taken : List ℕ) (rest : Script) → ((t : List ℕ) → IsPart taken t → IsPart xs t → Guards batch t rest) → Guards batch taken (steps 3 (takes Exclusive) xs rest)
   alone_guards [] taken rest next = next taken (λ n l. l) (λ n l. absurd (false≢true l))
   alone_guards (x ∷ xs) taken rest next = alone_guards xs (x ∷ taken) rest (λ t a b. next t (λ n l. a n (listed_later x n taken l)) (λ n l. by t a b n (nat_eq x n) refl l))
@@ -163,10 +169,12 @@ module _ (batch : List ℕ) where
       by t a b n true e l = subst (λ k. is_listed k t ≡ true) (eqb-true x n e) (a x (listed_first x taken))
       by t a b n false e l = b n l
 
+  -- what a module is installed as fetches nothing, so it is guarded
   own_guards : (taken own : List ℕ) → Guards batch taken (own_script own)
   own_guards taken [] = tt
   own_guards taken (pom ∷ others) = plain_guards 6 may_publish (step 6 frees whole) taken (λ x more g. g) others tt
 
+  -- so is installing
   install_guards : (taken : List ℕ) (m : ModuleOutline) → Guards batch taken (install_script m)
   install_guards taken m = by m.installs
     where
@@ -174,9 +182,11 @@ module _ (batch : List ℕ) where
       by true = own_guards (m.own_name ∷ taken) m.own
       by false = tt
 
+  -- so is reading
   read_guards : (taken : List ℕ) (m : ModuleOutline) → Guards batch taken (read_script m)
   read_guards taken m = plain_guards 4 reads (release_script m) taken (λ x more g. g) m.reads (plain_guards 5 answers (install_script m) [] (λ x more g. g) (below m.goals) (install_guards [] m))
 
+-- so is a module's whole script, with nothing taken
 start_guards : (m : ModuleOutline) → Guards m.batch [] (script_of m)
 start_guards m =
     plain_guards m.batch 2 (takes Shared) (choice_script m) [] (λ x more g. g) m.batch (
@@ -202,6 +212,7 @@ IsCourseGuarded o locks w (on_course number script last) = (m : ModuleOutline) �
 abbrev pub AreGuarded : Outline → Standing → Type 0
 AreGuarded o now = (w : ℕ) → IsCourseGuarded o now.locks w (course_of now w)
 
+-- a worker's guards depend on its own holds alone
 guard_moved : (o : Outline) (locks later : Holds) (w : ℕ) → ((n : ℕ) → hold later n w ≡ hold locks n w) → (c : Course) → IsCourseGuarded o locks w c → IsCourseGuarded o later w c
 guard_moved o locks later w same idle g = tt
 guard_moved o locks later w same (off_course number file gathered) g = tt
@@ -211,6 +222,7 @@ guard_moved o locks later w same (on_course number script last) g = λ m at. let
 settle : (locks : Holds) (w : ℕ) (batch taken : List ℕ) (there : List Bool) (empty : Bool) (rest : Script) → Guards batch taken rest → AreAlone locks w taken → IsGuarded locks w batch (settled there empty rest)
 settle locks w batch taken there empty rest g alone = let s = settled_guards batch taken there empty rest g in record { taken = s.0; guards = s.2; alone = λ n l. alone n (s.1 n l) }
 
+-- a course stays guarded behind a deed
 guard_deed : (o : Outline) (locks later : Holds) (w : ℕ) (there : List Bool) (held : List ℕ) (d : Deed) (answered : Option ℕ) (c : Course) → is_due c d ≡ true → ((taken : List ℕ) → AreAlone locks w taken → AreAlone later w (more_by d taken))
     → IsCourseGuarded o locks w c → IsCourseGuarded o later w (after_deed there held d answered c)
 guard_deed o locks later w there held d answered idle due alone g = tt
@@ -221,6 +233,7 @@ guard_deed o locks later w there held d answered (on_course number script last) 
     by None e some = absurd (false≢true some)
     by (Some rest) e some = λ m at. let is = g m at in settle later w m.batch (more_by d is.taken) there (is_empty held) rest (done_guards m.batch is.taken script d rest is.guards e) (alone is.taken is.alone)
 
+-- and behind a free
 guard_free : (o : Outline) (locks later : Holds) (w : ℕ) (there : List Bool) (held : List ℕ) (c : Course) → IsCourseGuarded o locks w c → IsCourseGuarded o later w (after_free o there held c)
 guard_free o locks later w there held idle g = tt
 guard_free o locks later w there held (off_course number file gathered) g = tt
@@ -230,10 +243,12 @@ guard_free o locks later w there held (on_course number script last) g = by (don
     by None e = tt
     by (Some rest) e = λ m at. let is = g m at in settle later w m.batch [] there (is_empty held) rest (done_guards m.batch is.taken script deed.Free rest is.guards e) (λ n l. absurd (false≢true l))
 
+-- a course that begins is guarded
 guard_start : (o : Outline) (locks : Holds) (w : ℕ) (there : List Bool) (held : List ℕ) (number : ℕ) → IsCourseGuarded o locks w (on_course number (settled there (is_empty held) (start_of o number)) None)
 guard_start o locks w there held number = λ m at. settle locks w m.batch [] there (is_empty held) (start_of o number) (subst (λ found. Guards m.batch [] (option_map_or script_of found whole)) (sym at) (start_guards m)) (λ n l. absurd (false≢true l))
 
 module _ (o : Outline) (now : Standing) (s : IsStanding o now) (old : AreGuarded o now) (w : ℕ) (low : w < o.workers) where
+  -- where one worker turns, the others' guards stay
   turned : (later : Holds) (course : Course) → ((v : ℕ) → (v ≡ w → ⊥) → (n : ℕ) → hold later n v ≡ hold now.locks n v) → IsCourseGuarded o later w course → (v : ℕ) → IsCourseGuarded o later v (get_or (set now.courses w course) v idle)
   turned later course same new v = by (same_or_not v w)
     where
@@ -241,6 +256,7 @@ module _ (o : Outline) (now : Standing) (s : IsStanding o now) (old : AreGuarded
       by (inl e) = subst (λ u. IsCourseGuarded o later u (get_or (set now.courses w course) u idle)) (sym e) (subst (IsCourseGuarded o later w) (sym (get_or-set_same now.courses w course idle (omega (arith, low, s.fit.courses)))) new)
       by (inr other) = subst (IsCourseGuarded o later v) (sym (get_or-set_other now.courses w v course idle other)) (guard_moved o now.locks later v (same v other) (course_of now v) (old v))
 
+  -- a change of one hold leaves the others
   others : (n : ℕ) (x : Option Mode) (v : ℕ) → (v ≡ w → ⊥) → (k : ℕ) → hold (with_hold now.locks n w x) k v ≡ hold now.locks k v
   others n x v other k = rows_other now.locks.2 n w k v x (λ a b. other b)
 
@@ -248,6 +264,7 @@ module _ (o : Outline) (now : Standing) (s : IsStanding o now) (old : AreGuarded
   above : (n k : ℕ) → list_all (λ h. nat_lt h n) (held_by now w) ≡ true → is_some (hold now.locks k w) ≡ true → k ≡ n → ⊥
   above n k all some same = let less = lt_is k n (all_listed (λ h. nat_lt h n) (held_by now w) all k (s.fit.listed w k low some)) in omega (arith, less, same)
 
+  -- what is held alone stays so behind a take
   taken_alone : (n : ℕ) (mode : Mode) → n < o.names → list_all (λ h. nat_lt h n) (held_by now w) ≡ true → (taken : List ℕ) → AreAlone now.locks w taken → AreAlone (with_hold now.locks n w (Some mode)) w (more_by (deed.Take mode n) taken)
   taken_alone n mode small all taken alone = by mode
     where
@@ -262,6 +279,7 @@ module _ (o : Outline) (now : Standing) (s : IsStanding o now) (old : AreGuarded
           new k true e l = subst (λ j. hold (with_hold now.locks n w (Some Exclusive)) j w ≡ Some Exclusive) (eqb-true n k e) (rows_same now.locks.2 n w (Some Exclusive) o.workers (omega (arith, small, s.tied.depth)) s.tied.width low)
           new k false e l = still Exclusive k l
 
+-- all courses stay guarded behind each event
 pub guarded_after : (o : Outline) (now : Standing) (e : Event) → IsStanding o now → AreGuarded o now → IsEnabled o now e → AreGuarded o (after o now e)
 unfolding after
 guarded_after o now (event.Start w m) s old is = turned o now s old w is.0 now.locks (on_course m (settled now.there (is_empty (held_by now w)) (start_of o m)) None) (λ v other n. refl) (guard_start o now.locks w now.there (held_by now w) m)
@@ -286,15 +304,18 @@ guarded_after o now (event.Answer w g) s old is =
     (guard_deed o now.locks now.locks w now.there (held_by now w) (deed.Answer g) (Some g) (course_of now w) is.2 (λ taken alone. alone) (old w))
 guarded_after o now (event.End w e) s old is = turned o now s old w is.0 now.locks idle (λ v other n. refl) tt
 
+-- they are where nothing has happened
 pub guarded_first : (o : Outline) → AreGuarded o (at_first o)
 guarded_first o w = subst (IsCourseGuarded o (at_first o).locks w) (sym (any_idle o.workers w)) tt
 
+-- so they are behind every run
 pub guarded : (o : Outline) (events : List Event) → IsRun o [] events → AreGuarded o (standing_of o events)
 guarded o events run =
     (by_events o (λ now. IsStanding o now × AreGuarded o now) (λ now e both is. (standing_after o now e both.0 is, guarded_after o now e both.0 both.1 is)) [] events (standing_first o, guarded_first o) run).1
 
 -- ---- who is to fetch
 
+-- who is to fetch next has taken the whole batch alone
 pub guards_wanted : (batch taken : List ℕ) (script : Script) (f : ℕ) → wanted script ≡ Some f → Guards batch taken script → (n : ℕ) → is_listed n batch ≡ true → is_listed n taken ≡ true
 guards_wanted batch taken whole f e g n l = absurd (nothing_is f e)
 guards_wanted batch taken (absent files this that) f e g n l = absurd (nothing_is f e)
@@ -306,6 +327,7 @@ guards_wanted batch taken (step stage (publishes k) rest) f e g n l = absurd (no
 guards_wanted batch taken (step stage (may_publish k) rest) f e g n l = absurd (nothing_is f e)
 guards_wanted batch taken (step stage (answers k) rest) f e g n l = absurd (nothing_is f e)
 
+-- so it holds each name of its batch alone
 pub holds_now : (o : Outline) (now : Standing) → AreGuarded o now → (w number f n : ℕ) (m : ModuleOutline) (script : Script) (last : Option ℕ) → slice_get o.modules number ≡ Some m → course_of now w ≡ on_course number script last → wanted script ≡ Some f → is_listed n m.batch ≡ true → hold now.locks n w ≡ Some Exclusive
 holds_now o now all w number f n m script last at on wants l =
     let is = subst (IsCourseGuarded o now.locks w) on (all w) m at in

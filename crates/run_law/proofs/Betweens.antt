@@ -20,7 +20,7 @@ use Rattle.event_core.specs.declared.entry.RunEntry.{RunEntry}
 use Rattle.build_core.specs.declared.ending.State.{State}
 use Rattle.build_core.specs.declared.ending.State.TheVariants as state
 use Rattle.run_law.specs.Closed.{Verdict, available, had_prefix, judge, missing_of, outputs_at, state_at, total_len, verdict_of_fetch, verdict_of_goals, verdict_of_install, verdict_of_upstream}
-use Rattle.run_law.proofs.Invariants.{IsFetchFile, IsOwnFile, is_begun, outs, supply_of}
+use Rattle.run_law.proofs.Invariants.{IsFetchFile, IsOwnFile, is_begun, is_quiet_end, outs, supply_of}
 use Rattle.run_law.specs.Given.{Extends, IsPresent, supply_by}
 use Rattle.build_core.specs.OneThread.{Supply, is_built, lacks_artifact, most_classpath, name_of, one_thread, remote_bytes}
 use Rattle.event_core.specs.Outlines.{is_listed, module_outline, outline_of}
@@ -40,19 +40,23 @@ use Rattle.run_law.proofs.Fold.{hand_judged}
 use Rattle.run_law.proofs.HandFiles.{hand_left}
 use Rattle.run_law.proofs.Kept.{outs_at}
 use Rattle.run_law.proofs.Left.{installed_all}
-use Rattle.run_law.proofs.Once.{judged_once, len_same}
+use Rattle.run_law.proofs.Once.{judge_same, judged_once, len_same}
 use Rattle.run_law.proofs.Owns.{late_begun, own_so}
 use Rattle.run_law.proofs.Ready.{find_nothing}
 use Rattle.run_law.proofs.ClosedFiles.{AreOwnsFit, IsLeft, IsOwnSo, is_skipped_state, own_at, published}
 use Rattle.run_law.proofs.Stored.{AllTell, get_map, none_is}
+use Rattle.run_law.proofs.Basics.{not_not}
+use Rattle.build_core.specs.declared.ending.Ending.{Ending}
 
 -- ---- verdicts
 
+-- what ends with installing isn't skipped
 not_skipped_install : (a b : Bool) (own : List OwnBytes) → is_skipped_state (verdict_of_install a b own).state ≡ false
 not_skipped_install true true own = refl
 not_skipped_install true false own = refl
 not_skipped_install false b own = refl
 
+-- nor what ends at its goals
 not_skipped_goals : (m : PlanModule) (end : GoalsEnd) → is_skipped_state (verdict_of_goals m end).state ≡ false
 not_skipped_goals m (all_answered own) = not_skipped_install m.installs (lacks_artifact m own) own
 not_skipped_goals m (goal_failed i own) = refl
@@ -67,10 +71,12 @@ not_skipped plan supply number m outputs None = by (nat_lt most_classpath (total
     by true = refl
     by false = not_skipped_goals m (run_goals m.budget (supply.answers number) 0 m.goals [])
 
+-- what is there stands before a default
 pub option_or_some : (o d : Option (List ℕ)) → is_some o ≡ true → option_or o d ≡ o
 option_or_some (Some x) d is = refl
 option_or_some None d is = absurd (false≢true is)
 
+-- a module that is done has ended as built
 done_is : (p : Progress) → is_done p ≡ true → p ≡ Ended ending.Built
 done_is (Ended ending.Built) is = refl
 done_is Waiting is = absurd (false≢true is)
@@ -84,10 +90,7 @@ done_is (Ended (ending.Missing f)) is = absurd (false≢true is)
 done_is (Ended (ending.OutputTooLarge i)) is = absurd (false≢true is)
 done_is (Ended (ending.Fault d)) is = absurd (false≢true is)
 
-not_not : (b : Bool) → not b ≡ false → b ≡ true
-not_not true e = refl
-not_not false e = absurd (false≢true (sym e))
-
+-- good goals are all answered
 good_is : (end : GoalsEnd) → is_good end ≡ true → end ≡ all_answered (kept_of end)
 good_is (all_answered own) is = refl
 good_is (goal_failed i own) is = absurd (false≢true is)
@@ -96,9 +99,11 @@ good_is (output_too_large i own) is = absurd (false≢true is)
 -- a module that nothing stands against is built, with the outputs that it keeps
 module _ (plan : Plan) (supply : Supply) (number : ℕ) (m : PlanModule) (outputs : ℕ → List OwnBytes) (own : List OwnBytes) (installs : m.installs ≡ true) (lacks : lacks_artifact m own ≡ false)
     (goals : run_goals m.budget (supply.answers number) 0 m.goals [] ≡ all_answered own) where
+  -- a module that installs and doesn't lack its artifact is built
   install_is : verdict_of_goals m (all_answered own) ≡ record { state = state.Ended ending.Built; outputs = own }
   install_is = rw (installs, lacks) refl
 
+  -- so where its files are had and its classpath is within the limit its verdict is built
   built_is : nat_lt most_classpath (total_len plan supply outputs m.entries) ≡ false → missing_of plan supply m.fetch ≡ None
       → verdict_of_fetch plan supply number m outputs (missing_of plan supply m.fetch) ≡ record { state = state.Ended ending.Built; outputs = own }
   built_is within had =
@@ -132,15 +137,19 @@ module _ (plan : Plan) (start remote : Files) (fit : IsFitPlan plan) (present : 
   abbrev outputs : ℕ → List OwnBytes
   outputs = outputs_at (one_thread plan supply)
 
+  -- what holds behind the run
   behind : Behind plan start remote fit.apart present fit.backed entries
   behind = (fetched_so plan start remote fit present hands tell entries run fits).0
 
+  -- how the files of the build by one hand stand
   hand : IsLeft plan supply states outputs final
   hand = hand_left plan supply fit owns
 
+  -- how own files stand behind the run
   pub own : IsOwnSo plan start remote entries
   own = own_so plan start remote fit present owns hands tell entries run fits
 
+  -- the upstreams of an outline's module are its plan's
   ups : (number : ℕ) (m : PlanModule) → slice_get plan.modules number ≡ Some m → upstream_of o number ≡ m.upstream
   ups number m at = ap (λ found. option_map_or (λ (x : ModuleOutline). x.upstream) found []) (get_map module_outline plan.modules number m at)
 
@@ -157,6 +166,7 @@ module _ (plan : Plan) (start remote : Files) (fit : IsFitPlan plan) (present : 
       (λ k n here done. ended_judged plan start remote fit present hands tell entries behind said extends (all_answered_in plan start hands entries run fits) k n ending.Built here (done_is (progress_of now.progress k) done) refl)
       (λ k n here any. hand_judged plan supply fit.apart fit.low fit.backed k n here tt)
 
+  -- an upstream is a module of the plan
   up_in : (number u : ℕ) (m : PlanModule) → slice_get plan.modules number ≡ Some m → is_listed u m.upstream ≡ true → (n : PlanModule) × (slice_get plan.modules u ≡ Some n)
   up_in number u m at l = real plan start remote fit present hands tell number u m at (fit.low number u m at l)
 
@@ -174,17 +184,32 @@ module _ (plan : Plan) (start remote : Files) (fit : IsFitPlan plan) (present : 
           let done = all_done number m at begun u l in
           ap (λ s. not (is_built s)) (sym (once u n.0 n.1 done).0) ∙ ap not (state_built plan start remote fit present hands tell now.progress u ∙ done)
 
+  -- what has begun in the run isn't skipped by one hand
   hand_begun : (number : ℕ) (m : PlanModule) → slice_get plan.modules number ≡ Some m → is_begun (progress_of now.progress number) ≡ true → is_skipped_state (states number) ≡ false
   hand_begun number m at begun = ap (λ (v : Verdict). is_skipped_state v.state) (hand_verdict number m at begun) ∙ not_skipped plan supply number m outputs (missing_of plan supply m.fetch)
+
+  -- a module that has ended, but not by a fault or for want of memory, stands as by one hand and keeps the same
+  pub ended_alike : (number : ℕ) (m : PlanModule) (x : Ending) → slice_get plan.modules number ≡ Some m → progress_of now.progress number ≡ Ended x → is_quiet_end x ≡ true
+      → (state_of o now.progress number ≡ states number) × (outs plan kept number ≡ outputs number)
+  ended_alike number m x at e quiet =
+      let up : (u : ℕ) → is_listed u m.upstream ≡ true → (state_of o now.progress u ≡ states u) × (outs plan kept u ≡ outputs u) =
+      λ u l. let n = up_in number u m at l in once u n.0 n.1 (all_done number m at (ap is_begun e) u l) in
+      let same : ◌≡◌ {A = Verdict} (record { state = state_of o now.progress number; outputs = outs plan kept number }) (record { state = states number; outputs = outputs number }) =
+      ended_judged plan start remote fit present hands tell entries behind said extends (all_answered_in plan start hands entries run fits) number m x at e quiet
+      ∙ judge_same plan supply (λ number. state_of o now.progress number) states (outs plan kept) outputs number m (fit.backed number m at) (λ u l. (up u l).0) (λ u l. (up u l).1)
+      ∙ sym (hand_judged plan supply fit.apart fit.low fit.backed number m at tt) in
+      (ap (λ (v : Verdict). v.state) same, ap (λ (v : Verdict). v.outputs) same)
 
   abbrev Lies : List ℕ → Type 0
   Lies name = (file_at files name ≡ file_at start name) ⊎ (file_at files name ≡ file_at final name)
 
   -- ---- a file that is fetched
 
+  -- a fetched file that is there has the bytes that can be had
   pub fetch_has : (f : ℕ) → IsFetchFile plan f → is_some (file_at files (name_of plan f)) ≡ true → file_at files (name_of plan f) ≡ available plan supply f
   fetch_has f fetch is = let low = owns.fetched f fetch in behind.stored.bytes f fetch low (behind.stored.there f low ∙ is)
 
+  -- a fetched file is marked as there exactly where it is
   pub there_or : (f : ℕ) → IsFetchFile plan f → (is_there now.there f ≡ true → is_some (file_at files (name_of plan f)) ≡ true) × (is_some (file_at files (name_of plan f)) ≡ true → is_there now.there f ≡ true)
   there_or f fetch = let same = behind.stored.there f (owns.fetched f fetch) in (λ is. sym same ∙ is, λ is. same ∙ is)
 
@@ -196,6 +221,7 @@ module _ (plan : Plan) (start remote : Files) (fit : IsFitPlan plan) (present : 
       absent false e = none_is (file_at files (name_of plan f)) gone ∙ sym (none_is (file_at start (name_of plan f)) e)
       absent true e = absurd (false≢true (sym gone ∙ (there_or f fetch).0 (behind.courses.grows f (present f (owns.fetched f fetch) ∙ e))))
 
+  -- a fetched file lies between
   fetch_lies : (f : ℕ) → IsFetchFile plan f → Lies (name_of plan f)
   fetch_lies f fetch = by (is_some (file_at files (name_of plan f))) refl
     where
@@ -215,6 +241,7 @@ module _ (plan : Plan) (start remote : Files) (fit : IsFitPlan plan) (present : 
 
   -- ---- an own file
 
+  -- an own file that was published is as by one hand
   pub own_put : (number f : ℕ) (m : PlanModule) → slice_get plan.modules number ≡ Some m → is_listed f (map (λ (x : OwnFile). x.file) m.own) ≡ true → published entries f ≡ true → file_at files (name_of plan f) ≡ file_at final (name_of plan f)
   own_put number f m at mine done =
       let so = own.settled number f m at mine done in
@@ -233,6 +260,7 @@ module _ (plan : Plan) (start remote : Files) (fit : IsFitPlan plan) (present : 
       ∙ sym (ap (λ b. option_or (if b then own_at m (outputs number) f else None) (file_at start (name_of plan f))) (ap (λ b. b && m.installs) (ap (λ (v : Verdict). is_built v.state) built) ∙ late.1))
       ∙ sym (hand.own number f m at mine)
 
+  -- an own file lies between
   own_lies : (f : ℕ) → IsOwnFile plan f → Lies (name_of plan f)
   own_lies f x = by (published entries f) refl
     where
@@ -242,6 +270,7 @@ module _ (plan : Plan) (start remote : Files) (fit : IsFitPlan plan) (present : 
 
   -- ---- any name
 
+  -- a file of the plan lies between
   file_lies : (f : ℕ) → f < length plan.files → Lies (name_of plan f)
   file_lies f low = by (module_or_not (λ m. is_listed f m.fetch) plan.modules) (module_or_not (λ m. is_listed f (map (λ (x : OwnFile). x.file) m.own)) plan.modules)
     where
@@ -250,9 +279,11 @@ module _ (plan : Plan) (start remote : Files) (fit : IsFitPlan plan) (present : 
       by (inr unfetched) (inl own) = own_lies f own
       by (inr unfetched) (inr unowned) = inl ((installed_all plan start remote fit present owns hands tell entries run fits).2 f low unfetched unowned)
 
+  -- a name of no file is as at the start
   pub name_other : (q : List ℕ) → ((f : ℕ) → f < length plan.files → eq_by_cmp (slice_cmp nat_cmp) q (name_of plan f) ≡ false) → file_at files q ≡ file_at start q
   name_other q apart = behind.stored.other q apart
 
+  -- so each name lies between
   pub lies : (q : List ℕ) → Lies q
   lies q = by (name_or_not q plan.files)
     where

@@ -19,9 +19,11 @@ use Rattle.event_core.proofs.Weights.{nothing_is}
 abbrev pub had : Files → Files → List ℕ → Option (List ℕ)
 had remote files name = option_or (file_at files name) (remote_bytes remote name)
 
+-- what stands at a name behind a put
 pub at_insert : (files : Files) (name bytes q : List ℕ) → file_at (finite.insert files name bytes) q ≡ cond (eq_by_cmp (slice_cmp nat_cmp) q name) (Some bytes) (file_at files q)
 at_insert files name bytes q = finite.get-insert nat_list_cmp_total files name bytes q
 
+-- names that compare equal are equal
 pub same_name : (q name : List ℕ) → eq_by_cmp (slice_cmp nat_cmp) q name ≡ true → q ≡ name
 same_name q name is = finite.slice_cmp-IsAntisymmetric finite.nat_cmp-IsAntisymmetric q name (equal (slice_cmp nat_cmp q name) is)
   where
@@ -30,6 +32,7 @@ same_name q name is = finite.slice_cmp-IsAntisymmetric finite.nat_cmp-IsAntisymm
     equal Equal e = refl
     equal Greater e = absurd (false≢true e)
 
+-- a name compares equal with itself
 pub name_itself : (name : List ℕ) → eq_by_cmp (slice_cmp nat_cmp) name name ≡ true
 name_itself name = (eq_by_cmp_equiv nat_list_cmp_total).refl name
 
@@ -45,6 +48,7 @@ module _ (remote : Files) where
   Puts files name None = had remote files name ≡ None
   Puts files name (Some more) = IsPut remote files more name
 
+  -- putting what the remote has for a name that wasn't there is such a put
   put_new : (files : Files) (name bytes : List ℕ) → file_at files name ≡ None → remote_bytes remote name ≡ Some bytes → IsPut remote files (finite.insert files name bytes) name
   put_new files name bytes none got = record {
     alike = λ q. by q (eq_by_cmp (slice_cmp nat_cmp) q name) refl;
@@ -66,6 +70,7 @@ module _ (remote : Files) where
       keeps q some true e = absurd (false≢true (sym (ap is_some none) ∙ subst (λ x. is_some (file_at files x) ≡ true) (same_name q name e) some))
       keeps q some false e = at_insert files name bytes q ∙ ap (λ b. cond b (Some bytes) (file_at files q)) e
 
+  -- so is fetching a name
   pub put : (files : Files) (name : List ℕ) → Puts files name (with_fetched remote name files)
   put files name = by (file_at files name) (remote_bytes remote name) refl refl
     where
@@ -81,6 +86,7 @@ module _ (remote : Files) where
     pub kept : (q : List ℕ) → is_some (file_at files q) ≡ true → file_at got.files q ≡ file_at files q
     pub there : got.missing ≡ None → (f : ℕ) → is_listed f list ≡ true → file_at got.files (name_of plan f) ≡ had remote files (name_of plan f)
 
+  -- fetching a list stops at the first that can't be had, and leaves what can be had as it was
   pub fetch_all : (plan : Plan) (list : List ℕ) (files : Files) → IsFetched plan list files (fetched plan remote list files)
   fetch_all plan [] files = record { missing = refl; alike = λ q. refl; kept = λ q some. refl; there = λ none f is. absurd (false≢true is) }
   fetch_all plan (file ∷ list) files = by (with_fetched remote (name_of plan file) files) (put files (name_of plan file)) (λ more. fetch_all plan list more)

@@ -16,10 +16,12 @@ abbrev pub no_causes : Outline → Standing → List Event → Bool
 no_causes o now [] = true
 no_causes o now (e ∷ events) = is_none (cause_now o now e) && no_causes o (after o now e) events
 
+-- an option without a value is none
 none_is : (cause : Option NotEnabled) → is_none cause ≡ true → cause ≡ None
 none_is None e = refl
 none_is (Some x) e = absurd (false≢true e)
 
+-- where no event has a cause against it, the events are a run
 run_from : (o : Outline) (past events : List Event) → IsFit o (standing_of o past) → no_causes o (standing_of o past) events ≡ true → IsRun o past events
 unfolding Enabled
 run_from o past [] fit none = tt
@@ -28,5 +30,6 @@ run_from o past (e ∷ events) fit none =
     let is = no_cause o (standing_of o past) e fit (none_is (cause_now o (standing_of o past) e) parts.0) in
     (is, run_from o (past ++ e ∷ []) events (subst (IsFit o) (sym (one_more o past e)) (fit_after o (standing_of o past) e fit is)) (subst (λ now. no_causes o now events ≡ true) (sym (one_more o past e)) parts.1))
 
+-- so from the beginning
 pub run_is : (o : Outline) (events : List Event) → no_causes o (at_first o) events ≡ true → IsRun o [] events
 run_is o events none = run_from o [] events (fit_first o) none

@@ -2,7 +2,7 @@
 use Rattle.std.proofs.Common.{◌≡◌, ℕ, zero, suc, ◌<◌, ◌⊎◌, inl, inr, true, List, [], ◌∷◌, ◌++◌, length, replicate, get_or, set, Option, Some, None, is_some, refl, arith, sym, ap, subst, ◌∙◌}
 use Rattle.std.specs.List.{list_all}
 use Rattle.std.proofs.lemmas.Bool.{false≢true}
-use Rattle.std.proofs.lemmas.List.{append_assoc, get_or-set_other, get_or-set_same}
+use Rattle.std.proofs.lemmas.List.{append-nil, append_assoc, get_or-set_other, get_or-set_same}
 use Rattle.build_core.specs.declared.ending.Ending.{Ending}
 use Rattle.build_core.specs.declared.event.Event.{Event}
 use Rattle.build_core.specs.declared.event.Event.TheVariants as event
@@ -27,10 +27,6 @@ use Rattle.event_core.proofs.Fits.{fit_after, fit_first, one_more, same_or_not}
 use Rattle.event_core.proofs.Ties.{deed_module, free_module, tied_after, tied_first, turned_module, waits_still}
 use Rattle.event_core.proofs.Weights.{nothing_is}
 
-append-nil : {X : Type 0} (xs : List X) → xs ++ [] ≡ xs
-append-nil [] = refl
-append-nil (x ∷ xs) = ap (λ t. x ∷ t) (append-nil xs)
-
 -- ---- by one more
 
 -- what holds at first and stays by each event that is allowed, holds after every run
@@ -41,6 +37,7 @@ by_events o P step past (e ∷ events) holds run =
     subst (λ es. P (standing_of o es)) (append_assoc past (e ∷ []) events)
     (by_events o P step (past ++ e ∷ []) events (subst P (sym (one_more o past e)) (step (standing_of o past) e holds run.0)) run.1)
 
+-- the events of one entry more
 pub events_more : (past : List RunEntry) (e : RunEntry) → events_of (past ++ e ∷ []) ≡ events_of past ++ e.event ∷ []
 events_more [] e = refl
 events_more (p ∷ past) e = ap (λ es. p.event ∷ es) (events_more past e)
@@ -64,16 +61,19 @@ pub record IsStanding (o : Outline) (now : Standing) : Type 0 where
   pub tied : IsTied o now
   pub free : AreIdleFree now
 
+-- a deed is due for a worker that is at a module alone
 pub at_work : (c : Course) (d : Deed) → is_due c d ≡ true → module_of c ≡ None → ⊥
 at_work idle d is none = false≢true is
 at_work (on_course m script last) d is none = nothing_is m (sym none)
 at_work (off_course m file gathered) d is none = nothing_is m (sym none)
 
+-- at first nobody holds a name
 none_free : (n w : ℕ) → ◌≡◌ {A = List ℕ} (get_or (replicate n []) w []) []
 none_free zero w = refl
 none_free (suc n) zero = refl
 none_free (suc n) (suc w) = none_free n w
 
+-- so idle workers hold none
 free_first : (o : Outline) → AreIdleFree (at_first o)
 free_first o w none = none_free o.workers w
 
@@ -96,9 +96,11 @@ module _ (o : Outline) (now : Standing) (w : ℕ) (free : AreIdleFree now) where
       by (inl e) = absurd (busy (subst (λ u. module_of (course_of now u) ≡ None) e before))
       by (inr other) = get_or-set_other now.held w v names [] other ∙ free v before
 
+-- a worker without a module holds no name
 not_held : (now : Standing) (o : Outline) (w n : ℕ) → IsFit o now → AreIdleFree now → w < o.workers → is_some (hold now.locks n w) ≡ true → module_of (course_of now w) ≡ None → ⊥
 not_held now o w n fit free low some none = false≢true (ap (is_listed n) (sym (free w none)) ∙ fit.listed w n low some)
 
+-- idle workers hold none behind each event
 free_after : (o : Outline) (now : Standing) (e : Event) → IsFit o now → AreIdleFree now → IsEnabled o now e → AreIdleFree (after o now e)
 unfolding after
 free_after o now (event.Start w m) fit free is = λ v none. by v none (same_or_not v w)
@@ -122,28 +124,34 @@ free_after o now (event.End w e) fit free is = λ v none. by v none (same_or_not
     by v none (inl same) = subst (λ u. held_by now u ≡ []) (sym same) is.2
     by v none (inr other) = free v (sym (ap module_of (get_or-set_other now.courses w v idle idle other)) ∙ none)
 
+-- all of it holds where nothing has happened
 pub standing_first : (o : Outline) → IsStanding o (at_first o)
 standing_first o = record { fit = fit_first o; tied = tied_first o; free = free_first o }
 
+-- and stays behind each event
 pub standing_after : (o : Outline) (now : Standing) (e : Event) → IsStanding o now → IsEnabled o now e → IsStanding o (after o now e)
 standing_after o now e s is = record { fit = fit_after o now e s.fit is; tied = tied_after o now e s.fit s.tied is; free = free_after o now e s.fit s.free is }
 
+-- so it holds behind every run
 pub standing : (o : Outline) (events : List Event) → IsRun o [] events → IsStanding o (standing_of o events)
 standing o events run = by_events o (IsStanding o) (λ now e s is. standing_after o now e s is) [] events (standing_first o) run
 
 -- ---- complete runs
 
+-- where all is over, each module is
 pub all_over : (ps : List Progress) (m : ℕ) → list_all is_over ps ≡ true → m < length ps → is_over (progress_of ps m) ≡ true
 all_over [] m over low = absurd (omega (arith, low))
 all_over (p ∷ ps) zero over low = (both (is_over p) (list_all is_over ps) over).0
 all_over (p ∷ ps) (suc m) over low = all_over ps m (both (is_over p) (list_all is_over ps) over).1 (omega (arith, low))
 
 module _ (o : Outline) (now : Standing) (s : IsStanding o now) (over : is_complete now ≡ true) where
+  -- where all is over no worker is at a module
   none_runs : (w m : ℕ) → module_of (course_of now w) ≡ Some m → ⊥
   none_runs w m at =
       let low : m < length now.progress = omega (arith, s.tied.real w m at, s.fit.modules) in
       false≢true (sym (ap is_over (s.tied.busy w m at)) ∙ all_over now.progress m over low)
 
+  -- so each is idle
   all_idle : (w : ℕ) → module_of (course_of now w) ≡ None
   all_idle w = by (module_of (course_of now w)) refl
     where
@@ -151,14 +159,17 @@ module _ (o : Outline) (now : Standing) (s : IsStanding o now) (over : is_comple
       by None e = e
       by (Some m) e = absurd (none_runs w m e)
 
+  -- and no module waits
   none_waits : (m : ℕ) → m < length o.modules → is_waiting (progress_of now.progress m) ≡ true → ⊥
   none_waits m low waits = false≢true (sym (waits_still (progress_of now.progress m) waits) ∙ all_over now.progress m over (omega (arith, low, s.fit.modules)))
 
+  -- an idle worker has nothing to end
   ends_idle : (c : Course) (e : Ending) → module_of c ≡ None → may_end_so o c e ≡ true → ⊥
   ends_idle idle e none is = false≢true is
   ends_idle (on_course m script last) e none is = nothing_is m (sym none)
   ends_idle (off_course m file gathered) e none is = nothing_is m (sym none)
 
+  -- so no event may come
   pub no_further : (e : Event) → IsEnabled o now e → ⊥
   no_further (event.Start w m) is = none_waits m is.1 is.2
   no_further (event.Skip m) is = none_waits m is.0 is.1

@@ -80,6 +80,7 @@ module _ (plan : Plan) (supply : Supply) where
 
   module _ (s s' : ℕ → State) (o o' : ℕ → List OwnBytes) (a b : Files) (left : IsLeft plan supply s o a) (left' : IsLeft plan supply s' o' b)
       (same : (number : ℕ) (m : PlanModule) → slice_get plan.modules number ≡ Some m → (s number ≡ s' number) × (o number ≡ o' number)) where
+    -- a fetched file is the same in both
     fetched_once : (f : ℕ) → IsFetchFile plan f → file_at a (name_of plan f) ≡ file_at b (name_of plan f)
     fetched_once f fetch = by (is_some (file_at a (name_of plan f))) refl (is_some (file_at b (name_of plan f))) refl
       where
@@ -89,6 +90,7 @@ module _ (plan : Plan) (supply : Supply) where
         by true x false y = absurd (false≢true (sym y ∙ there_too s s' o o' a b left left' (λ number m at. (same number m at).0) f fetch x))
         by false x true y = absurd (false≢true (sym x ∙ there_too s' s o' o b a left' left (λ number m at. sym (same number m at).0) f fetch y))
 
+    -- so is an own file
     own_once : (f : ℕ) → IsOwnFile plan f → file_at a (name_of plan f) ≡ file_at b (name_of plan f)
     own_once f own =
         let alike = same own.0 own.1 own.2 in
@@ -97,6 +99,7 @@ module _ (plan : Plan) (supply : Supply) where
         ∙ ap (λ x. option_or (if is_built (s' own.0) && own.1.installs then own_at own.1 x f else None) (file_at supply.start (name_of plan f))) alike.1
         ∙ sym (left'.own own.0 f own.1 own.2 own.3)
 
+    -- so is each file of the plan
     file_once : (f : ℕ) → f < length plan.files → file_at a (name_of plan f) ≡ file_at b (name_of plan f)
     file_once f low = by (module_or_not (λ m. is_listed f m.fetch) plan.modules) (module_or_not (λ m. is_listed f (map (λ (x : OwnFile). x.file) m.own)) plan.modules)
       where
@@ -105,6 +108,7 @@ module _ (plan : Plan) (supply : Supply) where
         by (inr unfetched) (inl own) = own_once f own
         by (inr unfetched) (inr unowned) = left.neither f low unfetched unowned ∙ sym (left'.neither f low unfetched unowned)
 
+    -- so is each name
     name_once : (q : List ℕ) → file_at a q ≡ file_at b q
     name_once q = by (name_or_not q plan.files)
       where
@@ -112,6 +116,7 @@ module _ (plan : Plan) (supply : Supply) where
         by (inl x) = subst (λ n. file_at a n ≡ file_at b n) (sym (same_name q (name_of plan x.0) x.2)) (file_once x.0 x.1)
         by (inr apart) = left.other q apart ∙ sym (left'.other q apart)
 
+-- so both are the same map
 pub left_once : LeftOnce
 left_once plan supply s s' o o' a b left left' same = finite.same_map nat_list_cmp_total (finite.slice_cmp-IsAntisymmetric finite.nat_cmp-IsAntisymmetric) a b (name_once plan supply s s' o o' a b left left' same)
 

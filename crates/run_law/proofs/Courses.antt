@@ -21,19 +21,11 @@ use Rattle.run_law.proofs.Complete.{by_events}
 use Rattle.run_law.proofs.Once.{both, listed_first, listed_later}
 use Rattle.event_core.proofs.Ties.{any_idle}
 use Rattle.event_core.proofs.Weights.{nothing_is}
-
-both3 : (a b c : Bool) → (a && b && c) ≡ true → (a ≡ true) × (b ≡ true) × (c ≡ true)
-both3 true true c is = (refl, refl, is)
-both3 true false c is = absurd (false≢true is)
-both3 false b c is = absurd (false≢true is)
-
-and_is3 : (a b c : Bool) → a ≡ true → b ≡ true → c ≡ true → (a && b && c) ≡ true
-and_is3 true true c x y z = z
-and_is3 true false c x y z = absurd (false≢true y)
-and_is3 false b c x y z = absurd (false≢true x)
+use Rattle.run_law.proofs.Basics.{and_is, and_is3, both3, chosen}
 
 -- ---- settling
 
+-- settling leaves a script's files of their lists
 settled_fit : (fetch own : List ℕ) (there : List Bool) (empty : Bool) (s : Script) → files_fit fetch own s ≡ true → files_fit fetch own (settled there empty s) ≡ true
 settled_fit fetch own there empty whole is = refl
 settled_fit fetch own there empty (absent files this that) is =
@@ -59,6 +51,7 @@ settled_fit fetch own there empty (step stage (publishes f) rest) is = is
 settled_fit fetch own there empty (step stage (may_publish f) rest) is = is
 settled_fit fetch own there empty (step stage (answers g) rest) is = is
 
+-- options with equal values have equal values
 some_is : (a b : ℕ) → Some a ≡ Some b → a ≡ b
 some_is a b e = ap (λ o. unwrap_or o 0) e
 
@@ -88,10 +81,7 @@ settled_wants there empty (step stage (answers g) rest) f is = absurd (nothing_i
 
 -- ---- a deed
 
-chosen : (b : Bool) (s rest : Script) → (if b then Some s else None) ≡ Some rest → (b ≡ true) × (s ≡ rest)
-chosen true s rest e = (refl, ap (λ o. unwrap_or o whole) e)
-chosen false s rest e = absurd (nothing_is rest e)
-
+-- so does a deed
 done_fit : (fetch own : List ℕ) (s : Script) (d : Deed) (rest : Script) → files_fit fetch own s ≡ true → done s d ≡ Some rest → files_fit fetch own rest ≡ true
 done_fit fetch own whole d rest is e = absurd (nothing_is rest e)
 done_fit fetch own (absent files this that) d rest is e = absurd (nothing_is rest e)
@@ -109,6 +99,7 @@ done_fit fetch own (step stage frees more) d rest is e = subst (λ t. files_fit 
 done_fit fetch own (step stage (fetches f) more) d rest is e = subst (λ t. files_fit fetch own t ≡ true) (chosen (is_wanted (fetches f) d) more rest e).1 (both (is_listed f fetch) (files_fit fetch own more) is).1
 done_fit fetch own (step stage (publishes f) more) d rest is e = subst (λ t. files_fit fetch own t ≡ true) (chosen (is_wanted (publishes f) d) more rest e).1 (both (is_listed f own) (files_fit fetch own more) is).1
 
+-- a script that is left by a test is left where the test holds
 some_chosen : (b : Bool) (s : Script) → is_some (if b then Some s else None) ≡ true → b ≡ true
 some_chosen true s e = refl
 some_chosen false s e = absurd (false≢true e)
@@ -141,29 +132,29 @@ due_file fetch own (step stage (may_publish g) more) f is due =
 
 -- ---- at the start
 
-and_is : (a b : Bool) → a ≡ true → b ≡ true → (a && b) ≡ true
-and_is true b x y = y
-and_is false b x y = absurd (false≢true x)
-
 -- steps that name no file
 plain_fit : (fetch own : List ℕ) (rest : Script) (f : ℕ → Step) (stage : ℕ) → ((x : ℕ) (more : Script) → files_fit fetch own (step stage (f x) more) ≡ files_fit fetch own more) → (xs : List ℕ) → files_fit fetch own rest ≡ true → files_fit fetch own (steps stage f xs rest) ≡ true
 plain_fit fetch own rest f stage same [] is = is
 plain_fit fetch own rest f stage same (x ∷ xs) is = same x (steps stage f xs rest) ∙ plain_fit fetch own rest f stage same xs is
 
+-- further own files are of the module's own list
 may_fit : (own xs : List ℕ) → ((f : ℕ) → is_listed f xs ≡ true → is_listed f own ≡ true) → (fetch : List ℕ) → files_fit fetch own (steps 6 may_publish xs (step 6 frees whole)) ≡ true
 may_fit own [] sub fetch = refl
 may_fit own (x ∷ xs) sub fetch =
     let rest = may_fit own xs (λ f is. sub f (listed_later x f xs is)) in
     and_is3 (is_listed x own) (files_fit fetch own (steps 6 may_publish xs (step 6 frees whole))) (files_fit [] own (steps 6 may_publish xs (step 6 frees whole))) (sub x (listed_first x xs)) (rest fetch) (rest [])
 
+-- fetched files are of the fetch list
 fetch_fit : (fetch own : List ℕ) (rest : Script) (xs : List ℕ) → ((f : ℕ) → is_listed f xs ≡ true → is_listed f fetch ≡ true) → files_fit fetch own rest ≡ true → files_fit fetch own (steps 3 fetches xs rest) ≡ true
 fetch_fit fetch own rest [] sub is = is
 fetch_fit fetch own rest (x ∷ xs) sub is = and_is (is_listed x fetch) (files_fit fetch own (steps 3 fetches xs rest)) (sub x (listed_first x xs)) (fetch_fit fetch own rest xs (λ f l. sub f (listed_later x f xs l)) is)
 
+-- own files are of the own list
 own_fit : (fetch own : List ℕ) → files_fit fetch own (own_script own) ≡ true
 own_fit fetch [] = refl
 own_fit fetch (pom ∷ others) = and_is (is_listed pom (pom ∷ others)) (files_fit fetch (pom ∷ others) (steps 6 may_publish others (step 6 frees whole))) (listed_first pom others) (may_fit (pom ∷ others) others (λ f is. listed_later pom f others is) fetch)
 
+-- so are those of installing
 install_fit : (m : ModuleOutline) → files_fit m.fetch m.own (install_script m) ≡ true
 install_fit m = by m.installs
   where
@@ -171,9 +162,11 @@ install_fit m = by m.installs
     by true = own_fit m.fetch m.own
     by false = refl
 
+-- so are those behind reading
 read_fit : (m : ModuleOutline) → files_fit m.fetch m.own (read_script m) ≡ true
 read_fit m = plain_fit m.fetch m.own (release_script m) reads 4 (λ x more. refl) m.reads (plain_fit m.fetch m.own (install_script m) answers 5 (λ x more. refl) (below m.goals) (install_fit m))
 
+-- so are all files of a module's script
 pub start_fit : (m : ModuleOutline) → files_fit m.fetch m.own (script_of m) ≡ true
 start_fit m =
     plain_fit m.fetch m.own (choice_script m) (takes Shared) 2 (λ x more. refl) m.batch
@@ -182,6 +175,7 @@ start_fit m =
 
 -- ---- courses
 
+-- what isn't there wasn't at the start, as files only come
 absent_first : (o : Outline) (there : List Bool) → ((f : ℕ) → is_there o.present f ≡ true → is_there there f ≡ true) → (f : ℕ) → is_there there f ≡ false → is_there o.present f ≡ false
 absent_first o there grows f none = by (is_there o.present f) refl
   where
@@ -189,6 +183,7 @@ absent_first o there grows f none = by (is_there o.present f) refl
     by false e = e
     by true e = absurd (false≢true (sym none ∙ grows f e))
 
+-- a course stays fit behind a deed
 deed_fit : (o : Outline) (there : List Bool) (held : List ℕ) (d : Deed) (answered : Option ℕ) (c : Course) → ((f : ℕ) → is_there o.present f ≡ true → is_there there f ≡ true) → IsCourseFit o c → IsCourseFit o (after_deed there held d answered c)
 deed_fit o there held d answered idle grows fit = tt
 deed_fit o there held d answered (off_course m file gathered) grows fit = tt
@@ -198,6 +193,7 @@ deed_fit o there held d answered (on_course number script last) grows fit = by (
     by None e = fit
     by (Some rest) e = (λ m at. settled_fit m.fetch m.own there (is_empty held) rest (done_fit m.fetch m.own script d rest (fit.0 m at) e), λ f w. absent_first o there grows f (settled_wants there (is_empty held) rest f w))
 
+-- and behind a free
 free_fit : (o : Outline) (there : List Bool) (held : List ℕ) (c : Course) → ((f : ℕ) → is_there o.present f ≡ true → is_there there f ≡ true) → IsCourseFit o c → IsCourseFit o (after_free o there held c)
 free_fit o there held idle grows fit = tt
 free_fit o there held (off_course m file gathered) grows fit = tt
@@ -207,6 +203,7 @@ free_fit o there held (on_course number script last) grows fit = by (done script
     by None e = tt
     by (Some rest) e = (λ m at. settled_fit m.fetch m.own there (is_empty held) rest (done_fit m.fetch m.own script deed.Free rest (fit.0 m at) e), λ f w. absent_first o there grows f (settled_wants there (is_empty held) rest f w))
 
+-- a course that begins is fit
 begun_fit : (o : Outline) (there : List Bool) (held : List ℕ) (number : ℕ) → ((f : ℕ) → is_there o.present f ≡ true → is_there there f ≡ true) → IsCourseFit o (on_course number (settled there (is_empty held) (start_of o number)) None)
 begun_fit o there held number grows = (λ m at. settled_fit m.fetch m.own there (is_empty held) (start_of o number) (subst (λ found. files_fit m.fetch m.own (option_map_or script_of found whole) ≡ true) (sym at) (start_fit m)), λ f w. absent_first o there grows f (settled_wants there (is_empty held) (start_of o number) f w))
 
@@ -218,6 +215,7 @@ at_place P (y ∷ xs) zero x d new old (suc v) = old (suc v)
 at_place P (y ∷ xs) (suc w) x d new old zero = old zero
 at_place P (y ∷ xs) (suc w) x d new old (suc v) = at_place P xs w x d new (λ k. old (suc k)) v
 
+-- a file that is there stays, with another put
 pub there_grows : (there : List Bool) (f g : ℕ) → is_there there g ≡ true → is_there (set there f true) g ≡ true
 there_grows [] f g is = is
 there_grows (b ∷ there) zero zero is = refl
@@ -225,6 +223,7 @@ there_grows (b ∷ there) zero (suc g) is = is
 there_grows (b ∷ there) (suc f) zero is = is
 there_grows (b ∷ there) (suc f) (suc g) is = there_grows there f g is
 
+-- all courses stay fit behind each event
 pub courses_after : (o : Outline) (now : Standing) (e : Event) → AreCoursesFit o now → AreCoursesFit o (after o now e)
 unfolding after
 courses_after o now (event.Start w m) fit = record { courses = at_place (IsCourseFit o) now.courses w (on_course m (settled now.there (is_empty (held_by now w)) (start_of o m)) None) idle (begun_fit o now.there (held_by now w) m fit.grows) fit.courses; grows = fit.grows }
@@ -238,8 +237,10 @@ courses_after o now (event.Publish w f) fit =
 courses_after o now (event.Answer w g) fit = record { courses = at_place (IsCourseFit o) now.courses w (after_deed now.there (held_by now w) (deed.Answer g) (Some g) (course_of now w)) idle (deed_fit o now.there (held_by now w) (deed.Answer g) (Some g) (course_of now w) fit.grows (fit.courses w)) fit.courses; grows = fit.grows }
 courses_after o now (event.End w e) fit = record { courses = at_place (IsCourseFit o) now.courses w idle idle tt fit.courses; grows = fit.grows }
 
+-- they are where nothing has happened
 pub courses_first : (o : Outline) → AreCoursesFit o (at_first o)
 courses_first o = record { courses = λ w. subst (IsCourseFit o) (sym (any_idle o.workers w)) tt; grows = λ f is. is }
 
+-- so they are behind every run
 pub courses_fit : (o : Outline) (events : List Event) → IsRun o [] events → AreCoursesFit o (standing_of o events)
 courses_fit o events run = by_events o (AreCoursesFit o) (λ now e fit is. courses_after o now e fit) [] events (courses_first o) run

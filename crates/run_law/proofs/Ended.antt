@@ -38,14 +38,17 @@ use Rattle.run_law.proofs.Gathering.{all_here, late_none, wanted_head}
 use Rattle.run_law.proofs.Hand.{AreApart}
 use Rattle.run_law.proofs.Kept.{no_goals, outs_at, outs_none, outs_same}
 use Rattle.run_law.proofs.Once.{both, len_same, listed_first, listed_later}
-use Rattle.run_law.proofs.Ordered.{IsOrdered, done_over, not_true}
+use Rattle.run_law.proofs.Ordered.{IsOrdered, done_over}
 use Rattle.run_law.proofs.Ready.{all_listed, all_had, beyond_is, file_had, within_is}
 use Rattle.run_law.proofs.Stored.{get_map, none_is}
 use Rattle.event_core.proofs.Weights.{nothing_is}
+use Rattle.run_law.proofs.Basics.{not_not}
 
+-- a test of numbers, as a fact
 pub lt_is : (a b : ℕ) → nat_lt a b ≡ true → a < b
 lt_is a b is = grind (arith, nat_tests)
 
+-- where nothing is found, nothing passes the test
 pub find_gone : (p : ℕ → Bool) (xs : List ℕ) → find p xs ≡ None → (x : ℕ) → is_listed x xs ≡ true → p x ≡ false
 find_gone p [] none x l = absurd (false≢true l)
 find_gone p (y ∷ xs) none x l = by (p y) refl none (nat_eq y x) refl l (λ h. find_gone p xs h x)
@@ -69,6 +72,7 @@ set_cases (q ∷ ps) (suc m) p (suc u) = more (set_cases ps m p u)
 
 -- ---- what begins stays begun
 
+-- what has begun stays begun where a module's progress rises
 set_begun : (ps : List Progress) (m : ℕ) (p : Progress) → (is_begun (progress_of ps m) ≡ true → is_begun p ≡ true) → (u : ℕ) → is_begun (progress_of ps u) ≡ true → is_begun (progress_of (set ps m p) u) ≡ true
 set_begun ps m p keeps u is = by (set_cases ps m p u)
   where
@@ -76,12 +80,14 @@ set_begun ps m p keeps u is = by (set_cases ps m p u)
     by (inl e) = ap is_begun e ∙ is
     by (inr e) = ap is_begun e.1 ∙ keeps (subst (λ k. is_begun (progress_of ps k) ≡ true) e.0 is)
 
+-- what waits hasn't begun
 waits_begun : (p : Progress) → is_waiting p ≡ true → is_begun p ≡ true → ⊥
 waits_begun Waiting w b = false≢true b
 waits_begun (Running x) w b = false≢true w
 waits_begun Skipped w b = false≢true b
 waits_begun (Ended e) w b = false≢true w
 
+-- what has begun stays begun behind each event
 pub begun_stays : (o : Outline) (now : Standing) (e : Event) → IsEnabled o now e → (u : ℕ) → is_begun (progress_of now.progress u) ≡ true → is_begun (progress_of (after o now e).progress u) ≡ true
 unfolding after
 begun_stays o now (event.Start w m) is u b = set_begun now.progress m (Running w) (λ x. refl) u b
@@ -97,11 +103,13 @@ begun_stays o now (event.End w e) is u b = by (module_of (course_of now w))
     by None = b
     by (Some m) = set_begun now.progress m (Ended e) (λ x. refl) u b
 
+-- a script that may end has nothing left to fetch
 pub end_none : (s : Script) → may_end s ≡ true → pending s ≡ []
 end_none whole is = refl
 end_none (step stage s rest) is = absurd (false≢true is)
 end_none (absent files this that) is = absurd (false≢true is)
 
+-- installing stands behind fetching
 pub install_late : (s : Script) → is_to_install s ≡ true → nat_lt 3 (stage_of s) ≡ true
 install_late (step stage (takes Exclusive name) rest) is = subst (λ k. nat_lt 3 k ≡ true) (sym (eqb-true stage 6 is)) refl
 install_late (step stage (takes Shared name) rest) is = absurd (false≢true is)
@@ -114,10 +122,12 @@ install_late (step stage (answers g) rest) is = absurd (false≢true is)
 install_late whole is = absurd (false≢true is)
 install_late (absent files this that) is = absurd (false≢true is)
 
+-- a number that passes for another is that one
 pub this_is : (found : Option ℕ) (n : ℕ) → is_this found n ≡ true → found ≡ Some n
 this_is None n is = absurd (false≢true is)
 this_is (Some x) n is = ap (λ k. Some k) (eqb-true x n is)
 
+-- what is listed in the front of a list is listed in the whole
 pub listed_front : (x : ℕ) (xs ys : List ℕ) → is_listed x xs ≡ true → is_listed x (xs ++ ys) ≡ true
 listed_front x [] ys l = absurd (false≢true l)
 listed_front x (y ∷ xs) ys l = by (nat_eq y x) l (listed_front x xs ys)
@@ -126,6 +136,7 @@ listed_front x (y ∷ xs) ys l = by (nat_eq y x) l (listed_front x xs ys)
     by true l again = refl
     by false l again = again l
 
+-- an item between two parts of a list is listed
 listed_mid : (x : ℕ) (xs ys : List ℕ) → is_listed x (xs ++ x ∷ ys) ≡ true
 listed_mid x [] ys = listed_first x ys
 listed_mid x (y ∷ xs) ys = listed_later y x (xs ++ x ∷ ys) (listed_mid x xs ys)
@@ -145,13 +156,15 @@ module _ (plan : Plan) (start remote : Files) (apart : AreApart plan) (present :
   upstream_over now number m ordered at begun u l =
       let ups : upstream_of o number ≡ m.upstream = ap (λ found. option_map_or (λ (x : ModuleOutline). x.upstream) found []) (get_map module_outline plan.modules number m at) in
       let none = subst (λ xs. find (λ u. not (is_done (progress_of now.progress u))) xs ≡ None) ups (ordered.begun number begun) in
-      done_over (progress_of now.progress u) (not_true (is_done (progress_of now.progress u)) (find_gone (λ u. not (is_done (progress_of now.progress u))) m.upstream none u l))
+      done_over (progress_of now.progress u) (not_not (is_done (progress_of now.progress u)) (find_gone (λ u. not (is_done (progress_of now.progress u))) m.upstream none u l))
 
   -- where the answers of what is over stay
   module _ (now : Standing) (kept later : List Answered) (ordered : IsOrdered o now) (same : (u : ℕ) → is_over (progress_of now.progress u) ≡ true → answer_at later u ≡ answer_at kept u) where
+    -- the length of a begun module's classpath stays as it is
     pub len_stays : (number : ℕ) (m : PlanModule) → slice_get plan.modules number ≡ Some m → is_begun (progress_of now.progress number) ≡ true → total_len plan base (outs plan later) m.entries ≡ total_len plan base (outs plan kept) m.entries
     len_stays number m at begun = len_same plan base m (outs plan later) (outs plan kept) (λ u l. outs_same plan kept later u (same u (upstream_over now number m ordered at begun u l))) m.entries (backed number m at)
 
+    -- so does its verdict
     verdict_stays : (number : ℕ) (m : PlanModule) → slice_get plan.modules number ≡ Some m → is_begun (progress_of now.progress number) ≡ true → answer_at later number ≡ answer_at kept number
         → (missing : Option ℕ) → verdict_of_fetch plan (supply_of start remote later) number m (outs plan later) missing ≡ verdict_of_fetch plan (supply_of start remote kept) number m (outs plan kept) missing
     verdict_stays number m at begun mine (Some f) = refl
@@ -159,6 +172,7 @@ module _ (plan : Plan) (start remote : Files) (apart : AreApart plan) (present :
         ap (λ n. if nat_lt most_classpath n then record { state = state.Ended ending.ClasspathTooLarge; outputs = [] } else verdict_of_goals m (run_goals m.budget (answer_at later number) 0 m.goals [])) (len_stays number m at begun)
         ∙ ap (λ answers. if nat_lt most_classpath (total_len plan base (outs plan kept) m.entries) then record { state = state.Ended ending.ClasspathTooLarge; outputs = [] } else verdict_of_goals m (run_goals m.budget answers 0 m.goals [])) mine
 
+    -- so what has ended stays as it is judged
     pub ended_stays : (next : Standing) → ((number : ℕ) (e : Ending) → progress_of next.progress number ≡ Ended e → progress_of now.progress number ≡ Ended e) → AreEnded plan start remote now kept → AreEnded plan start remote next later
     ended_stays next back are number m e at is quiet =
         let before = back number e is in
@@ -169,31 +183,37 @@ module _ (plan : Plan) (start remote : Files) (apart : AreApart plan) (present :
 
   -- ---- a module that ends
 
+  -- good goals are all answered
   pub good_is : (end : GoalsEnd) → is_good end ≡ true → end ≡ all_answered (kept_of end)
   good_is (all_answered own) is = refl
   good_is (goal_failed i own) is = absurd (false≢true is)
   good_is (output_too_large i own) is = absurd (false≢true is)
 
+  -- goals with a failure at a place ended there
   failed_is : (i : ℕ) (end : GoalsEnd) → has_failed_at i end ≡ true → end ≡ goal_failed i (kept_of end)
   failed_is i (all_answered own) is = absurd (false≢true is)
   failed_is i (goal_failed j own) is = ap (λ k. goal_failed k own) (eqb-true j i is)
   failed_is i (output_too_large j own) is = absurd (false≢true is)
 
+  -- goals with too much at a place ended there
   large_is : (i : ℕ) (end : GoalsEnd) → is_too_large_at i end ≡ true → end ≡ output_too_large i (kept_of end)
   large_is i (all_answered own) is = absurd (false≢true is)
   large_is i (goal_failed j own) is = absurd (false≢true is)
   large_is i (output_too_large j own) is = ap (λ k. output_too_large k own) (eqb-true j i is)
 
+  -- a module that doesn't lack what it installs is built
   install_built : (a b : Bool) (own : List OwnBytes) → (a && b) ≡ false → verdict_of_install a b own ≡ record { state = state.Ended ending.Built; outputs = own }
   install_built false b own e = refl
   install_built true false own e = refl
   install_built true true own e = absurd (false≢true (sym e))
 
+  -- one that lacks it ends without its artifact
   install_none : (a b : Bool) (own : List OwnBytes) → (a && b) ≡ true → verdict_of_install a b own ≡ record { state = state.Ended ending.NoArtifact; outputs = own }
   install_none false b own e = absurd (false≢true e)
   install_none true false own e = absurd (false≢true e)
   install_none true true own e = refl
 
+  -- behind what fails the test, the first that passes it is found
   find_first : (p : ℕ → Bool) (passed behind : List ℕ) (f : ℕ) → ((x : ℕ) → is_listed x passed ≡ true → p x ≡ false) → p f ≡ true → find p (passed ++ f ∷ behind) ≡ Some f
   find_first p [] behind f none is = ap (λ b. if b then Some f else find p behind) is
   find_first p (x ∷ passed) behind f none is = ap (λ b. if b then Some x else find p (passed ++ f ∷ behind)) (none x (listed_first x passed)) ∙ find_first p passed behind f (λ y l. none y (listed_later x y passed l)) is
@@ -209,6 +229,7 @@ module _ (plan : Plan) (start remote : Files) (apart : AreApart plan) (present :
     pub ended : AreEnded plan start remote (standing_of_run plan past) (answers_in plan past)
 
   module _ (past : List RunEntry) (behind : Behind past) (number : ℕ) (m : PlanModule) (at : slice_get plan.modules number ≡ Some m) where
+    -- the answers that are kept
     kept_now : List Answered
     kept_now = answers_in plan past
 
@@ -224,6 +245,7 @@ module _ (plan : Plan) (start remote : Files) (apart : AreApart plan) (present :
         ∙ ap (λ b. if b then record { state = state.Ended ending.ClasspathTooLarge; outputs = [] } else verdict_of_goals m (goals_in (answers_in plan past) number m)) within
         ∙ is)
 
+    -- a test that doesn't hold is false
     no_answer : (has_answer (answers_in plan past) number ≡ true → ⊥) → has_answer (answers_in plan past) number ≡ false
     no_answer not = by (has_answer (answers_in plan past) number) refl
       where
@@ -231,6 +253,7 @@ module _ (plan : Plan) (start remote : Files) (apart : AreApart plan) (present :
         by false e = e
         by true e = absurd (not e)
 
+    -- a module whose classpath is too large ends as judged
     by_large : list_all (is_there (standing_of_run plan past).there) m.fetch ≡ true → IsBeyond (stood plan (Some start) past number m) → Judgement ending.ClasspathTooLarge
     by_large all beyond =
         let long = beyond_is plan start remote apart number m at (backed number m at) past behind.stored all beyond in
@@ -239,6 +262,7 @@ module _ (plan : Plan) (start remote : Files) (apart : AreApart plan) (present :
         ∙ sym (ap (verdict_of_fetch plan (supply_of start remote (answers_in plan past)) number m (outs plan (answers_in plan past))) (all_had plan start remote apart number m at (backed number m at) past behind.stored all [])
         ∙ ap (λ b. if b then record { state = state.Ended ending.ClasspathTooLarge; outputs = [] } else verdict_of_goals m (goals_in (answers_in plan past) number m)) long)
 
+    -- a module for which a file is missing ends as judged
     by_missing : (f : ℕ) → IsWanting o (standing_of_run plan past).there m.fetch f → remote_bytes remote (name_of plan f) ≡ None → f < length plan.files → Judgement (ending.Missing f)
     by_missing f wanting gone low =
         let p = wanting.before in
@@ -251,9 +275,11 @@ module _ (plan : Plan) (start remote : Files) (apart : AreApart plan) (present :
         ∙ sym (ap (verdict_of_fetch plan (supply_of start remote (answers_in plan past)) number m (outs plan (answers_in plan past))) first)
 
     module _ (hand : HandTold) (tells : hand.remote ≡ Some remote) (sized : length plan.present ≡ length plan.files) where
+      -- a missing file is one that the remote doesn't have
       pub gone_of : (f : ℕ) → FitsEnd (stood plan (Some start) past number m) hand (ending.Missing f) → remote_bytes remote (name_of plan f) ≡ None
       gone_of f fits = subst (λ x. IfSome x (λ remote. remote_bytes remote (name_of plan f) ≡ None)) tells fits
 
+      -- and one of the plan
       low_of : (c : Course) (f : ℕ) → ending_in_range o c (ending.Missing f) ≡ true → f < length plan.files
       low_of c f is = let small = lt_is f (length plan.present) is in omega (arith, small, sized)
 
@@ -310,6 +336,7 @@ module _ (plan : Plan) (start remote : Files) (apart : AreApart plan) (present :
           by (ending.Fault device) quiet may range fits = absurd (false≢true quiet)
           by ending.Memory quiet may range fits = absurd (false≢true quiet)
 
+      -- so each quiet end is as judged
       pub judged_end : (w : ℕ) (e : Ending) → module_of (course_of (standing_of_run plan past) w) ≡ Some number → is_quiet_end e ≡ true → may_end_so o (course_of (standing_of_run plan past) w) e ≡ true → ending_in_range o (course_of (standing_of_run plan past) w) e ≡ true → FitsEnd (stood plan (Some start) past number m) hand e → Judgement e
       judged_end w e = by (course_of (standing_of_run plan past) w) (behind.courses.courses w) (behind.gathering w)
         where

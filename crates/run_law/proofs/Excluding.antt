@@ -22,6 +22,7 @@ use Rattle.event_core.proofs.Weights.{nothing_is}
 abbrev pub IsExcluding : Outline → Standing → Type 0
 IsExcluding o now = (n w v : ℕ) → w < o.workers → v < o.workers → hold now.locks n w ≡ Some Exclusive → is_some (hold now.locks n v) ≡ true → v ≡ w
 
+-- a number is listed below a greater one
 pub listed_below : (n k : ℕ) → k < n → is_listed k (below n) ≡ true
 listed_below zero k low = absurd (omega (arith, low))
 listed_below (suc n) k low = by (same_or_not k n) (listed_below n k)
@@ -59,11 +60,13 @@ free_of table n w mode workers same none v low other =
     second false e q = q
     second true e q = absurd (false≢true (sym e))
 
+-- who takes alone excludes every holder
 excludes_held : (h : Option Mode) → excludes h Exclusive ≡ false → is_some h ≡ true → ⊥
 excludes_held None e some = false≢true some
 excludes_held (Some Shared) e some = false≢true (sym e)
 excludes_held (Some Exclusive) e some = false≢true (sym e)
 
+-- who holds alone excludes every taker
 excludes_alone : (h : Option Mode) (mode : Mode) → excludes h mode ≡ false → h ≡ Some Exclusive → ⊥
 excludes_alone h mode e is = false≢true (sym e ∙ ap (λ x. excludes x mode) is)
 
@@ -72,12 +75,15 @@ mode_in (Some mode) = mode
 mode_in None = Shared
 
 module _ (o : Outline) (now : Standing) (s : IsStanding o now) (old : IsExcluding o now) (w n : ℕ) (low : w < o.workers) (small : n < o.names) where
+  -- what a worker holds behind a change of its hold
   held_new : (x : Option Mode) → hold (with_hold now.locks n w x) n w ≡ x
   held_new x = rows_same now.locks.2 n w x o.workers (omega (arith, small, s.tied.depth)) s.tied.width low
 
+  -- and what stands elsewhere
   held_other : (x : Option Mode) (k v : ℕ) → (k ≡ n → v ≡ w → ⊥) → hold (with_hold now.locks n w x) k v ≡ hold now.locks k v
   held_other x k v other = rows_other now.locks.2 n w k v x other
 
+  -- a place is the changed one or another
   cases : (k v : ℕ) → ((k ≡ n) × (v ≡ w)) ⊎ (k ≡ n → v ≡ w → ⊥)
   cases k v = by (same_or_not k n) (same_or_not v w)
     where
@@ -86,6 +92,7 @@ module _ (o : Outline) (now : Standing) (s : IsStanding o now) (old : IsExcludin
       by (inl a) (inr b) = inr (λ x y. b y)
       by (inr a) c = inr (λ x y. a x)
 
+  -- a take leaves each hold alone the only one
   taken : (mode : Mode) → blocker now.locks n w mode ≡ None → (k a b : ℕ) → a < o.workers → b < o.workers → hold (with_hold now.locks n w (Some mode)) k a ≡ Some Exclusive → is_some (hold (with_hold now.locks n w (Some mode)) k b) ≡ true → b ≡ a
   taken mode none k a b x y alone some = by (cases k a) (cases k b)
     where
@@ -100,6 +107,7 @@ module _ (o : Outline) (now : Standing) (s : IsStanding o now) (old : IsExcludin
           let his : hold now.locks n a ≡ Some Exclusive = subst (λ i. hold now.locks i a ≡ Some Exclusive) q.0 (sym (held_other (Some mode) k a p) ∙ alone) in
           absurd (excludes_alone (hold now.locks n a) mode (free_of now.locks n w mode o.workers s.fit.workers none a x (λ e. p q.0 e)) his)
 
+  -- and so does a free
   freed : (k a b : ℕ) → a < o.workers → b < o.workers → hold (with_hold now.locks n w None) k a ≡ Some Exclusive → is_some (hold (with_hold now.locks n w None) k b) ≡ true → b ≡ a
   freed k a b x y alone some = by (cases k a) (cases k b)
     where
@@ -111,6 +119,7 @@ module _ (o : Outline) (now : Standing) (s : IsStanding o now) (old : IsExcludin
       by (inl p) q = absurd (nothing_is Exclusive (sym (none_at k a p) ∙ alone))
       by (inr p) (inl q) = absurd (false≢true (sym (ap is_some (none_at k b q)) ∙ some))
 
+-- so does each event
 pub excluding_after : (o : Outline) (now : Standing) (e : Event) → IsStanding o now → IsExcluding o now → IsEnabled o now e → IsExcluding o (after o now e)
 unfolding after
 excluding_after o now (event.Start w m) s old is = old
@@ -122,16 +131,19 @@ excluding_after o now (event.Publish w f) s old is = old
 excluding_after o now (event.Answer w g) s old is = old
 excluding_after o now (event.End w e) s old is = old
 
+-- nobody holds in an empty row
 none_in : (workers w : ℕ) → hold_in (replicate workers None) w ≡ None
 none_in zero w = refl
 none_in (suc k) zero = refl
 none_in (suc k) (suc w) = none_in k w
 
+-- nor in any row at first
 rows_none : (names workers n w : ℕ) → hold_in (row_in (replicate names (replicate workers None)) n) w ≡ None
 rows_none zero workers n w = refl
 rows_none (suc k) workers zero w = none_in workers w
 rows_none (suc k) workers (suc n) w = rows_none k workers n w
 
+-- so at first no hold is alone
 pub excluding_first : (o : Outline) → IsExcluding o (at_first o)
 excluding_first o n w v low small alone some = absurd (free n (hold_none n w) alone)
   where
@@ -141,6 +153,7 @@ excluding_first o n w v low small alone some = absurd (free n (hold_none n w) al
     free : (n : ℕ) → hold (at_first o).locks n w ≡ None → hold (at_first o).locks n w ≡ Some Exclusive → ⊥
     free n none alone = nothing_is Exclusive (sym none ∙ alone)
 
+-- a hold alone is the only one behind every run
 pub excluding : (o : Outline) (events : List Event) → IsRun o [] events → IsExcluding o (standing_of o events)
 excluding o events run =
     (by_events o (λ now. IsStanding o now × IsExcluding o now) (λ now e both is. (standing_after o now e both.0 is, excluding_after o now e both.0 both.1 is)) [] events (standing_first o, excluding_first o) run).1

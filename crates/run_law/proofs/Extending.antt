@@ -33,6 +33,7 @@ ends_of v = of v.state
     of (state.Ended e) = e
     of other = ending.Memory
 
+-- an ending with installing stands for all goals
 install_stands : (m : PlanModule) (own : List OwnBytes) (installs lacks : Bool) (g : ℕ) → reaches (ends_of (verdict_of_install installs lacks own)) g ≡ true
 install_stands m own true true g = refl
 install_stands m own true false g = refl

@@ -100,6 +100,7 @@ module _ (plan : Plan) (start remote : Files) (fit : IsFitPlan plan) (present : 
   abbrev AllOrFirst : List Bool → List ℕ → Ending → Type 0
   AllOrFirst there fetch e = (list_all (is_there there) fetch ≡ true) ⊎ ((f : ℕ) × IsWanting o there fetch f × (e ≡ ending.Missing f))
 
+  -- where a module ends quietly, all its files are there or one is missing
   ends_so : (there : List Bool) (number : ℕ) (m : PlanModule) → slice_get plan.modules number ≡ Some m → (c : Course) → IsCourseFit o c → IsGathering o there c → module_of c ≡ Some number → (e : Ending) → is_quiet_end e ≡ true → may_end_so o c e ≡ true → AllOrFirst there m.fetch e
   ends_so there number m at idle fits gather is e quiet may = absurd (nothing_is number is)
   ends_so there number m at (off_course n file gathered) fits gather is e quiet may = by e quiet may
@@ -174,6 +175,7 @@ module _ (plan : Plan) (start remote : Files) (fit : IsFitPlan plan) (present : 
         old number m x at quiet f l (inl is') = so.had number m x at is' quiet f l
         old number m x at quiet f l (inr new) = absurd (false≢true (sym isnt ∙ ap is_end new.1))
 
+    -- behind a publish each file that is there has its reason
     published_so : (w f : ℕ) (what : Carried) → IsEnabled o now (event.Publish w f) → Fits plan (Some start) hands past (record { event = event.Publish w f; carried = what }) → IsFetchedSo (after o now (event.Publish w f))
     unfolding after
     published_so w f what is fits = record {
@@ -216,6 +218,7 @@ module _ (plan : Plan) (start remote : Files) (fit : IsFitPlan plan) (present : 
                     )
                 split m at (inr mine) = absurd (fit.own f (subst (IsFetchFile plan) e fetch) (on.0, m, at, mine))
 
+    -- and behind an end
     ended_so : (w : ℕ) (e : Ending) (what : Carried) → IsEnabled o now (event.End w e) → Fits plan (Some start) hands past (record { event = event.End w e; carried = what }) → IsFetchedSo (after o now (event.End w e))
     unfolding after
     ended_so w e what is fits = record {
@@ -258,6 +261,7 @@ module _ (plan : Plan) (start remote : Files) (fit : IsFitPlan plan) (present : 
                 let fit' : FitsEnd (stood plan (Some start) past number m) (hands w) e = behind_of plan start remote fit.apart present fit.backed fit.sized hands (λ w. (tell w).1) past behind w number m (event.End w e) what mine at fits.1 in
                 sub number m f l (ends_so now.there number m at (course_of now w) (behind.courses.courses w) (behind.gathering w) mine e (subst (λ y. is_quiet_end y ≡ true) alike quiet) is.3) (inr tt) fit'
 
+    -- and behind each event
     so_after : (e : Event) (what : Carried) → IsEnabled o now e → Fits plan (Some start) hands past (record { event = e; carried = what }) → IsFetchedSo (after o now e)
     unfolding after
     so_after (event.Start w m) what is fits = quiet_so (event.Start w m) is refl refl
@@ -272,14 +276,17 @@ module _ (plan : Plan) (start remote : Files) (fit : IsFitPlan plan) (present : 
   abbrev IsBoth : List RunEntry → Type 0
   IsBoth past = IsBehind past × IsFetchedSo (standing_of_run plan past)
 
+  -- so behind one entry more
   both_more : (past : List RunEntry) (e : RunEntry) → IsBoth past → Enabled o (events_of past) e.event → Fits plan (Some start) hands past e → IsBoth (past ++ e ∷ [])
   unfolding Enabled
   both_more past e holds is fits =
       let next : standing_of_run plan (past ++ e ∷ []) ≡ after o (standing_of_run plan past) e.event = ap (standing_of o) (events_more past e) ∙ one_more o (events_of past) e.event in
       (behind_more plan start remote fit present hands tell past e holds.0 is fits, subst IsFetchedSo (sym next) (so_after past holds.0 holds.1 e.event e.carried is fits))
 
+  -- it holds where nothing has happened
   so_first : IsFetchedSo (at_first o)
   so_first = record { reason = λ f fetch there. inl there; had = λ number m e at is quiet f l. absurd (waits_on (length o.modules) number e is) }
 
+  -- so it holds behind every fitting run
   pub fetched_so : (entries : List RunEntry) → IsRunOf plan entries → AllFit plan (Some start) hands [] entries → IsBehind entries × IsFetchedSo (standing_of_run plan entries)
   fetched_so entries run fits = by_entries plan start hands IsBoth both_more [] entries (behind_first plan start remote fit present hands tell, so_first) run fits

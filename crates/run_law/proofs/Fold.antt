@@ -1,7 +1,7 @@
 -- The fold over the modules, in order, is judged.
 use Rattle.std.proofs.Common.{◌≡◌, ℕ, zero, suc, ◌+◌, ◌<◌, ◌≤◌, ◌⊎◌, inl, inr, true, List, [], ◌∷◌, ◌++◌, fold, length, get_or, slice_get, Some, unwrap_or, refl, arith, sym, ap, subst, ◌∙◌}
 use Rattle.std.specs.List.{list_all}
-use Rattle.std.proofs.lemmas.List.{append_assoc, get_or_append_left, get_or_push, length-append}
+use Rattle.std.proofs.lemmas.List.{append-nil, append_assoc, get_or_append_left, get_or_push, length-append}
 use Rattle.build_core.specs.declared.plan.Plan.{Plan}
 use Rattle.build_core.specs.declared.plan.PlanModule.{PlanModule}
 use Rattle.build_core.specs.declared.plan.Entry.{Entry}
@@ -27,18 +27,16 @@ last_or_before (z ∷ xs) y x (suc i) is = by (last_or_before xs y x i is)
     by (inl a) = inl (omega (arith, a.0), a.1)
     by (inr b) = inr (ap suc b.0, b.1)
 
+-- the item behind a first part of a list
 pub at_middle : {X : Type 0} (xs ys : List X) (y : X) → slice_get (xs ++ y ∷ ys) (length xs) ≡ Some y
 at_middle [] ys y = refl
 at_middle (x ∷ xs) ys y = at_middle xs ys y
 
+-- what stands at a place stands below the length
 pub in_list : {X : Type 0} (xs : List X) (i : ℕ) (x : X) → slice_get xs i ≡ Some x → i < length xs
 in_list [] i x is = absurd (nothing_is x is)
 in_list (y ∷ xs) zero x is = omega arith
 in_list (y ∷ xs) (suc i) x is = let again = in_list xs i x is in omega (arith, again)
-
-append-nil : {X : Type 0} (xs : List X) → xs ++ [] ≡ xs
-append-nil [] = refl
-append-nil (x ∷ xs) = ap (λ t. x ∷ t) (append-nil xs)
 
 module _ (plan : Plan) (supply : Supply) (apart : AreApart plan)
     (low : (number u : ℕ) (m : PlanModule) → slice_get plan.modules number ≡ Some m → is_listed u m.upstream ≡ true → u < number)
@@ -50,6 +48,7 @@ module _ (plan : Plan) (supply : Supply) (apart : AreApart plan)
     pub answers : (f : ℕ) → IsFetchFile plan f → had supply.remote progress.files (name_of plan f) ≡ available plan supply f
     pub judged : (number : ℕ) (m : PlanModule) → slice_get plan.modules number ≡ Some m → number < length done → ◌≡◌ {A = Verdict} (record { state = state_at progress number; outputs = outputs_at progress number }) (judge plan supply (state_at progress) (outputs_at progress) number m)
 
+  -- one module more stands as it is judged
   pub one_further : (done : List PlanModule) (m : PlanModule) (progress after : Progress) → slice_get plan.modules (length done) ≡ Some m → IsSoFar done progress
       → IsNext plan supply m progress after (judge plan supply (state_at progress) (outputs_at progress) (length done) m) → IsSoFar (done ++ m ∷ []) after
   one_further done m progress after at so next = record {
@@ -97,6 +96,7 @@ module _ (plan : Plan) (supply : Supply) (apart : AreApart plan)
               let there : slice_get plan.modules (length done) ≡ Some n = subst (λ k. slice_get plan.modules k ≡ Some n) (sym e) here in
               subst (λ k. ◌≡◌ {A = Verdict} (record { state = state_at after k; outputs = outputs_at after k }) (judge plan supply (state_at after) (outputs_at after) k n)) e (last n (ap (λ o. unwrap_or o m) (sym at ∙ there)) there)
 
+  -- so do all that follow
   pub fold_judged : (done rest : List PlanModule) (progress : Progress) → plan.modules ≡ done ++ rest → IsSoFar done progress → IsSoFar plan.modules (fold (next_module first_unbuilt plan supply) progress rest)
   fold_judged done [] progress e so = subst (λ ms. IsSoFar ms progress) (sym (e ∙ append-nil done)) so
   fold_judged done (m ∷ rest) progress e so =
@@ -104,5 +104,6 @@ module _ (plan : Plan) (supply : Supply) (apart : AreApart plan)
       fold_judged (done ++ m ∷ []) rest (next_module first_unbuilt plan supply progress m) (e ∙ sym (append_assoc done (m ∷ []) rest))
       (one_further done m progress (next_module first_unbuilt plan supply progress m) at so (next_is plan supply apart (length done) m at progress (backed (length done) m at) so.states so.answers))
 
+  -- so the build by one hand stands as it is judged
   pub hand_judged : AreJudged plan supply (λ _. Unit {0}) (state_at (one_thread plan supply)) (outputs_at (one_thread plan supply))
   hand_judged number m at any = (fold_judged [] plan.modules (beginning supply) refl (record { states = refl; outputs = refl; answers = λ f fetch. refl; judged = λ k n here less. absurd (omega (arith, less)) })).judged number m at (in_list plan.modules number m at)

@@ -46,6 +46,7 @@ module _ (plan : Plan) (supply : Supply) (apart : AreApart plan) (number : ℕ) 
       by None = refl
       by (Some bytes) = at_insert files (name_of plan o.file) bytes (name_of plan f) ∙ ap (λ b. cond b (Some bytes) (file_at files (name_of plan f))) (apart f o.file fetch (number, m, at, is))
 
+  -- installing leaves fetched files as they are
   install_apart : (own : List OwnBytes) (f : ℕ) → IsFetchFile plan f → (list : List OwnFile) → ((o : ℕ) → is_listed o (map (λ (x : OwnFile). x.file) list) ≡ true → is_listed o (map (λ (x : OwnFile). x.file) m.own) ≡ true) → (files : Files) → file_at (fold (put_own plan m own) files list) (name_of plan f) ≡ file_at files (name_of plan f)
   install_apart own f fetch [] sub files = refl
   install_apart own f fetch (o ∷ list) sub files =
@@ -64,6 +65,7 @@ module _ (plan : Plan) (supply : Supply) (apart : AreApart plan) (number : ℕ) 
       one (origin.Module u s) is = refl
       one origin.Nothing is = refl
 
+  -- how a module goes on whose goals ended
   next_goals : (progress : Progress) (files : Files) → ((f : ℕ) → IsFetchFile plan f → had supply.remote files (name_of plan f) ≡ had supply.remote progress.files (name_of plan f)) → (end : GoalsEnd) → IsNext plan supply m progress (after_goals plan m files progress end) (verdict_of_goals m end)
   next_goals progress files alike (goal_failed i own) = record { states = refl; outputs = refl; alike = alike }
   next_goals progress files alike (output_too_large i own) = record { states = refl; outputs = refl; alike = alike }
@@ -74,6 +76,7 @@ module _ (plan : Plan) (supply : Supply) (apart : AreApart plan) (number : ℕ) 
       by true true = record { states = refl; outputs = refl; alike = alike }
       by true false = record { states = refl; outputs = refl; alike = λ f fetch. ap (λ o. option_or o (remote_bytes supply.remote (name_of plan f))) (install_apart own f fetch m.own (λ o is. is) files) ∙ alike f fetch }
 
+  -- so a module that comes next stands as judged, and fetched files can be had as before
   pub next_is : (progress : Progress) → list_all (λ (e : Entry). is_backed m e.origin) m.entries ≡ true → length progress.states ≡ number → ((f : ℕ) → IsFetchFile plan f → had supply.remote progress.files (name_of plan f) ≡ available plan supply f)
       → IsNext plan supply m progress (next_module first_unbuilt plan supply progress m) (judge plan supply (state_at progress) (outputs_at progress) number m)
   unfolding judge one_module

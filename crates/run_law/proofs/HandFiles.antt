@@ -6,7 +6,7 @@ use Rattle.std.specs.FinMap as finite
 use Rattle.std.specs.Ordering.{eq_by_cmp, nat_cmp}
 use Rattle.std.specs.Cmp.Lexicographic.{slice_cmp}
 use Rattle.std.proofs.lemmas.Bool.{eq-eqb, eqb-true, false≢true}
-use Rattle.std.proofs.lemmas.List.{append_assoc, get_or_push, length-append}
+use Rattle.std.proofs.lemmas.List.{append-nil, append_assoc, get_or_push, length-append}
 use Rattle.mvn_shared.specs.Files.{Files, file_at}
 use Rattle.goal_types.specs.declared.goal.OwnBytes.{OwnBytes}
 use Rattle.build_core.specs.declared.plan.OwnFile.{OwnFile}
@@ -28,10 +28,6 @@ use Rattle.run_law.proofs.Hand.{IsNext, len_is, next_is}
 use Rattle.run_law.proofs.Once.{find_same, listed_first, listed_later}
 use Rattle.run_law.proofs.ClosedFiles.{AreOwnsFit, HandLeft, IsLeft, is_skipped_state, own_at}
 
-append-nil : {X : Type 0} (xs : List X) → xs ++ [] ≡ xs
-append-nil [] = refl
-append-nil (x ∷ xs) = ap (λ t. x ∷ t) (append-nil xs)
-
 -- whether two names are one
 abbrev Same : List ℕ → List ℕ → Bool
 Same q name = eq_by_cmp (slice_cmp nat_cmp) q name
@@ -43,6 +39,7 @@ module _ (remote : Files) where
   PutsApart files name None = Unit {0}
   PutsApart files name (Some more) = (q : List ℕ) → Same q name ≡ false → file_at more q ≡ file_at files q
 
+  -- fetching a name leaves the others
   puts_apart : (files : Files) (name : List ℕ) → PutsApart files name (with_fetched remote name files)
   puts_apart files name = by (file_at files name) (remote_bytes remote name)
     where
@@ -56,6 +53,7 @@ module _ (plan : Plan) (supply : Supply) where
     reached : (f : ℕ) → is_listed f (had_prefix plan supply list) ≡ true → is_some (file_at got.files (name_of plan f)) ≡ true
     apart : (q : List ℕ) → ((f : ℕ) → is_listed f (had_prefix plan supply list) ≡ true → Same q (name_of plan f) ≡ false) → file_at got.files q ≡ file_at files q
 
+  -- fetching a list brings the files before the first that can't be had
   reach_all : (list : List ℕ) (files : Files) → ((f : ℕ) → is_listed f list ≡ true → had supply.remote files (name_of plan f) ≡ available plan supply f) → IsReached list files (fetched plan supply.remote list files)
   reach_all [] files answers = record { reached = λ f l. absurd (false≢true l); apart = λ q e. refl }
   reach_all (file ∷ list) files answers =
@@ -93,6 +91,7 @@ module _ (plan : Plan) (supply : Supply) where
 -- ---- installing
 
 module _ (plan : Plan) (m : PlanModule) (own : List OwnBytes) where
+  -- putting an own file leaves other names
   put_other : (files : Files) (o : OwnFile) (q : List ℕ) → Same q (name_of plan o.file) ≡ false → file_at (put_own plan m own files o) q ≡ file_at files q
   put_other files o q e = by (own_bytes m own o.slot)
     where
@@ -100,6 +99,7 @@ module _ (plan : Plan) (m : PlanModule) (own : List OwnBytes) where
       by None = refl
       by (Some bytes) = at_insert files (name_of plan o.file) bytes q ∙ ap (λ b. cond b (Some bytes) (file_at files q)) e
 
+  -- and puts its bytes, where it has some
   put_here : (files : Files) (o : OwnFile) → file_at (put_own plan m own files o) (name_of plan o.file) ≡ option_or (own_bytes m own o.slot) (file_at files (name_of plan o.file))
   put_here files o = by (own_bytes m own o.slot)
     where
@@ -107,12 +107,14 @@ module _ (plan : Plan) (m : PlanModule) (own : List OwnBytes) where
       by None = refl
       by (Some bytes) = at_insert files (name_of plan o.file) bytes (name_of plan o.file) ∙ ap (λ b. cond b (Some bytes) (file_at files (name_of plan o.file))) (name_itself (name_of plan o.file))
 
+  -- installing leaves other names
   install_other : (list : List OwnFile) (files : Files) (q : List ℕ) → ((f : ℕ) → is_listed f (map (λ (x : OwnFile). x.file) list) ≡ true → Same q (name_of plan f) ≡ false) → file_at (fold (put_own plan m own) files list) q ≡ file_at files q
   install_other [] files q e = refl
   install_other (o ∷ list) files q e =
       install_other list (put_own plan m own files o) q (λ f l. e f (listed_later o.file f (map (λ (x : OwnFile). x.file) list) l))
       ∙ put_other files o q (e o.file (listed_first o.file (map (λ (x : OwnFile). x.file) list)))
 
+  -- what isn't listed differs from each item
   not_in : (g : ℕ) (xs : List ℕ) → AllByRecursion (λ y. nat_eq g y ≡ false) xs → (f : ℕ) → is_listed f xs ≡ true → nat_eq g f ≡ false
   not_in g [] all f l = absurd (false≢true l)
   not_in g (x ∷ xs) all f l = by (nat_eq x f) refl l (not_in g xs all.1 f)
@@ -122,6 +124,7 @@ module _ (plan : Plan) (m : PlanModule) (own : List OwnBytes) where
       by false e l again = again l
 
   module _ (differ : FilesDiffer plan) where
+    -- different files have different names
     names_apart : (f g : ℕ) → f < length plan.files → g < length plan.files → (f ≡ g → ⊥) → Same (name_of plan f) (name_of plan g) ≡ false
     names_apart f g a b other = by (Same (name_of plan f) (name_of plan g)) refl
       where
@@ -129,6 +132,7 @@ module _ (plan : Plan) (m : PlanModule) (own : List OwnBytes) where
         by false e = e
         by true e = absurd (other (differ f g a b e))
 
+    -- installing puts each own file that has bytes
     install_here : (list : List OwnFile) (files : Files) → IsDistinct nat_eq (map (λ (x : OwnFile). x.file) list) → ((f : ℕ) → is_listed f (map (λ (x : OwnFile). x.file) list) ≡ true → f < length plan.files) → (f : ℕ) → is_listed f (map (λ (x : OwnFile). x.file) list) ≡ true
         → file_at (fold (put_own plan m own) files list) (name_of plan f) ≡ option_or (option_and_then (λ (o : OwnFile). own_bytes m own o.slot) (find (λ (o : OwnFile). nat_eq o.file f) list)) (file_at files (name_of plan f))
     unfolding IsDistinct
@@ -165,25 +169,31 @@ record IsNextFiles (plan : Plan) (supply : Supply) (m : PlanModule) (installs : 
   other : (q : List ℕ) → ((f : ℕ) → is_listed f m.fetch ≡ true → Same q (name_of plan f) ≡ false) → ((f : ℕ) → is_listed f (map (λ (x : OwnFile). x.file) m.own) ≡ true → Same q (name_of plan f) ≡ false) → file_at after q ≡ file_at before q
 
 module _ (plan : Plan) (supply : Supply) (fit : IsFitPlan plan) (owns : AreOwnsFit plan) where
+  -- no file is both fetched and own
   apart_own : (f g : ℕ) → IsFetchFile plan f → IsOwnFile plan g → f ≡ g → ⊥
   apart_own f g fetch own same = fit.own f fetch (subst (IsOwnFile plan) (sym same) own)
 
   module _ (number : ℕ) (m : PlanModule) (at : slice_get plan.modules number ≡ Some m) (before : Files) (answers : (f : ℕ) → IsFetchFile plan f → had supply.remote before (name_of plan f) ≡ available plan supply f) where
+    -- what is fetched for the module
     got : Fetched
     got = fetched plan supply.remote m.fetch before
 
     abbrev files : Files
     files = (fetched plan supply.remote m.fetch before).files
 
+    -- what fetching leaves as it was
     all : IsFetched supply.remote plan m.fetch before (fetched plan supply.remote m.fetch before)
     all = fetch_all supply.remote plan m.fetch before
 
+    -- and what it brings
     reach : IsReached plan supply m.fetch before (fetched plan supply.remote m.fetch before)
     reach = reach_all plan supply m.fetch before (λ f l. answers f (number, m, at, l))
 
+    -- a fetched file that the module doesn't reach stays
     fetch_same : (f : ℕ) → IsFetchFile plan f → is_listed f (had_prefix plan supply m.fetch) ≡ false → file_at files (name_of plan f) ≡ file_at before (name_of plan f)
     fetch_same f fetch not_l = reach.apart (name_of plan f) (λ g l. names_apart plan m [] fit.differ f g (owns.fetched f fetch) (owns.fetched g (number, m, at, prefix_listed plan supply g m.fetch l)) (λ same. false≢true (sym not_l ∙ subst (λ x. is_listed x (had_prefix plan supply m.fetch) ≡ true) (sym same) l)))
 
+    -- its own files stay while it fetches
     own_same : (f : ℕ) → is_listed f (map (λ (x : OwnFile). x.file) m.own) ≡ true → file_at files (name_of plan f) ≡ file_at before (name_of plan f)
     own_same f mine = reach.apart (name_of plan f) (λ g l.
         let fetch : IsFetchFile plan g = (number, m, at, prefix_listed plan supply g m.fetch l) in
@@ -231,6 +241,7 @@ module _ (plan : Plan) (supply : Supply) (fit : IsFitPlan plan) (owns : AreOwnsF
     abbrev len_then : Bool → Progress
     len_then b = if b then ends (Ended ending.ClasspathTooLarge) [] after_list progress else after_goals plan m after_list progress (run_goals m.budget (supply.answers number) 0 m.goals [])
 
+    -- the files behind its goals
     goals_files : (end : GoalsEnd) → IsNextFiles plan supply m m.installs progress.files (after_goals plan m after_list progress end).files (verdict_of_goals m end)
     goals_files (goal_failed i own) = plain_files number m at progress.files answers m.installs (record { state = Ended (ending.Goal i); outputs = own }) refl refl
     goals_files (output_too_large i own) = plain_files number m at progress.files answers m.installs (record { state = Ended (ending.OutputTooLarge i); outputs = own }) refl refl
@@ -241,6 +252,7 @@ module _ (plan : Plan) (supply : Supply) (fit : IsFitPlan plan) (owns : AreOwnsF
         by true true = plain_files number m at progress.files answers true (record { state = Ended ending.NoArtifact; outputs = own }) refl refl
         by true false = installed_files number m at progress.files answers own
 
+    -- the files behind the module
     next_files : IsNextFiles plan supply m m.installs progress.files (next_module first_unbuilt plan supply progress m).files (judge plan supply (state_at progress) (outputs_at progress) number m)
     unfolding judge one_module
     next_files = by (first_unbuilt progress m)
@@ -268,12 +280,14 @@ module _ (plan : Plan) (supply : Supply) (fit : IsFitPlan plan) (owns : AreOwnsF
 
   -- ---- the fold
 
+  -- an item at the end leaves the other places
   get_other : {X : Type 0} (xs : List X) (y d : X) (i : ℕ) → (i ≡ length xs → ⊥) → get_or (xs ++ y ∷ []) i d ≡ get_or xs i d
   get_other [] y d zero other = absurd (other refl)
   get_other [] y d (suc i) other = refl
   get_other (x ∷ xs) y d zero other = refl
   get_other (x ∷ xs) y d (suc i) other = get_other xs y d i (λ e. other (ap suc e))
 
+  -- beyond a list stands the default
   get_last : {X : Type 0} (xs : List X) (d : X) → get_or xs (length xs) d ≡ d
   get_last [] d = refl
   get_last (x ∷ xs) d = get_last xs d
@@ -290,24 +304,31 @@ module _ (plan : Plan) (supply : Supply) (fit : IsFitPlan plan) (owns : AreOwnsF
 
   module _ (done : List PlanModule) (m : PlanModule) (progress after : Progress) (at : slice_get plan.modules (length done) ≡ Some m) (so : IsSoFar plan supply fit.apart fit.low fit.backed done progress) (left : IsLeftFar done progress) (v : Verdict)
       (next : IsNext plan supply m progress after v) (nf : IsNextFiles plan supply m m.installs progress.files after.files v) where
+    -- the list of done modules is one longer
     long : length (done ++ m ∷ []) ≡ length done + 1
     long = length-append done (m ∷ [])
 
+    -- the others stand as they did
     old_state : (u : ℕ) → (u ≡ length done → ⊥) → state_at after u ≡ state_at progress u
     old_state u other = ap (λ xs. get_or xs u Waiting) next.states ∙ get_other progress.states v.state Waiting u (λ e. other (e ∙ so.states))
 
+    -- and keep the same
     old_outputs : (u : ℕ) → (u ≡ length done → ⊥) → outputs_at after u ≡ outputs_at progress u
     old_outputs u other = ap (λ xs. get_or xs u []) next.outputs ∙ get_other progress.outputs v.outputs [] u (λ e. other (e ∙ so.outputs))
 
+    -- the new one stands as judged
     new_state : state_at after (length done) ≡ v.state
     new_state = ap (λ xs. get_or xs (length done) Waiting) next.states ∙ get_or_push progress.states v.state Waiting (length done) so.states
 
+    -- and keeps what is judged
     new_outputs : outputs_at after (length done) ≡ v.outputs
     new_outputs = ap (λ xs. get_or xs (length done) []) next.outputs ∙ get_or_push progress.outputs v.outputs [] (length done) so.outputs
 
+    -- it waited before
     waits : state_at progress (length done) ≡ Waiting
     waits = ap (λ n. get_or progress.states n Waiting) (sym so.states) ∙ get_last progress.states Waiting
 
+    -- what a module could have is there, with one module more
     far_had : (number f : ℕ) (n : PlanModule) → slice_get plan.modules number ≡ Some n → number < length (done ++ m ∷ []) → is_skipped_state (state_at after number) ≡ false → is_listed f (had_prefix plan supply n.fetch) ≡ true → is_some (file_at after.files (name_of plan f)) ≡ true
     far_had number f n here less not_skipped l = by (same_or_not number (length done))
       where
@@ -330,6 +351,7 @@ module _ (plan : Plan) (supply : Supply) (fit : IsFitPlan plan) (owns : AreOwnsF
     abbrev Why : List PlanModule → Progress → ℕ → Type 0
     Why upto p f = (is_some (file_at supply.start (name_of plan f)) ≡ true) ⊎ ((number : ℕ) × (m : PlanModule) × (slice_get plan.modules number ≡ Some m) × (number < length upto) × (is_skipped_state (state_at p number) ≡ false) × (is_listed f (had_prefix plan supply m.fetch) ≡ true))
 
+    -- and what is there has its reason
     far_reason : (f : ℕ) → IsFetchFile plan f → is_some (file_at after.files (name_of plan f)) ≡ true → Why (done ++ m ∷ []) after f
     far_reason f fetch is = by (is_skipped_state v.state) refl (is_listed f (had_prefix plan supply m.fetch)) refl
       where
@@ -344,6 +366,7 @@ module _ (plan : Plan) (supply : Supply) (fit : IsFitPlan plan) (owns : AreOwnsF
         by false e true l = inr (length done, m, at, (let e = long in omega (arith, e)), ap is_skipped_state new_state ∙ e, l)
         by false e false l = lift (left.reason f fetch (ap is_some (sym (nf.same f fetch l)) ∙ is))
 
+    -- and own files are as judged
     far_own : (number f : ℕ) (n : PlanModule) → slice_get plan.modules number ≡ Some n → is_listed f (map (λ (o : OwnFile). o.file) n.own) ≡ true
         → file_at after.files (name_of plan f) ≡ option_or (if is_built (state_at after number) && n.installs then own_at n (outputs_at after number) f else None) (file_at supply.start (name_of plan f))
     far_own number f n here mine = by (same_or_not number (length done))
@@ -369,6 +392,7 @@ module _ (plan : Plan) (supply : Supply) (fit : IsFitPlan plan) (owns : AreOwnsF
             ∙ sym (ap (λ s. option_or (if is_built s && n.installs then own_at n (outputs_at after number) f else None) (file_at supply.start (name_of plan f))) (old_state number other)
             ∙ ap (λ own. option_or (if is_built (state_at progress number) && n.installs then own_at n own f else None) (file_at supply.start (name_of plan f))) (old_outputs number other))
 
+    -- so files stay in the closed form with one module more
     left_further : IsLeftFar (done ++ m ∷ []) after
     left_further = record {
       other = λ q a b. nf.other q (λ f l. a f (length done, m, at, l)) (λ f l. b f (length done, m, at, l)) ∙ left.other q a b;
@@ -378,6 +402,7 @@ module _ (plan : Plan) (supply : Supply) (fit : IsFitPlan plan) (owns : AreOwnsF
       own = far_own;
     }
 
+  -- and with all that follow
   fold_left : (done rest : List PlanModule) (progress : Progress) → plan.modules ≡ done ++ rest → IsSoFar plan supply fit.apart fit.low fit.backed done progress → IsLeftFar done progress → IsLeftFar plan.modules (fold (next_module first_unbuilt plan supply) progress rest)
   fold_left done [] progress e so left = subst (λ ms. IsLeftFar ms progress) (sym (e ∙ append-nil done)) left
   fold_left done (m ∷ rest) progress e so left =
@@ -387,16 +412,20 @@ module _ (plan : Plan) (supply : Supply) (fit : IsFitPlan plan) (owns : AreOwnsF
       (one_further plan supply fit.apart fit.low fit.backed done m progress (next_module first_unbuilt plan supply progress m) at so next)
       (left_further done m progress (next_module first_unbuilt plan supply progress m) at so left (judge plan supply (state_at progress) (outputs_at progress) (length done) m) next (next_files (length done) m at progress so.states so.answers))
 
+  -- what is there stands before a default
   some_same : (x y : Option (List ℕ)) → is_some x ≡ true → x ≡ option_or x y
   some_same (Some b) y is = refl
   some_same None y is = absurd (false≢true is)
 
+  -- it holds before the first module
   so_first : IsSoFar plan supply fit.apart fit.low fit.backed [] (beginning supply)
   so_first = record { states = refl; outputs = refl; answers = λ f fetch. refl; judged = λ k n here less. absurd (omega (arith, less)) }
 
+  -- and so do the files
   left_first : IsLeftFar [] (beginning supply)
   left_first = record { other = λ q a b. refl; had = λ number f m at less. absurd (omega (arith, less)); reason = λ f fetch is. inl is; kept = λ f fetch is. is; own = λ number f m at mine. refl }
 
+  -- so the files of the build by one hand are in the closed form
   pub left_hand : IsLeft plan supply (state_at (one_thread plan supply)) (outputs_at (one_thread plan supply)) (one_thread plan supply).files
   left_hand =
       let so = fold_judged plan supply fit.apart fit.low fit.backed [] plan.modules (beginning supply) refl so_first in

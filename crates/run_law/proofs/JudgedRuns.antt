@@ -3,7 +3,7 @@ use Rattle.std.proofs.Common.{◌≡◌, ℕ, zero, suc, ◌<◌, ◌⊎◌, inl
 use Rattle.std.specs.List.{list_all}
 use Rattle.std.specs.Option.{option_map_or}
 use Rattle.std.proofs.lemmas.Bool.{false≢true}
-use Rattle.std.proofs.lemmas.List.{append_assoc}
+use Rattle.std.proofs.lemmas.List.{append-nil, append_assoc}
 use Rattle.mvn_shared.specs.Files.{Files}
 use Rattle.build_core.specs.declared.event.Answered.{Answered}
 use Rattle.build_core.specs.declared.ending.Ending.{Ending}
@@ -46,14 +46,11 @@ use Rattle.goal_types.specs.declared.goal.GoalAnswer.{GoalAnswer}
 use Rattle.run_law.proofs.AllAnswered.{all_answered_in}
 use Rattle.run_law.proofs.Extending.{ended_extends}
 
-append-nil : {X : Type 0} (xs : List X) → xs ++ [] ≡ xs
-append-nil [] = refl
-append-nil (x ∷ xs) = ap (λ t. x ∷ t) (append-nil xs)
-
 abbrev is_ended : Progress → Bool
 is_ended (Ended e) = true
 is_ended other = false
 
+-- at first no module has ended
 pub waits_on : (n m : ℕ) (e : Ending) → progress_of (replicate n Waiting) m ≡ Ended e → ⊥
 waits_on zero m e is = false≢true (ap is_ended is)
 waits_on (suc n) zero e is = false≢true (ap is_ended is)
@@ -78,6 +75,7 @@ module _ (plan : Plan) (start remote : Files) (fit : IsFitPlan plan) (present : 
   abbrev IsBehind : List RunEntry → Type 0
   IsBehind past = Behind plan start remote fit.apart present fit.backed past
 
+  -- all of it stays behind one entry more
   pub behind_more : (past : List RunEntry) (e : RunEntry) → IsBehind past → Enabled o (events_of past) e.event → Fits plan (Some start) hands past e → IsBehind (past ++ e ∷ [])
   unfolding Enabled
   behind_more past e behind is fits =
@@ -97,6 +95,7 @@ module _ (plan : Plan) (start remote : Files) (fit : IsFitPlan plan) (present : 
         ended = subst (λ now. AreEnded plan start remote now (answers_in plan (past ++ e ∷ []))) (sym next) (subst (AreEnded plan start remote (after o (standing_of_run plan past) e.event)) (sym (answers_more plan past e)) kept.1);
       }
 
+  -- it holds where nothing has happened
   pub behind_first : IsBehind []
   behind_first = record {
     standing = standing_first o;
@@ -108,6 +107,7 @@ module _ (plan : Plan) (start remote : Files) (fit : IsFitPlan plan) (present : 
     ended = λ number m e at is quiet. absurd (waits_on (length o.modules) number e is);
   }
 
+  -- so it holds behind every fitting run
   pub behind_all : (entries : List RunEntry) → IsRunOf plan entries → AllFit plan (Some start) hands [] entries → IsBehind entries
   behind_all entries run fits = by_entries plan start hands IsBehind behind_more [] entries behind_first run fits
 
@@ -125,12 +125,15 @@ module _ (plan : Plan) (start remote : Files) (fit : IsFitPlan plan) (present : 
 
   -- how a module stands, by how far it is
   module _ (ps : List Progress) (number : ℕ) where
+    -- a module that ended stands so
     ended_state : (e : Ending) → progress_of ps number ≡ Ended e → state_of o ps number ≡ state.Ended e
     ended_state e is = rw is refl
 
+    -- a skipped one stands so, for its first lost upstream
     skipped_state : progress_of ps number ≡ Skipped → state_of o ps number ≡ state.Skipped (unwrap_or (first_lost o ps number) 0)
     skipped_state is = rw is refl
 
+    -- a module stands as built where it is done
     pub built_is : is_built (state_of o ps number) ≡ is_done (progress_of ps number)
     built_is = by (progress_of ps number) refl
       where
@@ -147,6 +150,7 @@ module _ (plan : Plan) (start remote : Files) (fit : IsFitPlan plan) (present : 
         by (Ended (ending.OutputTooLarge i)) e = rw e refl
         by (Ended (ending.Fault d)) e = rw e refl
 
+  -- what is over is done or lost
   lost_or_done : (p : Progress) → is_over p ≡ true → not (is_done p) ≡ is_lost p
   lost_or_done Waiting over = absurd (false≢true over)
   lost_or_done (Running w) over = absurd (false≢true over)
@@ -160,6 +164,7 @@ module _ (plan : Plan) (start remote : Files) (fit : IsFitPlan plan) (present : 
   lost_or_done (Ended (ending.OutputTooLarge i)) over = refl
   lost_or_done (Ended (ending.Fault d)) over = refl
 
+  -- what waits or runs isn't over
   not_over : (p : Progress) (w : ℕ) → (p ≡ Waiting) ⊎ (p ≡ Running w) → is_over p ≡ true → ⊥
   not_over p w (inl e) over = false≢true (sym (ap is_over e) ∙ over)
   not_over p w (inr e) over = false≢true (sym (ap is_over e) ∙ over)
@@ -171,12 +176,15 @@ module _ (plan : Plan) (start remote : Files) (fit : IsFitPlan plan) (present : 
     abbrev kept : List Answered
     kept = answers_in plan entries
 
+    -- the upstreams of an outline's module are its plan's
     ups : (number : ℕ) (m : PlanModule) → slice_get plan.modules number ≡ Some m → upstream_of o number ≡ m.upstream
     ups number m at = ap (λ found. option_map_or (λ (x : ModuleOutline). x.upstream) found []) (get_map module_outline plan.modules number m at)
 
+    -- the first upstream that doesn't stand as built is the first that isn't done
     unbuilt_is : (number : ℕ) (m : PlanModule) → slice_get plan.modules number ≡ Some m → find (λ u. not (is_built (run_state entries u))) m.upstream ≡ first_not_built o ps number
     unbuilt_is number m at = find_same (λ u. not (is_built (run_state entries u))) (λ u. not (is_done (progress_of ps u))) m.upstream (λ u l. ap not (built_is ps u)) ∙ ap (find (λ u. not (is_done (progress_of ps u)))) (sym (ups number m at))
 
+    -- no answer of a skipped module is kept
     no_answer : (number : ℕ) → progress_of ps number ≡ Skipped → has_answer kept number ≡ false
     no_answer number is = by (has_answer kept number) refl
       where
@@ -194,9 +202,11 @@ module _ (plan : Plan) (start remote : Files) (fit : IsFitPlan plan) (present : 
         ∙ sym (ap (verdict_of_upstream plan (supply_by start remote said) number m (outs plan kept)) (unbuilt_is number m at ∙ behind.ordered.begun number (ap is_begun e)))
 
     module _ (complete : IsComplete plan entries) where
+      -- each module is over
       over_at : (u : ℕ) → u < length plan.modules → is_over (progress_of ps u) ≡ true
       over_at u low = let long = length_map module_outline plan.modules in let rows = behind.standing.fit.modules in all_over ps u complete (omega (arith, low, long, rows))
 
+      -- so the first upstream that isn't done is the first lost one
       lost_is : (number : ℕ) (m : PlanModule) → slice_get plan.modules number ≡ Some m → first_not_built o ps number ≡ first_lost o ps number
       lost_is number m at = ap (find (λ u. not (is_done (progress_of ps u)))) (ups number m at)
           ∙ find_same (λ u. not (is_done (progress_of ps u))) (λ u. is_lost (progress_of ps u)) m.upstream (λ u l. lost_or_done (progress_of ps u) (over_at u (let a = fit.low number u m at l in let b = in_list plan.modules number m at in omega (arith, a, b))))
@@ -220,6 +230,7 @@ module _ (plan : Plan) (start remote : Files) (fit : IsFitPlan plan) (present : 
                   (λ i. record { state = (skipped_state ps number e ∙ ap (λ x. state.Skipped (unwrap_or x 0)) f) i; outputs = outs_none plan kept number m at (no_answer number e) i })
                   ∙ sym (ap (verdict_of_upstream plan (supply_by start remote said) number m (outs plan kept)) (unbuilt_is number m at ∙ lost_is number m at ∙ f))
 
+  -- a place below a module's is a module's
   pub real : (number u : ℕ) (m : PlanModule) → slice_get plan.modules number ≡ Some m → u < number → (n : PlanModule) × (slice_get plan.modules u ≡ Some n)
   real number u m at less = get_in plan.modules u (let low = in_list plan.modules number m at in omega (arith, less, low))
 
@@ -269,6 +280,7 @@ ended_or o now (event.End w e) number x is = at (module_of (course_of now w)) is
         by (inl same) = inl (sym same ∙ is)
         by (inr here) = inr (w, ap (λ y. event.End w y) (ap ending_of (sym here.1 ∙ is)))
 
+-- an end that is quiet as an event is quiet as an ending
 quiet_end : (w : ℕ) (x : Ending) → is_quiet_event (event.End w x) ≡ true → is_quiet_end x ≡ true
 quiet_end w ending.Built q = refl
 quiet_end w ending.NoArtifact q = refl
@@ -282,6 +294,7 @@ quiet_end w ending.Memory q = q
 abbrev AllQuiet : Standing → Type 0
 AllQuiet now = (number : ℕ) (x : Ending) → progress_of now.progress number ≡ Ended x → is_quiet_end x ≡ true
 
+-- all ends stay quiet behind quiet entries
 quiet_from : (plan : Plan) (past rest : List RunEntry) → AllQuiet (standing_of_run plan past) → list_all (λ (e : RunEntry). is_quiet_event e.event) rest ≡ true → AllQuiet (standing_of_run plan (past ++ rest))
 quiet_from plan past [] all quiet = subst (λ es. AllQuiet (standing_of_run plan es)) (sym (append-nil past)) all
 quiet_from plan past (e ∷ rest) all quiet =
@@ -293,6 +306,7 @@ quiet_from plan past (e ∷ rest) all quiet =
     by number x q (inl old) = all number x old
     by number x q (inr new) = quiet_end new.0 x (subst (λ y. is_quiet_event y ≡ true) new.1 q)
 
+-- so they are behind a quiet run
 pub quiet_all : (plan : Plan) (entries : List RunEntry) → IsQuiet entries → AllQuiet (standing_of_run plan entries)
 quiet_all plan entries quiet = quiet_from plan [] entries (λ number x is. absurd (waits_on (length (outline_of plan).modules) number x is)) quiet
 

@@ -52,16 +52,19 @@ use Rattle.run_law.proofs.ClosedFiles.{AreOwnsFit}
 
 -- ---- a run in two parts
 
+-- a run in two parts is a run and a run from there
 pub run_front : (o : Outline) (past xs ys : List Event) → IsRun o past (xs ++ ys) → IsRun o past xs × IsRun o (past ++ xs) ys
 run_front o past [] ys run = (tt, subst (λ es. IsRun o es ys) (sym (append-nil past)) run)
 run_front o past (x ∷ xs) ys run =
     let rest = run_front o (past ++ x ∷ []) xs ys run.1 in
     ((run.0, rest.0), subst (λ es. IsRun o es ys) (append_assoc past (x ∷ []) xs) rest.1)
 
+-- what fits as a whole fits up to each moment
 pub fits_front : (plan : Plan) (start : Option Files) (hands : ℕ → HandTold) (past xs ys : List RunEntry) → AllFit plan start hands past (xs ++ ys) → AllFit plan start hands past xs
 fits_front plan start hands past [] ys fits = tt
 fits_front plan start hands past (x ∷ xs) ys fits = (fits.0, fits_front plan start hands (past ++ x ∷ []) xs ys fits.1)
 
+-- the events of two parts
 pub events_append : (xs ys : List RunEntry) → events_of (xs ++ ys) ≡ events_of xs ++ events_of ys
 events_append [] ys = refl
 events_append (x ∷ xs) ys = ap (λ es. x.event ∷ es) (events_append xs ys)
@@ -70,6 +73,7 @@ events_append (x ∷ xs) ys = ap (λ es. x.event ∷ es) (events_append xs ys)
 pub front : (plan : Plan) (past rest : List RunEntry) → IsRunOf plan (past ++ rest) → IsRunOf plan past × IsRun (outline_of plan) (events_of past) (events_of rest)
 front plan past rest run = run_front (outline_of plan) [] (events_of past) (events_of rest) (subst (IsRun (outline_of plan) []) (events_append past rest) run)
 
+-- a fitting run is one up to each of its moments
 pub fitting_front : (g : Given) (past rest : List RunEntry) → IsFitting g (past ++ rest) → IsFitting g past
 fitting_front g past rest fitting = record {
   sound = fitting.sound;
@@ -81,12 +85,14 @@ fitting_front g past rest fitting = record {
 
 -- ---- the end
 
+-- behind a complete run no event may come
 pub run_ends : (plan : Plan) (run : List RunEntry) (e : Event) → IsRunOf plan run → IsComplete plan run → Enabled (outline_of plan) (events_of run) e → ⊥
 unfolding Enabled
 run_ends plan run e is complete more = no_further (outline_of plan) (standing_of_run plan run) (standing (outline_of plan) (events_of run) is) complete e more
 
 -- ---- what an ended module kept
 
+-- the answers of two parts
 answers_split : (plan : Plan) (past xs ys : List RunEntry) → answers_from plan past (xs ++ ys) ≡ answers_from plan past xs ++ answers_from plan (past ++ xs) ys
 answers_split plan past [] ys = ap (λ es. answers_from plan es ys) (sym (append-nil past))
 answers_split plan past (x ∷ xs) ys =
@@ -116,6 +122,7 @@ module _ (plan : Plan) (number : ℕ) where
   kept_other past s over kept (event.Publish w f) what = ap (λ xs. answer_at xs number) (append-nil kept)
   kept_other past s over kept (event.End w x) what = ap (λ xs. answer_at xs number) (append-nil kept)
 
+  -- where the build stands behind one entry more
   next_is : (past : List RunEntry) (e : RunEntry) → standing_of_run plan (past ++ e ∷ []) ≡ after o (standing_of_run plan past) e.event
   next_is past e = ap (standing_of o) (events_more past e) ∙ one_more o (events_of past) e.event
 
@@ -141,6 +148,7 @@ module _ (plan : Plan) (number : ℕ) where
       longer : (past : List RunEntry) (e : RunEntry) → IsRunOf plan past → Enabled o (events_of past) e.event → IsRunOf plan (past ++ e ∷ [])
       longer past e run is = subst (IsRun o []) (sym (events_more past e)) (grow [] (events_of past) e.event run is)
 
+  -- so it keeps the same outputs
   pub keeps_outputs : (past rest : List RunEntry) → IsRunOf plan past → IsRun o (events_of past) (events_of rest) → is_over (progress_of (standing_of_run plan past).progress number) ≡ true → outputs_after plan (past ++ rest) number ≡ outputs_after plan past number
   keeps_outputs past rest run more over =
       outputs_are plan (past ++ rest) number ∙ outs_same plan (answers_in plan past) (answers_in plan (past ++ rest)) number (keeps past rest run more over).1 ∙ sym (outputs_are plan past number)
@@ -151,6 +159,7 @@ module _ (plan : Plan) (sound : IsSoundPlan plan) (past : List RunEntry) (run : 
   abbrev now : Standing
   now = standing_of_run plan past
 
+  -- what holds at the moment
   s : Stands plan sound now
   s = stands plan sound (events_of past) run
 
@@ -211,6 +220,7 @@ module _ (plan : Plan) (sound : IsSoundPlan plan) (past : List RunEntry) (run : 
 
 -- ---- files
 
+-- a file that is there is there behind each event
 there_after : (o : Outline) (now : Standing) (f : ℕ) (e : Event) → is_there now.there f ≡ true → IsEnabled o now e → is_there (after o now e).there f ≡ true
 unfolding after
 there_after o now f (event.Start w m) there is = there
@@ -222,11 +232,13 @@ there_after o now f (event.Publish w g) there is = there_grows now.there g f the
 there_after o now f (event.Answer w g) there is = there
 there_after o now f (event.End w x) there is = there
 
+-- so it is there at each later moment
 there_stays : (plan : Plan) (past rest : List RunEntry) (f : ℕ) → IsRun (outline_of plan) (events_of past) (events_of rest) → is_there (standing_of_run plan past).there f ≡ true → is_there (standing_of_run plan (past ++ rest)).there f ≡ true
 there_stays plan past rest f run there =
     subst (λ es. is_there (standing_of (outline_of plan) es).there f ≡ true) (sym (events_append past rest))
     (by_events (outline_of plan) (λ (now : Standing). is_there now.there f ≡ true) (λ now e there is. there_after (outline_of plan) now f e there is) (events_of past) (events_of rest) there run)
 
+-- what was published was published at each later moment
 put_stays : (past rest : List RunEntry) (f : ℕ) → was_published past f ≡ true → was_published (past ++ rest) f ≡ true
 put_stays [] rest f is = absurd (false≢true is)
 put_stays (e ∷ past) rest f is = by (publishes f e.event) is (put_stays past rest f)
@@ -235,6 +247,7 @@ put_stays (e ∷ past) rest f is = by (publishes f e.event) is (put_stays past r
     by true is again = refl
     by false is again = again is
 
+-- what is found in a list is found in a longer one
 find_more : (p : Answered → Bool) (xs ys : List Answered) (a : Answered) → find p xs ≡ Some a → find p (xs ++ ys) ≡ Some a
 find_more p [] ys a is = absurd (false≢true (ap is_some is))
 find_more p (x ∷ xs) ys a is = by (p x) is (find_more p xs ys a)
@@ -248,12 +261,14 @@ module _ (g : Given) (past rest : List RunEntry) (fitting : IsFitting g (past ++
   abbrev all : List RunEntry
   all = past ++ rest
 
+  -- the run up to the moment fits
   before : IsFitting g past
   before = fitting_front g past rest fitting
 
   abbrev said : ℕ → ℕ → GoalAnswer
   said = answer_at (answers_in g.plan all)
 
+  -- the answers of the whole run are those of the moment
   extends : Extends (answers_in g.plan past) said
   extends number goal a e = extends_itself (answers_in g.plan all) number goal a
       (ap (find (is_answer number goal)) (answers_split g.plan [] past rest) ∙ find_more (is_answer number goal) (answers_in g.plan past) (answers_from g.plan past rest) a e)
@@ -264,12 +279,15 @@ module _ (g : Given) (past rest : List RunEntry) (fitting : IsFitting g (past ++
   abbrev has : List ℕ → Option (List ℕ)
   has q = file_at (contents g.plan g.start all) q
 
+  -- the plan is as the law asks
   fit : IsFitPlan g.plan
   fit = sound_fit g.plan fitting.sound
 
+  -- and so are its own files
   owns : AreOwnsFit g.plan
   owns = sound_owns g.plan fitting.sound
 
+  -- a fetched file at the moment is as at the start or at the end
   fetch_moment : (f : ℕ) → IsFetchFile g.plan f → (b : Bool) → is_some (had (name_of g.plan f)) ≡ b → (had (name_of g.plan f) ≡ file_at g.start (name_of g.plan f)) ⊎ (had (name_of g.plan f) ≡ has (name_of g.plan f))
   fetch_moment f fetch true e =
       let one = there_or g.plan g.start g.remote fit before.present owns (told g) (all_told g before.tell) past before.follows (fits_all g past before) said extends f fetch in
@@ -280,12 +298,14 @@ module _ (g : Given) (past rest : List RunEntry) (fitting : IsFitting g (past ++
   fetch_moment f fetch false e =
       inl (fetch_none g.plan g.start g.remote fit before.present owns (told g) (all_told g before.tell) past before.follows (fits_all g past before) said extends f fetch e)
 
+  -- so is an own file
   own_moment : (f : ℕ) → IsOwnFile g.plan f → (b : Bool) → was_published past f ≡ b → (had (name_of g.plan f) ≡ file_at g.start (name_of g.plan f)) ⊎ (had (name_of g.plan f) ≡ has (name_of g.plan f))
   own_moment f x true e =
       inr (own_put g.plan g.start g.remote fit before.present owns (told g) (all_told g before.tell) past before.follows (fits_all g past before) said extends x.0 f x.1 x.2 x.3 e
       ∙ sym (own_put g.plan g.start g.remote fit fitting.present owns (told g) (all_told g fitting.tell) all fitting.follows (fits_all g all fitting) said (extends_itself (answers_in g.plan all)) x.0 f x.1 x.2 x.3 (put_stays past rest f e)))
   own_moment f x false e = inl ((own g.plan g.start g.remote fit before.present owns (told g) (all_told g before.tell) past before.follows (fits_all g past before) said extends).fresh f x e)
 
+  -- so is each name
   pub moment_between : IsBetween g.start (contents g.plan g.start all) (contents g.plan g.start past)
   moment_between q = by (name_or_not q g.plan.files)
     where

@@ -28,6 +28,7 @@ use Rattle.run_law.proofs.Once.{both}
 use Rattle.run_law.proofs.Ordered.{over_stays}
 use Rattle.event_core.proofs.Ties.{any_idle}
 use Rattle.event_core.proofs.Weights.{nothing_is}
+use Rattle.run_law.proofs.Basics.{and_is, both3, chosen}
 
 -- nothing is left but own files and frees
 abbrev pub is_late : Script → Bool
@@ -46,17 +47,9 @@ owns_late installs (step stage (publishes f) rest) = installs && is_late rest &&
 owns_late installs (step stage (may_publish f) rest) = installs && is_late rest && owns_late installs rest
 owns_late installs (step stage other rest) = owns_late installs rest
 
-both3 : (a b c : Bool) → (a && b && c) ≡ true → (a ≡ true) × (b ≡ true) × (c ≡ true)
-both3 true true c is = (refl, refl, is)
-both3 true false c is = absurd (false≢true is)
-both3 false b c is = absurd (false≢true is)
-
-and_is : (a b : Bool) → a ≡ true → b ≡ true → (a && b) ≡ true
-and_is true b x y = y
-and_is false b x y = absurd (false≢true x)
-
 -- ---- settling
 
+-- settling leaves a script late
 late_settled : (there : List Bool) (empty : Bool) (s : Script) → is_late s ≡ true → is_late (settled there empty s) ≡ true
 late_settled there empty whole is = refl
 late_settled there empty (absent files this that) is = absurd (false≢true is)
@@ -72,6 +65,7 @@ late_settled there empty (step stage (takes m n) rest) is = absurd (false≢true
 late_settled there empty (step stage (reads f) rest) is = absurd (false≢true is)
 late_settled there empty (step stage (answers g) rest) is = absurd (false≢true is)
 
+-- and its own files behind all else
 owns_settled : (installs : Bool) (there : List Bool) (empty : Bool) (s : Script) → owns_late installs s ≡ true → owns_late installs (settled there empty s) ≡ true
 owns_settled i there empty whole is = refl
 owns_settled i there empty (absent files this that) is =
@@ -98,16 +92,13 @@ owns_settled i there empty (step stage (answers g) rest) is = is
 
 -- ---- a deed
 
-chosen : (b : Bool) (s rest : Script) → (if b then Some s else None) ≡ Some rest → (b ≡ true) × (s ≡ rest)
-chosen true s rest e = (refl, ap (λ o. unwrap_or o whole) e)
-chosen false s rest e = absurd (nothing_is rest e)
-
 -- of what is late only publishes and frees are due
 abbrev is_late_deed : Deed → Bool
 is_late_deed (deed.Publish f) = true
 is_late_deed deed.Free = true
 is_late_deed other = false
 
+-- a free is a late deed
 frees_deed : (d : Deed) → is_wanted frees d ≡ true → is_late_deed d ≡ true
 frees_deed deed.Free w = refl
 frees_deed (deed.Take m n) w = absurd (false≢true w)
@@ -115,6 +106,7 @@ frees_deed (deed.Read f) w = absurd (false≢true w)
 frees_deed (deed.Publish f) w = absurd (false≢true w)
 frees_deed (deed.Answer g) w = absurd (false≢true w)
 
+-- so is a publish of a further own file
 may_deed : (f : ℕ) (d : Deed) → is_wanted (may_publish f) d ≡ true → is_late_deed d ≡ true
 may_deed f (deed.Publish g) w = refl
 may_deed f deed.Free w = absurd (false≢true w)
@@ -122,6 +114,7 @@ may_deed f (deed.Take m n) w = absurd (false≢true w)
 may_deed f (deed.Read g) w = absurd (false≢true w)
 may_deed f (deed.Answer g) w = absurd (false≢true w)
 
+-- so is one of the first
 pub_deed : (f : ℕ) (d : Deed) → is_wanted (publishes f) d ≡ true → is_late_deed d ≡ true
 pub_deed f (deed.Publish g) w = refl
 pub_deed f deed.Free w = absurd (false≢true w)
@@ -129,6 +122,7 @@ pub_deed f (deed.Take m n) w = absurd (false≢true w)
 pub_deed f (deed.Read g) w = absurd (false≢true w)
 pub_deed f (deed.Answer g) w = absurd (false≢true w)
 
+-- of a late script only late deeds are due, and it stays late
 pub late_done : (s : Script) (d : Deed) (rest : Script) → is_late s ≡ true → done s d ≡ Some rest → (is_late rest ≡ true) × (is_late_deed d ≡ true)
 late_done whole d rest is e = absurd (nothing_is rest e)
 late_done (absent files this that) d rest is e = absurd (nothing_is rest e)
@@ -144,6 +138,7 @@ late_done (step stage (takes m n) more) d rest is e = absurd (false≢true is)
 late_done (step stage (reads f) more) d rest is e = absurd (false≢true is)
 late_done (step stage (answers g) more) d rest is e = absurd (false≢true is)
 
+-- a deed leaves own files behind all else
 owns_done : (i : Bool) (s : Script) (d : Deed) (rest : Script) → owns_late i s ≡ true → done s d ≡ Some rest → owns_late i rest ≡ true
 owns_done i whole d rest is e = absurd (nothing_is rest e)
 owns_done i (absent files this that) d rest is e = absurd (nothing_is rest e)
@@ -171,6 +166,7 @@ own_due i (step stage (takes m n) more) f rest is other e = absurd (false≢true
 own_due i (step stage (reads g) more) f rest is other e = absurd (false≢true (chosen (is_wanted (reads g) (deed.Publish f)) more rest e).0)
 own_due i (step stage (answers g) more) f rest is other e = absurd (false≢true (chosen (is_wanted (answers g) (deed.Publish f)) more rest e).0)
 
+-- a late script has nothing to fetch
 pub late_pending : (s : Script) → is_late s ≡ true → pending s ≡ []
 late_pending whole is = refl
 late_pending (absent files this that) is = absurd (false≢true is)
@@ -182,6 +178,7 @@ late_pending (step stage (takes m n) rest) is = absurd (false≢true is)
 late_pending (step stage (reads f) rest) is = absurd (false≢true is)
 late_pending (step stage (answers g) rest) is = absurd (false≢true is)
 
+-- nor is anything wanted next
 pub late_wants : (s : Script) → is_late s ≡ true → wanted s ≡ None
 late_wants whole is = refl
 late_wants (absent files this that) is = refl
@@ -193,6 +190,7 @@ late_wants (step stage (takes m n) rest) is = refl
 late_wants (step stage (reads f) rest) is = refl
 late_wants (step stage (answers g) rest) is = refl
 
+-- nor is installing still to begin
 pub late_uninstall : (s : Script) → is_late s ≡ true → is_to_install s ≡ false
 late_uninstall whole is = refl
 late_uninstall (absent files this that) is = refl
@@ -207,22 +205,27 @@ late_uninstall (step stage (answers g) rest) is = refl
 
 -- ---- at the start of a module
 
+-- plain steps before own files
 plain_owns : (i : Bool) (rest : Script) (f : ℕ → Step) (stage : ℕ) → ((x : ℕ) (more : Script) → owns_late i (step stage (f x) more) ≡ owns_late i more) → (xs : List ℕ) → owns_late i rest ≡ true → owns_late i (steps stage f xs rest) ≡ true
 plain_owns i rest f stage same [] is = is
 plain_owns i rest f stage same (x ∷ xs) is = same x (steps stage f xs rest) ∙ plain_owns i rest f stage same xs is
 
+-- further own files are late
 may_late : (xs : List ℕ) → is_late (steps 6 may_publish xs (step 6 frees whole)) ≡ true
 may_late [] = refl
 may_late (x ∷ xs) = may_late xs
 
+-- and behind all else
 may_owns : (xs : List ℕ) → owns_late true (steps 6 may_publish xs (step 6 frees whole)) ≡ true
 may_owns [] = refl
 may_owns (x ∷ xs) = and_is (is_late (steps 6 may_publish xs (step 6 frees whole))) (owns_late true (steps 6 may_publish xs (step 6 frees whole))) (may_late xs) (may_owns xs)
 
+-- so are own files
 own_owns : (own : List ℕ) → owns_late true (own_script own) ≡ true
 own_owns [] = refl
 own_owns (pom ∷ others) = and_is (is_late (steps 6 may_publish others (step 6 frees whole))) (owns_late true (steps 6 may_publish others (step 6 frees whole))) (may_late others) (may_owns others)
 
+-- so they are in installing
 install_owns : (m : ModuleOutline) → owns_late m.installs (install_script m) ≡ true
 install_owns m = by m.installs
   where
@@ -230,9 +233,11 @@ install_owns m = by m.installs
     by true = own_owns m.own
     by false = refl
 
+-- and behind reading
 read_owns : (m : ModuleOutline) → owns_late m.installs (read_script m) ≡ true
 read_owns m = plain_owns m.installs (release_script m) reads 4 (λ x more. refl) m.reads (plain_owns m.installs (install_script m) answers 5 (λ x more. refl) (below m.goals) (install_owns m))
 
+-- and in a module's script
 start_owns : (m : ModuleOutline) → owns_late m.installs (script_of m) ≡ true
 start_owns m = plain_owns m.installs (choice_script m) (takes Shared) 2 (λ x more. refl) m.batch
     (and_is (owns_late m.installs (lock_script m)) (owns_late m.installs (read_script m))
@@ -245,6 +250,7 @@ IsOwnLate o idle = Unit {0}
 IsOwnLate o (off_course number file gathered) = Unit {0}
 IsOwnLate o (on_course number script last) = (m : ModuleOutline) → slice_get o.modules number ≡ Some m → owns_late m.installs script ≡ true
 
+-- so they are behind a deed
 deed_owns : (o : Outline) (there : List Bool) (held : List ℕ) (d : Deed) (answered : Option ℕ) (c : Course) → IsOwnLate o c → IsOwnLate o (after_deed there held d answered c)
 deed_owns o there held d answered idle is = tt
 deed_owns o there held d answered (off_course m file gathered) is = tt
@@ -254,6 +260,7 @@ deed_owns o there held d answered (on_course number script last) is = by (done s
     by None e = is
     by (Some rest) e = λ m at. owns_settled m.installs there (is_empty held) rest (owns_done m.installs script d rest (is m at) e)
 
+-- and behind a free
 free_owns : (o : Outline) (there : List Bool) (held : List ℕ) (c : Course) → IsOwnLate o c → IsOwnLate o (after_free o there held c)
 free_owns o there held idle is = tt
 free_owns o there held (off_course m file gathered) is = tt
@@ -263,12 +270,14 @@ free_owns o there held (on_course number script last) is = by (done script deed.
     by None e = tt
     by (Some rest) e = λ m at. owns_settled m.installs there (is_empty held) rest (owns_done m.installs script deed.Free rest (is m at) e)
 
+-- and in a course that begins
 begun_owns : (o : Outline) (there : List Bool) (empty : Bool) (number : ℕ) → IsOwnLate o (on_course number (settled there empty (start_of o number)) None)
 begun_owns o there empty number m at = owns_settled m.installs there empty (start_of o number) (subst (λ found. owns_late m.installs (option_map_or script_of found whole) ≡ true) (sym at) (start_owns m))
 
 abbrev pub AreOwnsLate : Outline → Standing → Type 0
 AreOwnsLate o now = (w : ℕ) → IsOwnLate o (course_of now w)
 
+-- so in all courses behind each event
 pub owns_after : (o : Outline) (now : Standing) (e : Event) → AreOwnsLate o now → AreOwnsLate o (after o now e)
 unfolding after
 owns_after o now (event.Start w m) is = at_place (IsOwnLate o) now.courses w (on_course m (settled now.there (is_empty (held_by now w)) (start_of o m)) None) idle (begun_owns o now.there (is_empty (held_by now w)) m) is
@@ -280,6 +289,7 @@ owns_after o now (event.Publish w f) is = at_place (IsOwnLate o) now.courses w (
 owns_after o now (event.Answer w g) is = at_place (IsOwnLate o) now.courses w (after_deed now.there (held_by now w) (deed.Answer g) (Some g) (course_of now w)) idle (deed_owns o now.there (held_by now w) (deed.Answer g) (Some g) (course_of now w) (is w)) is
 owns_after o now (event.End w e) is = at_place (IsOwnLate o) now.courses w idle idle tt is
 
+-- so where nothing has happened
 pub owns_first : (o : Outline) → AreOwnsLate o (at_first o)
 owns_first o w = subst (IsOwnLate o) (sym (any_idle o.workers w)) tt
 
@@ -300,6 +310,7 @@ is_late_end other = false
 abbrev pub IsLateAt : Standing → ℕ → Type 0
 IsLateAt now number = ((w : ℕ) × (progress_of now.progress number ≡ Running w) × IsLate (course_of now w)) ⊎ ((e : Ending) × (progress_of now.progress number ≡ Ended e) × (is_late_end e ≡ true))
 
+-- of a late course only late deeds are due, and it stays late
 pub late_deed : (there : List Bool) (held : List ℕ) (d : Deed) (c : Course) → IsLate c → is_due c d ≡ true → (is_late_deed d ≡ true) × IsLate (after_deed there held d None c)
 late_deed there held d idle is due = absurd is
 late_deed there held d (off_course number file gathered) is due = absurd (false≢true due)
@@ -309,6 +320,7 @@ late_deed there held d (on_course number script last) is due = by (done script d
     by None e due = absurd (false≢true due)
     by (Some rest) e due = let left = late_done script d rest is.0 e in (left.1, (late_settled there (is_empty held) rest left.0, refl))
 
+-- a free leaves a course late
 late_free : (o : Outline) (there : List Bool) (held : List ℕ) (c : Course) → IsLate c → IsLate (after_free o there held c)
 late_free o there held idle is = is
 late_free o there held (off_course number file gathered) is = is
@@ -318,6 +330,7 @@ late_free o there held (on_course number script last) is = by (done script deed.
     by None e = late_wants script is.0
     by (Some rest) e = (late_settled there (is_empty held) rest (late_done script deed.Free rest is.0 e).0, refl)
 
+-- a late course ends in a late way
 late_ends : (o : Outline) (c : Course) (e : Ending) → IsLate c → may_end_so o c e ≡ true → is_late_end e ≡ true
 late_ends o idle e is may = absurd is
 late_ends o (off_course number file gathered) e is may = by e may
@@ -353,6 +366,7 @@ runs_by other = 0
 
 -- it stays so
 module _ (o : Outline) (now : Standing) (s : IsStanding o now) (number v : ℕ) (run : progress_of now.progress number ≡ Running v) (late : IsLate (course_of now v)) where
+  -- who is at the module
   whose : (v < o.workers) × (module_of (course_of now v) ≡ Some number)
   whose = s.tied.running number v run
 
@@ -364,18 +378,23 @@ module _ (o : Outline) (now : Standing) (s : IsStanding o now) (number v : ℕ) 
       by (inl e) = subst (λ k. IsLate (get_or (set now.courses w c) k idle)) (sym e) (subst IsLate (sym (get_or-set_same now.courses w c idle (let low = whose.0 in let ways = s.fit.courses in omega (arith, low, ways, e)))) (new e))
       by (inr other) = subst IsLate (sym (get_or-set_other now.courses w v c idle other)) late
 
+  -- another module's progress leaves it running
   other_progress : (m : ℕ) (p : Progress) → (m ≡ number → ⊥) → progress_of (set now.progress m p) number ≡ Running v
   other_progress m p other = get_or-set_other now.progress m number p Waiting (λ e. other (sym e)) ∙ run
 
+  -- a deed of its worker is late, and leaves it late
   deed_of : (there : List Bool) (w : ℕ) (held : List ℕ) (d : Deed) → is_due (course_of now w) d ≡ true → v ≡ w → (is_late_deed d ≡ true) × IsLate (after_deed there held d None (course_of now w))
   deed_of there w held d due e = late_deed there held d (course_of now w) (subst (λ k. IsLate (course_of now k)) e late) due
 
+  -- no other deed is due for its worker
   not_late : (there : List Bool) (w : ℕ) (d : Deed) → is_late_deed d ≡ false → is_due (course_of now w) d ≡ true → v ≡ w → ⊥
   not_late there w d isnt due e = false≢true (sym isnt ∙ (deed_of there w [] d due e).0)
 
+  -- a module that waits is another
   waiting_other : (m : ℕ) → is_waiting (progress_of now.progress m) ≡ true → m ≡ number → ⊥
   waiting_other m waits e = false≢true (sym (ap is_waiting run) ∙ subst (λ k. is_waiting (progress_of now.progress k) ≡ true) e waits)
 
+  -- so it is late behind each event
   late_runs : (e : Event) → IsEnabled o now e → IsLateAt (after o now e) number
   unfolding after
   late_runs (event.Start w m) is = inl (v, other_progress m (Running w) (waiting_other m is.2), turned w (on_course m (settled now.there (is_empty (held_by now w)) (start_of o m)) None) (λ e. absurd (nothing_is number (sym is.4 ∙ subst (λ k. module_of (course_of now k) ≡ Some number) e whose.1))))
@@ -401,6 +420,7 @@ module _ (o : Outline) (now : Standing) (s : IsStanding o now) (number v : ℕ) 
           at None e = run
           at (Some k) e = other_progress k (Ended x) (λ same. other (ap runs_by (sym run ∙ ap (progress_of now.progress) (sym same) ∙ s.tied.busy w k e)))
 
+-- what is late stays late
 pub late_stays : (o : Outline) (now : Standing) (e : Event) → IsStanding o now → IsEnabled o now e → (number : ℕ) → IsLateAt now number → IsLateAt (after o now e) number
 late_stays o now e s is number (inl a) = late_runs o now s number a.0 a.1 a.2 e is
 late_stays o now e s is number (inr b) = inr (b.0, over_stays o now e s is number (ap is_over b.1) ∙ b.1, b.2)

@@ -17,7 +17,7 @@ use Rattle.event_core.specs.declared.entry.RunEntry.{RunEntry}
 use Rattle.build_core.specs.declared.ending.State.{State}
 use Rattle.build_core.specs.declared.ending.State.TheVariants as state
 use Rattle.run_law.specs.Closed.{AreJudged, outputs_at, state_at}
-use Rattle.run_law.specs.Given.{Answers, Extends, Given, IsBetween, IsFitting, IsUntouched, IsWhole, is_fault, is_kept, one_hand, outputs_after, reaches, state_after, states_after, supply_by, untouched}
+use Rattle.run_law.specs.Given.{Answers, Extends, Given, IsBetween, IsFitting, IsUntouched, IsWhole, is_fault, is_kept, sequential, outputs_after, reaches, state_after, states_after, supply_by, untouched}
 use Rattle.run_law.proofs.Invariants.{is_quiet_end, outs}
 use Rattle.name_locks.specs.Locks.{below}
 use Rattle.build_core.specs.OneThread.{Supply, beginning, one_thread}
@@ -25,7 +25,7 @@ use Rattle.event_core.specs.Outlines.{is_listed, module_outline, outline_of}
 use Rattle.event_core.specs.Runs.{IsComplete, answers_in, contents, outputs_from, outputs_in, standing_of_run}
 use Rattle.event_core.specs.SoundPlans.{IsSoundPlan}
 use Rattle.event_core.specs.Standing.{first_lost, progress_of}
-use Rattle.run_law.proofs.Betweens.{lies}
+use Rattle.run_law.proofs.Betweens.{ended_alike, lies}
 use Rattle.run_law.proofs.JudgedRuns.{IsFitPlan, behind_all, core_ends, isolation, run_judged}
 use Rattle.run_law.proofs.Contents.{core, sound_owns}
 use Rattle.run_law.proofs.Fold.{IsSoFar, fold_judged, hand_judged, in_list}
@@ -42,6 +42,7 @@ use Rattle.run_law.proofs.Lengths.{all_fit}
 
 -- ---- lists by places
 
+-- the numbers below one, by place
 nth_below : (n i : ℕ) → i < n → get_or (below n) i 0 ≡ i
 nth_below zero i low = absurd (omega (arith, low))
 nth_below (suc n) i low = by (nth_below n i) (below_or i n (omega (arith, low)))
@@ -61,12 +62,15 @@ nth_below (suc n) i low = by (nth_below n i) (below_or i n (omega (arith, low)))
     by before (inr same) = get_or_push (below n) n 0 i (length_below n ∙ sym same) ∙ sym same
 
 module _ (plan : Plan) (supply : Supply) (fit : IsFitPlan plan) where
+  -- what holds behind all modules of the build by one hand
   hand_far : IsSoFar plan supply fit.apart fit.low fit.backed plan.modules (one_thread plan supply)
   hand_far = fold_judged plan supply fit.apart fit.low fit.backed [] plan.modules (beginning supply) refl (record { states = refl; outputs = refl; answers = λ f fetch. refl; judged = λ k n here less. absurd (omega (arith, less)) })
 
+-- there is a state for each module
 states_long : (plan : Plan) (run : List RunEntry) → length (states_after plan run) ≡ length plan.modules
 states_long plan run = length_map (state_after plan run) (below (length plan.modules)) ∙ length_below (length plan.modules)
 
+-- and outputs
 outputs_long : (kept : List Answered) (number : ℕ) (modules : List PlanModule) → length (outputs_from kept number modules) ≡ length modules
 outputs_long kept number [] = refl
 outputs_long kept number (m ∷ modules) = ap suc (outputs_long kept (suc number) modules)
@@ -82,6 +86,7 @@ states_all plan run states long each = ext_get_or state.Waiting (states_after pl
         get_or-map (state_after plan run) (below (length plan.modules)) i 0 state.Waiting (omega (arith, inside, length_below (length plan.modules)))
         ∙ ap (state_after plan run) (nth_below (length plan.modules) i inside) ∙ each i m.0 m.1
 
+-- the same of outputs
 outputs_all : (plan : Plan) (run : List RunEntry) (outputs : List (List OwnBytes)) → length outputs ≡ length plan.modules → ((number : ℕ) (m : PlanModule) → slice_get plan.modules number ≡ Some m → outs plan (answers_in plan run) number ≡ get_or outputs number []) → outputs_in plan run ≡ outputs
 outputs_all plan run outputs long each = ext_get_or [] (outputs_in plan run) outputs (outputs_long (answers_in plan run) 0 plan.modules ∙ sym long) at
   where
@@ -137,28 +142,34 @@ judged_alike plan supply sound states states' outputs outputs' one two number lo
 -- ---- run confluence
 
 module _ (g : Given) (run : List RunEntry) (said : Answers) (whole : IsWhole g run) (extends : Extends (answers_in g.plan run) said) where
+  -- the plan is as the law asks
   fit : IsFitPlan g.plan
   fit = sound_fit g.plan whole.fitting.sound
 
-  ends : (number : ℕ) (m : PlanModule) → slice_get g.plan.modules number ≡ Some m → (state_after g.plan run number ≡ state_at (one_hand g said) number) × (outs g.plan (answers_in g.plan run) number ≡ outputs_at (one_hand g said) number)
+  -- each module ends and keeps as by one hand
+  ends : (number : ℕ) (m : PlanModule) → slice_get g.plan.modules number ≡ Some m → (state_after g.plan run number ≡ state_at (sequential g said) number) × (outs g.plan (answers_in g.plan run) number ≡ outputs_at (sequential g said) number)
   ends = core_ends g.plan g.start g.remote fit whole.fitting.present (told g) (all_told g whole.fitting.tell) run whole.fitting.follows (fits_all g run whole.fitting) whole.complete whole.quiet said extends
 
   -- each goal that the build by one hand comes to is answered in the run
-  pub answered : (number goal : ℕ) (m : PlanModule) (e : Ending) → slice_get g.plan.modules number ≡ Some m → state_at (one_hand g said) number ≡ state.Ended e → goal < length m.goals → reaches e goal ≡ true → is_kept (answers_in g.plan run) number goal ≡ true
+  pub answered : (number goal : ℕ) (m : PlanModule) (e : Ending) → slice_get g.plan.modules number ≡ Some m → state_at (sequential g said) number ≡ state.Ended e → goal < length m.goals → reaches e goal ≡ true → is_kept (answers_in g.plan run) number goal ≡ true
   answered number goal m e at is less reached =
       all_answered_in g.plan g.start (told g) run whole.fitting.follows (fits_all g run whole.fitting) number goal m e at (ended_state g.plan run number e ((ends number m at).0 ∙ is)) less reached
 
-  pub same_states : states_after g.plan run ≡ (one_hand g said).states
-  same_states = states_all g.plan run (one_hand g said).states (hand_far g.plan (supply_by g.start g.remote said) fit).states (λ number m at. (ends number m at).0)
+  -- so all states are the same
+  pub same_states : states_after g.plan run ≡ (sequential g said).states
+  same_states = states_all g.plan run (sequential g said).states (hand_far g.plan (supply_by g.start g.remote said) fit).states (λ number m at. (ends number m at).0)
 
-  pub same_outputs : outputs_in g.plan run ≡ (one_hand g said).outputs
-  same_outputs = outputs_all g.plan run (one_hand g said).outputs (hand_far g.plan (supply_by g.start g.remote said) fit).outputs (λ number m at. (ends number m at).1)
+  -- and all outputs
+  pub same_outputs : outputs_in g.plan run ≡ (sequential g said).outputs
+  same_outputs = outputs_all g.plan run (sequential g said).outputs (hand_far g.plan (supply_by g.start g.remote said) fit).outputs (λ number m at. (ends number m at).1)
 
-  pub same_files : contents g.plan g.start run ≡ (one_hand g said).files
+  -- and all files
+  pub same_files : contents g.plan g.start run ≡ (sequential g said).files
   same_files = core g.plan g.start g.remote fit whole.fitting.present (sound_owns g.plan whole.fitting.sound) (told g) (all_told g whole.fitting.tell) run whole.fitting.follows (fits_all g run whole.fitting) whole.complete whole.quiet said extends
 
 -- ---- isolation
 
+-- an ending that is no fault is quiet
 quiet_of : (e : Ending) → is_fault (state.Ended e) ≡ false → is_quiet_end e ≡ true
 quiet_of ending.Built is = refl
 quiet_of ending.NoArtifact is = refl
@@ -169,26 +180,32 @@ quiet_of (ending.OutputTooLarge i) is = refl
 quiet_of (ending.Fault d) is = absurd (false≢true (sym is))
 quiet_of ending.Memory is = absurd (false≢true (sym is))
 
+-- a module that has ended stands so
 ended_is : (plan : Plan) (run : List RunEntry) (number : ℕ) (e : Ending) → progress_of (standing_of_run plan run).progress number ≡ Ended e → state_after plan run number ≡ state.Ended e
 ended_is plan run number e is = rw is refl
 
+-- an untouched module ended quietly
 untouched_quiet : (plan : Plan) (run : List RunEntry) {number : ℕ} → IsUntouched plan run number → (e : Ending) → progress_of (standing_of_run plan run).progress number ≡ Ended e → is_quiet_end e ≡ true
 untouched_quiet plan run (untouched number not ups) e is = quiet_of e (ap is_fault (sym (ended_is plan run number e is)) ∙ not)
 
+-- its upstreams are untouched
 untouched_up : (plan : Plan) (run : List RunEntry) {number : ℕ} (u : ℕ) (m : PlanModule) → slice_get plan.modules number ≡ Some m → is_listed u m.upstream ≡ true → IsUntouched plan run number → IsUntouched plan run u
 untouched_up plan run u m at l (untouched number not ups) =
     ups u (ap (λ found. is_listed u (option_map_or (λ (x : ModuleOutline). x.upstream) found [])) (get_map module_outline plan.modules number m at) ∙ l)
 
 module _ (g : Given) (run : List RunEntry) (said : Answers) (fitting : IsFitting g run) (extends : Extends (answers_in g.plan run) said) where
+  -- so it ends and keeps as by one hand
   untouched_ends : IsComplete g.plan run → (number : ℕ) (m : PlanModule) → slice_get g.plan.modules number ≡ Some m → IsUntouched g.plan run number
-      → (state_after g.plan run number ≡ state_at (one_hand g said) number) × (outs g.plan (answers_in g.plan run) number ≡ outputs_at (one_hand g said) number)
+      → (state_after g.plan run number ≡ state_at (sequential g said) number) × (outs g.plan (answers_in g.plan run) number ≡ outputs_at (sequential g said) number)
   untouched_ends complete = isolation g.plan g.start g.remote (sound_fit g.plan fitting.sound) fitting.present (told g) (all_told g fitting.tell) (IsUntouched g.plan run) run fitting.follows (fits_all g run fitting) complete said extends
       (λ number is. untouched_quiet g.plan run is) (λ number u m at l. untouched_up g.plan run u m at l)
 
-  pub untouched_state : IsComplete g.plan run → (number : ℕ) → number < length g.plan.modules → IsUntouched g.plan run number → state_after g.plan run number ≡ state_at (one_hand g said) number
+  -- so it stands as by one hand
+  pub untouched_state : IsComplete g.plan run → (number : ℕ) → number < length g.plan.modules → IsUntouched g.plan run number → state_after g.plan run number ≡ state_at (sequential g said) number
   untouched_state complete number low is = let m = get_in g.plan.modules number low in (untouched_ends complete number m.0 m.1 is).0
 
-  pub untouched_outputs : IsComplete g.plan run → (number : ℕ) → number < length g.plan.modules → IsUntouched g.plan run number → outputs_after g.plan run number ≡ outputs_at (one_hand g said) number
+  -- and keeps the same
+  pub untouched_outputs : IsComplete g.plan run → (number : ℕ) → number < length g.plan.modules → IsUntouched g.plan run number → outputs_after g.plan run number ≡ outputs_at (sequential g said) number
   untouched_outputs complete number low is = let m = get_in g.plan.modules number low in outputs_are g.plan run number ∙ (untouched_ends complete number m.0 m.1 is).1
 
   -- what ended otherwise than by a fault is judged
@@ -202,8 +219,24 @@ module _ (g : Given) (run : List RunEntry) (said : Answers) (fitting : IsFitting
           (behind_all g.plan g.start g.remote fit fitting.present (told g) (all_told g fitting.tell) run fitting.follows (fits_all g run fitting)) complete said extends
           (all_answered_in g.plan g.start (told g) run fitting.follows (fits_all g run fitting)) number m at (λ e is. quiet_of e (ap is_fault (sym (ended_is g.plan run number e is)) ∙ not))
 
+  -- what has ended but not by a fault, in any fitting run, ended as by one hand
+  ended_ends : (number : ℕ) (e : Ending) → number < length g.plan.modules → state_after g.plan run number ≡ state.Ended e → is_fault (state.Ended e) ≡ false
+      → (state_after g.plan run number ≡ state_at (sequential g said) number) × (outs g.plan (answers_in g.plan run) number ≡ outputs_at (sequential g said) number)
+  ended_ends number e low is not =
+      let m = get_in g.plan.modules number low in
+      ended_alike g.plan g.start g.remote (sound_fit g.plan fitting.sound) fitting.present (sound_owns g.plan fitting.sound) (told g) (all_told g fitting.tell) run fitting.follows (fits_all g run fitting) said extends
+      number m.0 e m.1 (ended_state g.plan run number e is) (quiet_of e not)
+
+  -- so it stands so by one hand
+  pub ended_so : (number : ℕ) (e : Ending) → number < length g.plan.modules → state_after g.plan run number ≡ state.Ended e → is_fault (state.Ended e) ≡ false → state_at (sequential g said) number ≡ state.Ended e
+  ended_so number e low is not = sym (ended_ends number e low is not).0 ∙ is
+
+  -- and keeps the same
+  pub ended_keeps : (number : ℕ) (e : Ending) → number < length g.plan.modules → state_after g.plan run number ≡ state.Ended e → is_fault (state.Ended e) ≡ false → outputs_after g.plan run number ≡ outputs_at (sequential g said) number
+  ended_keeps number e low is not = outputs_are g.plan run number ∙ (ended_ends number e low is not).1
+
   -- the files, also of runs that aren't complete
-  pub files_between : IsBetween g.start (one_hand g said).files (contents g.plan g.start run)
+  pub files_between : IsBetween g.start (sequential g said).files (contents g.plan g.start run)
   files_between = lies g.plan g.start g.remote (sound_fit g.plan fitting.sound) fitting.present (sound_owns g.plan fitting.sound) (told g) (all_told g fitting.tell) run fitting.follows (fits_all g run fitting) said extends
 
 -- ---- again over one plan
@@ -215,12 +248,15 @@ module _ (plan : Plan) (start mid remote : Files) (said : Answers) (sound : IsSo
   abbrev again : Supply
   again = supply_by mid remote said
 
+  -- the plan is as the law asks
   fit_again : IsFitPlan plan
   fit_again = sound_fit plan sound
 
+  -- each module ends and keeps the same again
   same_again : (number : ℕ) (m : PlanModule) → slice_get plan.modules number ≡ Some m → (state_at (one_thread plan again) number ≡ state_at (one_thread plan first) number) × (outputs_at (one_thread plan again) number ≡ outputs_at (one_thread plan first) number)
   same_again = ends_again plan fit_again (sound_owns plan sound) start mid remote said between
 
+  -- so all states are the same
   states_again : (one_thread plan again).states ≡ (one_thread plan first).states
   states_again = ext_get_or state.Waiting (one_thread plan again).states (one_thread plan first).states (long again ∙ sym (long first))
       (λ i low. let long' = long again in let m = get_in plan.modules i (omega (arith, low, long')) in (same_again i m.0 m.1).0)
@@ -228,6 +264,7 @@ module _ (plan : Plan) (start mid remote : Files) (said : Answers) (sound : IsSo
       long : (supply : Supply) → length (one_thread plan supply).states ≡ length plan.modules
       long supply = (hand_far plan supply fit_again).states
 
+  -- and all outputs
   outputs_again : (one_thread plan again).outputs ≡ (one_thread plan first).outputs
   outputs_again = ext_get_or [] (one_thread plan again).outputs (one_thread plan first).outputs (long again ∙ sym (long first))
       (λ i low. let long' = long again in let m = get_in plan.modules i (omega (arith, low, long')) in (same_again i m.0 m.1).1)
@@ -235,6 +272,7 @@ module _ (plan : Plan) (start mid remote : Files) (said : Answers) (sound : IsSo
       long : (supply : Supply) → length (one_thread plan supply).outputs ≡ length plan.modules
       long supply = (hand_far plan supply fit_again).outputs
 
+  -- and with the files all is
   pub again_same : one_thread plan again ≡ one_thread plan first
   again_same = λ i. record { files = files_again plan fit_again (sound_owns plan sound) start mid remote said between i; states = states_again i; outputs = outputs_again i }
 

@@ -47,27 +47,23 @@ use Rattle.run_law.proofs.Fold.{in_list}
 use Rattle.run_law.proofs.Kept.{answers_more, other_answers, outs_at, outs_same}
 use Rattle.run_law.proofs.Lates.{IsLateAt, is_late_end}
 use Rattle.run_law.proofs.Once.{both}
-use Rattle.run_law.proofs.Owns.{append-nil, not_same, own_so, published_more}
+use Rattle.run_law.proofs.Owns.{not_same, own_so, published_more}
 use Rattle.run_law.proofs.ClosedFiles.{AreOwnsFit, IsLeft, IsOwnSo, is_skipped_state, own_at, published}
 use Rattle.run_law.proofs.Step.{behind_of, end_on, place_of}
 use Rattle.run_law.proofs.Stored.{AllTell, due_on, get_map, length_map}
+use Rattle.run_law.proofs.Basics.{and_is, or_left}
+use Rattle.std.proofs.lemmas.List.{append-nil}
 
 -- each of these own files that has bytes is done
 abbrev pub all_put : PlanModule → List OwnBytes → (ℕ → Bool) → List OwnFile → Bool
 all_put m own done list = list_all (λ (o : OwnFile). not (is_some (own_bytes m own o.slot)) || done o.file) list
 
+-- a test of two goes over where the second implies another
 or_map : (a b c : Bool) → (a || b) ≡ true → (b ≡ true → c ≡ true) → (a || c) ≡ true
 or_map true b c h f = refl
 or_map false b c h f = f h
 
-or_left : (a b : Bool) → a ≡ true → (a || b) ≡ true
-or_left true b is = refl
-or_left false b is = absurd (false≢true is)
-
-and_is : (a b : Bool) → a ≡ true → b ≡ true → (a && b) ≡ true
-and_is true b x y = y
-and_is false b x y = absurd (false≢true x)
-
+-- what is all put stays so as more is
 put_more : (m : PlanModule) (own : List OwnBytes) (done more : ℕ → Bool) → ((f : ℕ) → done f ≡ true → more f ≡ true) → (list : List OwnFile) → all_put m own done list ≡ true → all_put m own more list ≡ true
 put_more m own done more grows [] all = refl
 put_more m own done more grows (o ∷ list) all =
@@ -97,6 +93,7 @@ abbrev is_large : State → Bool
 is_large (state.Ended ending.ClasspathTooLarge) = true
 is_large other = false
 
+-- a classpath within the limit isn't judged too large
 not_large : (plan : Plan) (supply : Supply) (number : ℕ) (m : PlanModule) (outputs : ℕ → List OwnBytes) (missing : Option ℕ) → nat_lt most_classpath (total_len plan supply outputs m.entries) ≡ false → is_large (verdict_of_fetch plan supply number m outputs missing).state ≡ false
 not_large plan supply number m outputs (Some f) is = refl
 not_large plan supply number m outputs None is = by (nat_lt most_classpath (total_len plan supply outputs m.entries)) is (run_goals m.budget (supply.answers number) 0 m.goals [])
@@ -160,6 +157,7 @@ module _ (plan : Plan) (start remote : Files) (fit : IsFitPlan plan) (present : 
         ap (λ found. answer_at (old ++ option_map_or (λ m. (record { «module» = m; goal = g; answer = answer }) ∷ []) found []) u) whose
         ∙ other_answers old (record { «module» = on.0; goal = g; answer = answer }) u (not_same on.0 u (λ e. false≢true (sym (ap is_over (behind.standing.tied.busy w on.0 whose)) ∙ subst (λ x. is_over (progress_of now.progress x) ≡ true) (sym e) over)))
 
+    -- a module that was built stays so, with what it kept
     was_built : (e : Event) (what : Carried) → IsEnabled o now e → (number : ℕ) (m : PlanModule) → slice_get plan.modules number ≡ Some m → progress_of now.progress number ≡ Ended ending.Built
         → (not m.installs || all_put m (outs plan (old ++ kept_by plan past e what) number) (λ f. published past f || worlds.publishes f e) m.own) ≡ true
     was_built e what is number m at built =
@@ -170,6 +168,7 @@ module _ (plan : Plan) (start remote : Files) (fit : IsFitPlan plan) (present : 
     abbrev IsBuiltSo : Event → Carried → Type 0
     IsBuiltSo e what = AreInstalled (after o now e) (old ++ kept_by plan past e what) (λ f. published past f || worlds.publishes f e)
 
+    -- an event that is no end builds no module
     plain : (e : Event) (what : Carried) → IsEnabled o now e → is_end plan start remote fit present hands tell e ≡ false → IsBuiltSo e what
     plain e what is isnt number m at built = by (ended_or o now e number ending.Built built)
       where
@@ -177,6 +176,7 @@ module _ (plan : Plan) (start remote : Files) (fit : IsFitPlan plan) (present : 
         by (inl was) = was_built e what is number m at was
         by (inr new) = absurd (false≢true (sym isnt ∙ ap (is_end plan start remote fit present hands tell) new.1))
 
+    -- a module that ends as built has all its own files put
     ends : (w : ℕ) (x : Ending) (what : Carried) → IsEnabled o now (event.End w x) → Fits plan (Some start) hands past (record { event = event.End w x; carried = what }) → IsBuiltSo (event.End w x) what
     unfolding after
     ends w x what is fits number m at built =
@@ -199,6 +199,7 @@ module _ (plan : Plan) (start remote : Files) (fit : IsFitPlan plan) (present : 
             (λ all. subst (λ own. all_put m own (λ f. published past f || false) m.own ≡ true) (sym (ap (λ kept. outs plan kept number) (append-nil old) ∙ outs_at plan old number m at))
             (put_more m (kept_of (goals_in old number m)) (published past) (λ f. published past f || false) (λ f done. or_left (published past f) false done) m.own all))
 
+    -- so behind each event
     installed_after : (e : Event) (what : Carried) → IsEnabled o now e → Fits plan (Some start) hands past (record { event = e; carried = what }) → IsBuiltSo e what
     installed_after (event.Start w m) what is fits = plain (event.Start w m) what is refl
     installed_after (event.Skip m) what is fits = plain (event.Skip m) what is refl
@@ -209,6 +210,7 @@ module _ (plan : Plan) (start remote : Files) (fit : IsFitPlan plan) (present : 
     installed_after (event.Answer w g) what is fits = plain (event.Answer w g) what is refl
     installed_after (event.End w x) what is fits = ends w x what is fits
 
+    -- a file that is neither fetched nor own stays behind each event
     neither_after : (e : Event) (what : Carried) → IsEnabled o now e → AreNeither (put_carried plan files e what)
     neither_after (event.Start w m) what is = neither
     neither_after (event.Skip m) what is = neither
@@ -248,6 +250,7 @@ module _ (plan : Plan) (start remote : Files) (fit : IsFitPlan plan) (present : 
   abbrev pub IsAll : List RunEntry → Type 0
   IsAll past = IsBehind past × AreInstalled (standing_of_run plan past) (answers_in plan past) (published past) × AreNeither (contents plan start past)
 
+  -- so behind one entry more
   all_more : (past : List RunEntry) (e : RunEntry) → IsAll past → Enabled o (events_of past) e.event → Fits plan (Some start) hands past e → IsAll (past ++ e ∷ [])
   unfolding Enabled
   all_more past e holds is fits =
@@ -260,6 +263,7 @@ module _ (plan : Plan) (start remote : Files) (fit : IsFitPlan plan) (present : 
         subst AreNeither (sym files) (neither_after past holds.0 holds.1 holds.2 e.event e.carried is),
       )
 
+  -- so behind every fitting run
   pub installed_all : (entries : List RunEntry) → IsRunOf plan entries → AllFit plan (Some start) hands [] entries → IsAll entries
   installed_all entries run fits = by_entries plan start hands IsAll all_more [] entries (behind_first plan start remote fit present hands tell, (λ number m at built. absurd (waits_on (length o.modules) number ending.Built built)), (λ f low unfetched unowned. refl)) run fits
 
@@ -276,18 +280,23 @@ module _ (plan : Plan) (start remote : Files) (fit : IsFitPlan plan) (present : 
     abbrev stands : ℕ → State
     stands number = state_of o (standing_of_run plan entries).progress number
 
+    -- what holds behind the run
     all : IsAll entries
     all = installed_all entries run fits
 
+    -- how own files stand behind it
     so : IsOwnSo plan start remote entries
     so = own_so plan start remote fit present owns hands tell entries run fits
 
+    -- each module is over
     over_at : (u : ℕ) (m : PlanModule) → slice_get plan.modules u ≡ Some m → is_over (progress_of last.progress u) ≡ true
     over_at u m at = let low = in_list plan.modules u m at in let long = length_map module_outline plan.modules in let rows = all.0.standing.fit.modules in all_over last.progress u complete (omega (arith, low, long, rows))
 
+    -- a module that ended isn't skipped
     skipped_not : (number : ℕ) (e : Ending) → progress_of last.progress number ≡ Ended e → is_skipped_state (stands number) ≡ false
     skipped_not number e is = rw is refl
 
+    -- nor one that has begun
     begun_not : (number : ℕ) → is_begun (progress_of last.progress number) ≡ true → is_skipped_state (stands number) ≡ false
     begun_not number begun = by (progress_of last.progress number) refl begun
       where
@@ -297,6 +306,7 @@ module _ (plan : Plan) (start remote : Files) (fit : IsFitPlan plan) (present : 
         by (Running w) e begun = rw e refl
         by (Ended x) e begun = rw e refl
 
+    -- what isn't skipped has ended
     ended_at : (number : ℕ) (m : PlanModule) → slice_get plan.modules number ≡ Some m → is_skipped_state (stands number) ≡ false → (e : Ending) × (progress_of last.progress number ≡ Ended e)
     ended_at number m at not_skipped = by (progress_of last.progress number) refl (over_at number m at)
       where
@@ -309,6 +319,7 @@ module _ (plan : Plan) (start remote : Files) (fit : IsFitPlan plan) (present : 
         by Skipped e over = absurd (false≢true (sym not_skipped ∙ skips e))
         by (Ended x) e over = (x, e)
 
+    -- what stands as built has ended so
     done_is : (number : ℕ) → is_built (stands number) ≡ true → progress_of last.progress number ≡ Ended ending.Built
     done_is number is = by (progress_of last.progress number) refl (sym (built_is plan start remote fit present hands tell last.progress number) ∙ is)
       where
@@ -344,10 +355,12 @@ module _ (plan : Plan) (start remote : Files) (fit : IsFitPlan plan) (present : 
         by (inl a) = absurd (false≢true (sym (ap is_over a.1) ∙ over_at number m at))
         by (inr b) = ends b.0 b.1 b.2 (quiet_all plan entries quiet number b.0 b.1)
 
+    -- what is there stands before a default
     some_or : (x y : Option (List ℕ)) → is_some x ≡ true → x ≡ option_or x y
     some_or (Some b) y is = refl
     some_or None y is = absurd (false≢true is)
 
+    -- own files are as in the closed form
     own_left : (number f : ℕ) (m : PlanModule) → slice_get plan.modules number ≡ Some m → is_listed f (map (λ (x : OwnFile). x.file) m.own) ≡ true
         → file_at final (name_of plan f) ≡ option_or (if is_built (stands number) && m.installs then own_at m (outs plan kept number) f else None) (file_at start (name_of plan f))
     own_left number f m at mine = by (published entries f) refl
@@ -366,7 +379,7 @@ module _ (plan : Plan) (start remote : Files) (fit : IsFitPlan plan) (present : 
             ∙ sym (ap (λ b. option_or (if b then own_at m (outs plan kept number) f else None) (file_at start (name_of plan f))) (and_is (is_built (stands number)) m.installs (late_built number f m at mine done) (so.late number f m at mine done).1))
         by false not_done = so.fresh f (number, m, at, mine) not_done ∙ sym (none (is_built (stands number) && m.installs) refl not_done)
 
-    -- T4 Core, the contents of a run
+    -- the contents of a run
     pub left_so : IsLeft plan (supply_of start remote kept) (λ number. state_of o (standing_of_run plan entries).progress number) (outs plan kept) (contents plan start entries)
     left_so =
         let fetched = (fetched_so plan start remote fit present hands tell entries run fits).1 in

@@ -2,7 +2,7 @@
 use Rattle.std.proofs.Common.{◌≡◌, ℕ, suc, ◌≤◌, ◌+◌, ◌*◌, ◌⊎◌, inl, inr, Bool, true, false, ◌||◌, nat_eq, List, [], ◌∷◌, ◌++◌, length, map, fold, slice_get, Some, refl, arith, sym, ap, subst, ◌∙◌, if◌then◌else◌}
 use Rattle.std.specs.List.{list_all}
 use Rattle.std.proofs.lemmas.Bool.{eqb-true, false≢true}
-use Rattle.std.proofs.lemmas.List.{append_assoc}
+use Rattle.std.proofs.lemmas.List.{append-nil, append_assoc}
 use Rattle.build_core.specs.declared.event.Event.{Event}
 use Rattle.build_core.specs.declared.plan.Entry.{Entry}
 use Rattle.build_core.specs.declared.plan.Origin.{Origin}
@@ -29,21 +29,20 @@ use Rattle.event_core.proofs.Fits.{fewer_after, fit_after, fit_first, most_first
 use Rattle.run_law.proofs.Once.{both, listed_first, listed_later}
 use Rattle.event_core.proofs.ScriptPlaces.{length_below}
 
+-- there is an event for each entry
 events_long : (entries : List RunEntry) → length (events_of entries) ≡ length entries
 events_long [] = refl
 events_long (e ∷ entries) = ap suc (events_long entries)
 
+-- one item more is one more
 longer : (xs : List ℕ) (n : ℕ) → length (xs ++ n ∷ []) ≡ suc (length xs)
 longer [] n = refl
 longer (x ∷ xs) n = ap suc (longer xs n)
 
-append_nil : {X : Type 0} (xs : List X) → xs ++ [] ≡ xs
-append_nil [] = refl
-append_nil (x ∷ xs) = ap (λ t. x ∷ t) (append_nil xs)
-
+-- what a run has left, with its length, was left at its beginning
 more_left : (o : Outline) (past events : List Event) → IsFit o (standing_of o past) → IsRun o past events → length events + events_left o (standing_of o (past ++ events)) ≤ events_left o (standing_of o past)
 unfolding Enabled
-more_left o past [] fit run = let same = ap (λ es. events_left o (standing_of o es)) (append_nil past) in omega (arith, same)
+more_left o past [] fit run = let same = ap (λ es. events_left o (standing_of o es)) (append-nil past) in omega (arith, same)
 more_left o past (e ∷ events) fit run =
     let fewer = fewer_after o (standing_of o past) e fit run.0 in
     let rest = more_left o (past ++ e ∷ []) events (subst (IsFit o) (sym (one_more o past e)) (fit_after o (standing_of o past) e fit run.0)) run.1 in
@@ -55,24 +54,29 @@ more_left o past (e ∷ events) fit run =
 pub run_left : (o : Outline) (events : List Event) → IsRun o [] events → length events + events_left o (standing_of o events) ≤ most_events o
 run_left o events run = let all = more_left o [] events (fit_first o) run in let first = most_first o in omega (arith, all, first)
 
+-- so a run is no longer than an outline's most events
 pub run_short : (o : Outline) (events : List Event) → IsRun o [] events → length events ≤ most_events o
 run_short o events run = let all = run_left o events run in omega (arith, all)
 
 -- ---- a sound plan has room for all events
 
 module _ (stage : ℕ) (f : ℕ → Step) (rest : Script) where
+  -- steps of one event each
   one_each : ((x : ℕ) → step_events (f x) ≡ 1) → (xs : List ℕ) → script_events (steps stage f xs rest) ≡ length xs + script_events rest
   one_each same [] = omega arith
   one_each same (x ∷ xs) = let here = same x in let again = one_each same xs in omega (arith, here, again)
 
+  -- steps of two events each
   two_each : ((x : ℕ) → step_events (f x) ≡ 2) → (xs : List ℕ) → script_events (steps stage f xs rest) ≡ 2 * length xs + script_events rest
   two_each same [] = omega arith
   two_each same (x ∷ xs) = let here = same x in let again = two_each same xs in omega (arith, here, again)
 
+-- own files are an event each
 own_small : (own : List ℕ) → script_events (own_script own) ≤ length own
 own_small [] = omega arith
 own_small (pom ∷ others) = let all = one_each 6 may_publish (step 6 frees whole) (λ x. refl) others in omega (arith, all)
 
+-- installing is two events and one for each own file
 install_small : (m : ModuleOutline) → script_events (install_script m) ≤ 2 + length m.own
 install_small m = by m.installs
   where
@@ -80,6 +84,7 @@ install_small m = by m.installs
     by true = let own = own_small m.own in omega (arith, own)
     by false = omega arith
 
+-- what follows the fetch list
 read_small : (m : ModuleOutline) → script_events (read_script m) ≤ length m.reads + m.goals + 2 + length m.own
 read_small m =
     let r = one_each 4 reads (release_script m) (λ x. refl) m.reads in
@@ -88,6 +93,7 @@ read_small m =
     let i = install_small m in
     omega (arith, r, a, n, i)
 
+-- so the events of a module, by the lengths of its lists
 module_small : (m : ModuleOutline) → module_events m ≤ 4 + 4 * length m.batch + length m.fetch + length m.reads + m.goals + length m.own
 module_small m =
     let s = two_each 2 (takes Shared) (choice_script m) (λ x. refl) m.batch in
@@ -121,6 +127,7 @@ room ys (x ∷ xs) met left inside sub = by (is_listed x met) refl (λ met left 
             moved y (inl k) = inl (listed_more met y x k)
             moved y (inr k) = apart y (same_or_not y x) k
 
+-- the file of an entry is fetched
 entry_backed : (m : PlanModule) (e : Entry) (entries : List Entry) (from : Origin) (x : ℕ) → is_backed m from ≡ true → (is_listed x (files_of entries) ≡ true → is_listed x m.fetch ≡ true) → is_listed x (files_of ((record e { origin = from }) ∷ entries)) ≡ true → is_listed x m.fetch ≡ true
 entry_backed m e entries (origin.File f) x back again l = by (nat_eq f x) refl l
   where
@@ -130,19 +137,23 @@ entry_backed m e entries (origin.File f) x back again l = by (nat_eq f x) refl l
 entry_backed m e entries (origin.Module u s) x back again l = again l
 entry_backed m e entries origin.Nothing x back again l = again l
 
+-- so is each file of the classpath
 entries_backed : (m : PlanModule) (entries : List Entry) → list_all (λ (e : Entry). is_backed m e.origin) entries ≡ true → (x : ℕ) → is_listed x (files_of entries) ≡ true → is_listed x m.fetch ≡ true
 entries_backed m [] back x l = absurd (false≢true l)
 entries_backed m (e ∷ entries) back x l =
     let parts = both (is_backed m e.origin) (list_all (λ (e : Entry). is_backed m e.origin) entries) back in
     entry_backed m e entries e.origin x parts.0 (entries_backed m entries parts.1 x) l
 
+-- so there are no more reads than fetched files
 reads_few : (m : PlanModule) → IsSoundPlanModule m → length (files_read m) ≤ length m.fetch
 reads_few m sound = let few = room m.fetch (files_of m.entries) [] m.fetch (λ y l. inr l) (entries_backed m m.entries sound.entries) in omega (arith, few)
 
+-- there are as many own files as own slots
 own_map : (own : List OwnFile) → length (map (λ (o : OwnFile). o.file) own) ≡ length own
 own_map [] = refl
 own_map (o ∷ own) = ap suc (own_map own)
 
+-- so a module of a sound plan has room
 module_fits : (m : PlanModule) → IsSoundPlanModule m → module_events (module_outline m) ≤ greatest_events m
 module_fits m sound =
     let small = module_small (module_outline m) in
@@ -150,6 +161,7 @@ module_fits m sound =
     let own = own_map m.own in
     omega (arith, small, few, own)
 
+-- so have all modules
 pub all_fit : (modules : List PlanModule) → ((number : ℕ) (m : PlanModule) → slice_get modules number ≡ Some m → IsSoundPlanModule m) → total module_events (map module_outline modules) ≤ total greatest_events modules
 all_fit [] sound = omega arith
 all_fit (m ∷ modules) sound =
@@ -157,6 +169,7 @@ all_fit (m ∷ modules) sound =
     let rest = all_fit modules (λ number x at. sound (suc number) x at) in
     omega (arith, here, rest)
 
+-- so no run over a sound plan has more entries than the plan's events
 pub events_enough : (plan : Plan) → IsSoundPlan plan → (entries : List RunEntry) → IsRunOf plan entries → length entries ≤ plan.events
 events_enough plan sound entries run =
     let short = run_short (outline_of plan) (events_of entries) run in

@@ -1,6 +1,7 @@
 pub mod Absent
 pub mod AllAnswered
 pub mod Alone
+pub mod Basics
 pub mod Betweens
 pub mod Carried
 pub mod Checks

@@ -29,9 +29,11 @@ find_same p q (x ∷ xs) same = ap (λ b. if b then Some x else find p xs) (same
         by true = refl
         by false = is
 
+-- the first item of a list is listed
 pub listed_first : (x : ℕ) (xs : List ℕ) → is_listed x (x ∷ xs) ≡ true
 listed_first x xs = grind arith
 
+-- so is each that follows
 pub listed_later : (x y : ℕ) (xs : List ℕ) → is_listed y xs ≡ true → is_listed y (x ∷ xs) ≡ true
 listed_later x y xs is = by (nat_eq x y)
   where
@@ -39,27 +41,32 @@ listed_later x y xs is = by (nat_eq x y)
     by true = refl
     by false = is
 
+-- the parts of what holds together
 pub both : (a b : Bool) → (a && b) ≡ true → (a ≡ true) × (b ≡ true)
 both true b is = (refl, is)
 both false b is = absurd (false≢true is)
 
 module _ (plan : Plan) (supply : Supply) (m : PlanModule) (one two : ℕ → List OwnBytes) (same : (u : ℕ) → is_listed u m.upstream ≡ true → one u ≡ two u) where
+  -- an entry has the same length where upstreams keep the same
   origin_same : (o : Origin) → is_backed m o ≡ true → origin_len plan supply one o ≡ origin_len plan supply two o
   origin_same (origin.File file) is = refl
   origin_same (origin.Module u s) is = ap (λ own. bytes_len (output_of own s)) (same u is)
   origin_same origin.Nothing is = refl
 
+  -- so has the classpath
   pub len_same : (entries : List Entry) → list_all (λ (e : Entry). is_backed m e.origin) entries ≡ true → total_len plan supply one entries ≡ total_len plan supply two entries
   len_same [] is = refl
   len_same (e ∷ entries) is =
       let parts = both (is_backed m e.origin) (list_all (λ (e : Entry). is_backed m e.origin) entries) is in
       ap (λ n. n + total_len plan supply one entries) (origin_same e.origin parts.0) ∙ ap (λ n. origin_len plan supply two e.origin + n) (len_same entries parts.1)
 
+-- so is the verdict on the classpath
 entries_same : (plan : Plan) (supply : Supply) (number : ℕ) (m : PlanModule) (outputs outputs' : ℕ → List OwnBytes) → total_len plan supply outputs m.entries ≡ total_len plan supply outputs' m.entries
     → (missing : Option ℕ) → verdict_of_fetch plan supply number m outputs missing ≡ verdict_of_fetch plan supply number m outputs' missing
 entries_same plan supply number m outputs outputs' long None = rw long refl
 entries_same plan supply number m outputs outputs' long (Some f) = refl
 
+-- so is the verdict behind the upstreams
 verdict_same : (plan : Plan) (supply : Supply) (number : ℕ) (m : PlanModule) (outputs outputs' : ℕ → List OwnBytes) → total_len plan supply outputs m.entries ≡ total_len plan supply outputs' m.entries
     → (unbuilt : Option ℕ) → verdict_of_upstream plan supply number m outputs unbuilt ≡ verdict_of_upstream plan supply number m outputs' unbuilt
 verdict_same plan supply number m outputs outputs' long (Some u) = refl
@@ -82,6 +89,7 @@ module _ (plan : Plan) (supply : Supply) (P : ℕ → Type 0) (states states' : 
     (real : (number u : ℕ) (m : PlanModule) → slice_get plan.modules number ≡ Some m → u < number → (n : PlanModule) × (slice_get plan.modules u ≡ Some n))
     (backed : (number : ℕ) (m : PlanModule) → slice_get plan.modules number ≡ Some m → list_all (λ (e : Entry). is_backed m e.origin) m.entries ≡ true)
     (one : AreJudged plan supply P states outputs) (two : AreJudged plan supply P states' outputs') where
+  -- modules below a place stand in one way
   up_to : (n number : ℕ) (m : PlanModule) → number < n → slice_get plan.modules number ≡ Some m → P number → (states number ≡ states' number) × (outputs number ≡ outputs' number)
   up_to zero number m less at holds = absurd (omega (arith, less))
   up_to (suc n) number m less at holds =
@@ -93,5 +101,6 @@ module _ (plan : Plan) (supply : Supply) (P : ℕ → Type 0) (states states' : 
       one number m at holds ∙ judge_same plan supply states states' outputs outputs' number m (backed number m at) (λ u is. (upward u is).0) (λ u is. (upward u is).1) ∙ sym (two number m at holds) in
       (ap (λ (x : Verdict). x.state) v, ap (λ (x : Verdict). x.outputs) v)
 
+  -- so do all that P holds of
   pub judged_once : (number : ℕ) (m : PlanModule) → slice_get plan.modules number ≡ Some m → P number → (states number ≡ states' number) × (outputs number ≡ outputs' number)
   judged_once number m at holds = up_to (suc number) number m (omega arith) at holds

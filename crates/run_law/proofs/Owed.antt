@@ -16,6 +16,7 @@ use Rattle.run_law.proofs.Excluding.{listed_below}
 use Rattle.run_law.proofs.Once.{both}
 use Rattle.event_core.specs.Scripts.{Script, Step, absent, choice_script, install_script, is_to_install, own_script, read_script, release_script, script_of, steps, answers, done, fetches, frees, is_there, is_wanted, may_publish, publishes, reads, settled, step, takes, whole}
 use Rattle.event_core.proofs.Weights.{nothing_is}
+use Rattle.run_law.proofs.Basics.{chosen}
 
 abbrev pub owes : ℕ → Script → Bool
 owes h whole = false
@@ -43,6 +44,7 @@ IsRising (step stage (may_publish g) rest) = IsRising rest
 abbrev pub Owes : Script → Script → Type 0
 Owes s rest = IsRising rest × ((h : ℕ) → owes h rest ≡ owes h s)
 
+-- settling leaves what a script owes
 pub settled_owes : (there : List Bool) (empty : Bool) (s : Script) → IsRising s → Owes s (settled there empty s)
 settled_owes there empty whole r = (r, λ h. refl)
 settled_owes there empty (absent files this that) r = by (list_all (is_there there) files) (settled_owes there empty this r.1) (settled_owes there empty that r.2)
@@ -70,14 +72,11 @@ settled_owes there empty (step stage (answers g) rest) r = (r, λ h. refl)
 abbrev pub Pays : Script → Deed → Script → Type 0
 Pays s d rest = IsRising rest × ((h : ℕ) → owes h rest ≡ false → (owes h s ≡ false) ⊎ (d ≡ deed.Answer h)) × ((g h : ℕ) → d ≡ deed.Answer g → h ≤ g → owes h rest ≡ false)
 
-chosen : (b : Bool) (s rest : Script) → (if b then Some s else None) ≡ Some rest → (b ≡ true) × (s ≡ rest)
-chosen true s rest e = (refl, ap (λ o. unwrap_or o whole) e)
-chosen false s rest e = absurd (nothing_is rest e)
-
 abbrev is_asking : Step → Bool
 is_asking (answers g) = true
 is_asking other = false
 
+-- an answer does no other step
 no_answer : (s : Step) (g : ℕ) → is_asking s ≡ false → is_wanted s (deed.Answer g) ≡ true → ⊥
 no_answer (answers h) g a w = false≢true (sym a)
 no_answer (takes m n) g a w = false≢true w
@@ -87,9 +86,11 @@ no_answer (fetches f) g a w = false≢true w
 no_answer (publishes f) g a w = false≢true w
 no_answer (may_publish f) g a w = false≢true w
 
+-- a deed of another step leaves what is owed
 plain_pays : (s : Step) (d : Deed) (more : Script) (below : Script) → is_asking s ≡ false → is_wanted s d ≡ true → IsRising more → ((h : ℕ) → owes h more ≡ owes h below) → Pays below d more
 plain_pays s d more below a w r same = (r, λ h none. inl (sym (same h) ∙ none), λ g h e low. absurd (no_answer s g a (subst (λ x. is_wanted s x ≡ true) e w)))
 
+-- only its own answer does a goal's step
 asked : (g : ℕ) (d : Deed) → is_wanted (answers g) d ≡ true → d ≡ deed.Answer g
 asked g (deed.Answer h) w = ap (λ x. deed.Answer x) (eqb-true h g w)
 asked g (deed.Take m n) w = absurd (false≢true w)
@@ -97,10 +98,12 @@ asked g deed.Free w = absurd (false≢true w)
 asked g (deed.Read f) w = absurd (false≢true w)
 asked g (deed.Publish f) w = absurd (false≢true w)
 
+-- the goal of an answer
 answer_of : Deed → ℕ
 answer_of (deed.Answer h) = h
 answer_of other = 0
 
+-- a deed pays the goal that it answers and no other
 pub done_pays : (s : Script) (d : Deed) (rest : Script) → IsRising s → done s d ≡ Some rest → Pays s d rest
 unfolding answer_of
 done_pays whole d rest r e = absurd (nothing_is rest e)
@@ -141,10 +144,12 @@ install_owes (step stage (answers g) rest) r is h = absurd (false≢true is)
 abbrev Quiet : Script → Type 0
 Quiet s = IsRising s × ((h : ℕ) → owes h s ≡ false)
 
+-- further own files owe no answer
 may_quiet : (xs : List ℕ) → Quiet (steps 6 may_publish xs (step 6 frees whole))
 may_quiet [] = (tt, λ h. refl)
 may_quiet (x ∷ xs) = may_quiet xs
 
+-- nor does installing
 install_quiet : (m : ModuleOutline) → Quiet (install_script m)
 install_quiet m = by m.installs m.own
   where
@@ -164,6 +169,7 @@ climbing_rises rest q (x ∷ xs) low c =
     by h true e less again = let same = eqb-true h x e in absurd (omega (arith, same, less, c.0))
     by h false e less again = ap (λ b. b || owes h (steps 5 answers xs rest)) e ∙ again
 
+-- the steps of goals owe each of them
 listed_owes : (rest : Script) (xs : List ℕ) (g : ℕ) → is_listed g xs ≡ true → owes g (steps 5 answers xs rest) ≡ true
 listed_owes rest [] g l = absurd (false≢true l)
 listed_owes rest (x ∷ xs) g l = by (nat_eq x g) refl l (listed_owes rest xs g)
@@ -176,6 +182,7 @@ listed_owes rest (x ∷ xs) g l = by (nat_eq x g) refl l (listed_owes rest xs g)
     by true e l again = ap (λ b. b || owes g (steps 5 answers xs rest)) (subst (λ k. nat_eq g k ≡ true) (sym (eqb-true x g e)) (nat_eq_equiv.refl g))
     by false e l again = or_right (nat_eq g x) (owes g (steps 5 answers xs rest)) (again l)
 
+-- what is below a number is below a greater one
 all_grow : (n : ℕ) (xs : List ℕ) → list_all (λ h. nat_lt h n) xs ≡ true → list_all (λ h. nat_lt h (suc n)) xs ≡ true
 all_grow n [] is = refl
 all_grow n (x ∷ xs) is =
@@ -183,10 +190,12 @@ all_grow n (x ∷ xs) is =
     let less = lt_is x n parts.0 in
     rw (lt-ltb x (suc n) (omega (arith, less))) (all_grow n xs parts.1)
 
+-- the numbers below one are below it
 below_low : (n : ℕ) → list_all (λ h. nat_lt h n) (below n) ≡ true
 below_low zero = refl
 below_low (suc n) = all_more (λ h. nat_lt h (suc n)) (below n) n (all_grow n (below n) (below_low n)) (lt-ltb n (suc n) (omega arith))
 
+-- and ascend
 below_climbs : (n : ℕ) → Climbs 0 (below n)
 below_climbs zero = tt
 below_climbs (suc n) = climbs_more (below n) 0 n (below_climbs n) (below_low n) (omega arith)
@@ -195,17 +204,21 @@ below_climbs (suc n) = climbs_more (below n) 0 n (below_climbs n) (below_low n) 
 abbrev pub OwesAll : ModuleOutline → Script → Type 0
 OwesAll m s = IsRising s × ((g : ℕ) → g < m.goals → owes g s ≡ true)
 
+-- plain steps before goals leave what is owed
 plain_owes : (m : ModuleOutline) (stage : ℕ) (f : ℕ → Step) (rest : Script) → ((x : ℕ) (more : Script) → OwesAll m more → OwesAll m (step stage (f x) more)) → (xs : List ℕ) → OwesAll m rest → OwesAll m (steps stage f xs rest)
 plain_owes m stage f rest same [] o = o
 plain_owes m stage f rest same (x ∷ xs) o = same x (steps stage f xs rest) (plain_owes m stage f rest same xs o)
 
+-- what follows the fetch list owes all goals
 read_owes : (m : ModuleOutline) → OwesAll m (read_script m)
 read_owes m = plain_owes m 4 reads (release_script m) (λ x more o. o) m.reads ((climbing_rises (install_script m) (install_quiet m) (below m.goals) 0 (below_climbs m.goals)).0, λ g less. listed_owes (install_script m) (below m.goals) g (listed_below m.goals g less))
 
+-- plain steps owe nothing
 plain_same : (h stage : ℕ) (f : ℕ → Step) (rest : Script) → ((x : ℕ) (more : Script) → owes h (step stage (f x) more) ≡ owes h more) → (xs : List ℕ) → owes h (steps stage f xs rest) ≡ owes h rest
 plain_same h stage f rest same [] = refl
 plain_same h stage f rest same (x ∷ xs) = same x (steps stage f xs rest) ∙ plain_same h stage f rest same xs
 
+-- so a module's script owes all goals
 pub start_owes : (m : ModuleOutline) → OwesAll m (script_of m)
 start_owes m =
     plain_owes m 2 (takes Shared) (choice_script m) (λ x more o. ((λ six. absurd (false≢true six), o.0), o.1)) m.batch (

@@ -50,23 +50,15 @@ use Rattle.run_law.proofs.Paid.{ArePaid, IsPaid, paid_first}
 use Rattle.run_law.proofs.Owed.{owes}
 use Rattle.build_core.specs.Slots.{kept_of, run_goals}
 use Rattle.goal_types.specs.declared.goal.GoalAnswer.{GoalAnswer}
+use Rattle.run_law.proofs.Basics.{or_false, or_true}
+use Rattle.std.proofs.lemmas.List.{append-nil}
 
-pub append-nil : {X : Type 0} (xs : List X) → xs ++ [] ≡ xs
-append-nil [] = refl
-append-nil (x ∷ xs) = ap (λ t. x ∷ t) (append-nil xs)
-
-pub or_false : (b : Bool) → (b || false) ≡ b
-or_false true = refl
-or_false false = refl
-
-pub or_true : (b : Bool) → (b || true) ≡ true
-or_true true = refl
-or_true false = refl
-
+-- a test of three in two ways
 or_assoc : (a b c : Bool) → (a || (b || c)) ≡ ((a || b) || c)
 or_assoc true b c = refl
 or_assoc false b c = refl
 
+-- what was published behind one entry more
 pub published_more : (past : List RunEntry) (e : RunEntry) (f : ℕ) → published (past ++ e ∷ []) f ≡ (published past f || worlds.publishes f e.event)
 published_more [] e f = or_false (worlds.publishes f e.event)
 published_more (p ∷ past) e f = ap (λ b. worlds.publishes f p.event || b) (published_more past e f) ∙ or_assoc (worlds.publishes f p.event) (published past f) (worlds.publishes f e.event)
@@ -83,6 +75,7 @@ wanted_fetch fetch own (step stage (takes m n) rest) f fits is = absurd (nothing
 wanted_fetch fetch own (step stage (reads g) rest) f fits is = absurd (nothing_is f is)
 wanted_fetch fetch own (step stage (answers g) rest) f fits is = absurd (nothing_is f is)
 
+-- a late module has begun
 pub late_begun : (now : Standing) (number : ℕ) → IsLateAt now number → is_begun (progress_of now.progress number) ≡ true
 late_begun now number (inl a) = ap is_begun a.1
 late_begun now number (inr b) = ap is_begun b.1
@@ -91,6 +84,7 @@ abbrev runs_by : Progress → ℕ
 runs_by (Running w) = w
 runs_by other = 0
 
+-- numbers that differ are told apart
 pub not_same : (k u : ℕ) → (k ≡ u → ⊥) → nat_eq k u ≡ false
 not_same k u other = by (nat_eq k u) refl
   where
@@ -173,6 +167,7 @@ module _ (plan : Plan) (start remote : Files) (fit : IsFitPlan plan) (present : 
         false≢true (late_deed now.there [] (deed.Answer g) (course_of now w) (subst (λ v. IsLate (course_of now v)) (sym same) a.2) is.2).0
     answers_none w g k is whose (inr b) = false≢true (sym (ap is_over (behind.standing.tied.busy w k whose)) ∙ ap is_over b.1)
 
+    -- an answer leaves how own files stand
     answered : (w g : ℕ) (what : Carried) → IsEnabled o now (event.Answer w g) → Fits plan (Some start) hands past (record { event = event.Answer w g; carried = what }) → After (event.Answer w g) what
     answered w g what is fits = by what fits.0
       where
@@ -257,6 +252,7 @@ module _ (plan : Plan) (start remote : Files) (fit : IsFitPlan plan) (present : 
               unfetched false e = e
               unfetched true e = absurd (fit.own g (number, m, at, e) (number, m, at, mine))
 
+      -- and so does a publish
       published_one : AreFacts (after o now (event.Publish w g)) more (old ++ []) (λ f. published past f || nat_eq g f)
       published_one number f m at mine = subst (λ kept. Fact (after o now (event.Publish w g)) more kept number f m (published past f || nat_eq g f)) (sym (append-nil old)) (by (same_or_not f g))
         where
@@ -268,6 +264,7 @@ module _ (plan : Plan) (start remote : Files) (fit : IsFitPlan plan) (present : 
               subst (Fact (after o now (event.Publish w g)) more old number f m) (sym (ap (λ b. published past f || b) (not_same g f (λ e. other (sym e))) ∙ or_false (published past f)))
               (another number f m at mine other)
 
+    -- so does each event
     facts_after : (e : Event) (what : Carried) → IsEnabled o now e → Fits plan (Some start) hands past (record { event = e; carried = what }) → After e what
     facts_after (event.Start w m) what is fits = plain (event.Start w m) is
     facts_after (event.Skip m) what is fits = plain (event.Skip m) is
@@ -283,6 +280,7 @@ module _ (plan : Plan) (start remote : Files) (fit : IsFitPlan plan) (present : 
   abbrev IsAll : List RunEntry → Type 0
   IsAll past = IsBehind past × AreOwnsLate o (standing_of_run plan past) × ArePaid o (is_kept (answers_in plan past)) (standing_of_run plan past) × AreFacts (standing_of_run plan past) (contents plan start past) (answers_in plan past) (published past)
 
+  -- so behind one entry more
   all_more : (past : List RunEntry) (e : RunEntry) → IsAll past → Enabled o (events_of past) e.event → Fits plan (Some start) hands past e → IsAll (past ++ e ∷ [])
   unfolding Enabled
   all_more past e holds is fits =
@@ -299,6 +297,7 @@ module _ (plan : Plan) (start remote : Files) (fit : IsFitPlan plan) (present : 
             (subst (Fact (after o (standing_of_run plan past) e.event) (put_carried plan (contents plan start past) e.event e.carried) (answers_in plan past ++ kept_by plan past e.event e.carried) number f m) (sym (published_more past e f)) (facts number f m at mine)))),
       )
 
+  -- so behind every fitting run
   pub own_facts : (entries : List RunEntry) → IsRunOf plan entries → AllFit plan (Some start) hands [] entries → IsAll entries
   own_facts entries run fits = by_entries plan start hands IsAll all_more [] entries (behind_first plan start remote fit present hands tell, owns_first o, paid_first o (is_kept []), λ number f m at mine. refl) run fits
 

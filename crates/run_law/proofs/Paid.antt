@@ -54,20 +54,24 @@ abbrev is_free : Deed → Bool
 is_free deed.Free = true
 is_free other = false
 
+-- a script that may end owes nothing
 end_owes : (s : Script) → may_end s ≡ true → (h : ℕ) → owes h s ≡ false
 end_owes whole e h = refl
 end_owes (absent files this that) e h = absurd (false≢true e)
 end_owes (step stage s rest) e h = absurd (false≢true e)
 
+-- a test of numbers, as a fact
 le_is : (a b : ℕ) → nat_le a b ≡ true → a ≤ b
 le_is a b e = leb-true a b e
 
 module _ (o : Outline) (K K' : ℕ → ℕ → Bool) (grows : (number g : ℕ) → K number g ≡ true → K' number g ≡ true) where
+  -- what is paid stays so as answers come
   paid_grow : (c : Course) → IsPaid o K c → IsPaid o K' c
   paid_grow idle p = tt
   paid_grow (off_course number file gathered) p = tt
   paid_grow (on_course number script last) p = λ m at. let is = p m at in (is.0, λ g less none. grows number g (is.1 g less none), is.2)
 
+  -- what a deed leaves is paid
   paid_left : (there : List Bool) (empty : Bool) (number : ℕ) (script rest : Script) (last answered : Option ℕ) (d : Deed) → done script d ≡ Some rest → ((h : ℕ) → d ≡ deed.Answer h → K' number h ≡ true) → ((i : ℕ) → answered ≡ Some i → d ≡ deed.Answer i)
       → IsPaid o K (on_course number script last) → IsPaid o K' (on_course number (settled there empty rest) answered)
   paid_left there empty number script rest last answered d e new whose p m at =
@@ -80,6 +84,7 @@ module _ (o : Outline) (K K' : ℕ → ℕ → Bool) (grows : (number g : ℕ) �
       by g less (inl old) = grows number g ((p m at).1 g less old)
       by g less (inr is) = new g is
 
+  -- so is a course behind a deed
   paid_deed : (there : List Bool) (held : List ℕ) (d : Deed) (answered : Option ℕ) (c : Course) → ((number h : ℕ) → module_of c ≡ Some number → d ≡ deed.Answer h → K' number h ≡ true) → ((i : ℕ) → answered ≡ Some i → d ≡ deed.Answer i) → IsPaid o K c → IsPaid o K' (after_deed there held d answered c)
   paid_deed there held d answered idle new whose p = tt
   paid_deed there held d answered (off_course number file gathered) new whose p = tt
@@ -89,6 +94,7 @@ module _ (o : Outline) (K K' : ℕ → ℕ → Bool) (grows : (number g : ℕ) �
       by None e = paid_grow (on_course number script last) p
       by (Some rest) e = paid_left there (is_empty held) number script rest last answered d e (λ h is. new number h refl is) whose p
 
+  -- and behind a free
   paid_free : (there : List Bool) (held : List ℕ) (c : Course) → IsPaid o K c → IsPaid o K' (after_free o there held c)
   paid_free there held idle p = tt
   paid_free there held (off_course number file gathered) p = tt
@@ -98,12 +104,14 @@ module _ (o : Outline) (K K' : ℕ → ℕ → Bool) (grows : (number g : ℕ) �
       by None e = tt
       by (Some rest) e = paid_left there (is_empty held) number script rest last None deed.Free e (λ h is. absurd (false≢true (sym (ap is_free is)))) (λ i is. absurd (nothing_is i is)) p
 
+  -- and one that begins
   paid_start : (there : List Bool) (empty : Bool) (number : ℕ) → IsPaid o K' (on_course number (settled there empty (start_of o number)) None)
   paid_start there empty number m at =
       let all : OwesAll m (start_of o number) = subst (λ found. OwesAll m (option_map_or script_of found whole)) (sym at) (start_owes m) in
       let st = settled_owes there empty (start_of o number) all.0 in
       (st.0, λ g less none. absurd (false≢true (sym none ∙ st.1 g ∙ all.1 g less)), λ i h is low. absurd (nothing_is i is))
 
+  -- where a module ends, each goal that the ending stands for is paid
   end_paid : (c : Course) (e : Ending) → IsPaid o K c → may_end_so o c e ≡ true → (number : ℕ) → module_of c ≡ Some number → (m : ModuleOutline) → slice_get o.modules number ≡ Some m → (g : ℕ) → g < m.goals → reaches e g ≡ true → K' number g ≡ true
   end_paid idle e p may number whose m at g less for = absurd (false≢true may)
   end_paid (off_course n file gathered) e p may number whose m at g less for = absurd (none e may for)
@@ -144,9 +152,11 @@ module _ (o : Outline) (K K' : ℕ → ℕ → Bool) (grows : (number g : ℕ) �
       by (inr x) = absurd (false≢true (sym not ∙ sym (ap is_ended x.1) ∙ ap is_ended is))
 
   module _ (now : Standing) (p : ArePaid o K now) where
+    -- of a module that is over too, as answers come
     over_grow : (number : ℕ) (m : ModuleOutline) (e : Ending) → slice_get o.modules number ≡ Some m → progress_of now.progress number ≡ Ended e → (g : ℕ) → g < m.goals → reaches e g ≡ true → K' number g ≡ true
     over_grow number m e at is g less for = grows number g (p.over number m e at is g less for)
 
+    -- so behind an end
     over_end : (w : ℕ) (x : Ending) → may_end_so o (course_of now w) x ≡ true → (number : ℕ) (m : ModuleOutline) (e : Ending) → slice_get o.modules number ≡ Some m → progress_of (ended (module_of (course_of now w)) x now.progress) number ≡ Ended e → (g : ℕ) → g < m.goals → reaches e g ≡ true → K' number g ≡ true
     over_end w x may number m e at is g less for = by (module_of (course_of now w)) refl is
       where
@@ -158,9 +168,11 @@ module _ (o : Outline) (K K' : ℕ → ℕ → Bool) (grows : (number g : ℕ) �
             which (inl same) = over_grow number m e at (sym same ∙ is) g less for
             which (inr new) = end_paid (course_of now w) x (p.courses w) may number (whose ∙ ap (λ j. Some j) (sym new.0)) m at g less (subst (λ y. reaches y g ≡ true) (ap ending_of (sym is ∙ new.1)) for)
 
+    -- so are all courses, as answers come
     olds : (w : ℕ) → IsPaid o K' (course_of now w)
     olds w = paid_grow (course_of now w) (p.courses w)
 
+    -- so all is paid behind each event
     pub paid_after : (e : Event) → IsEnabled o now e → ((w g number : ℕ) → e ≡ event.Answer w g → module_of (course_of now w) ≡ Some number → K' number g ≡ true) → ArePaid o K' (after o now e)
     unfolding after
     paid_after (event.Start w m) is new = record { courses = at_place (IsPaid o K') now.courses w (on_course m (settled now.there (is_empty (held_by now w)) (start_of o m)) None) idle (paid_start now.there (is_empty (held_by now w)) m) olds; over = λ number x e at ends g less for. over_grow number x e at (still_over now.progress m (Running w) refl number e ends) g less for }
@@ -181,6 +193,7 @@ module _ (o : Outline) (K K' : ℕ → ℕ → Bool) (grows : (number g : ℕ) �
         }
     paid_after (event.End w x) is new = record { courses = at_place (IsPaid o K') now.courses w idle idle tt olds; over = over_end w x is.3 }
 
+-- and where nothing has happened
 pub paid_first : (o : Outline) (K : ℕ → ℕ → Bool) → ArePaid o K (at_first o)
 paid_first o K = record { courses = λ w. subst (IsPaid o K) (sym (any_idle o.workers w)) tt; over = λ number m e at is. absurd (false≢true (sym (none (length o.modules) number) ∙ ap is_ended is)) }
   where

@@ -30,14 +30,17 @@ missing =
     ∷ plain (event.Start 1 1) ∷ plain (event.Take 1 0 Shared) ∷ plain (event.Free 1 0) ∷ plain (event.Take 1 0 Exclusive) ∷ plain (event.Free 1 0) ∷ plain (event.End 1 (ending.Missing 0))
     ∷ plain (event.Skip 2) ∷ []
 
+-- it is a run
 missing_runs : IsRunOf (plan false 100) missing
 unfolding after cause_now
 missing_runs = run_is (outline_of (plan false 100)) (events_of missing) refl
 
+-- and complete
 missing_ends : IsComplete (plan false 100) missing
 unfolding after
 missing_ends = refl
 
+-- and quiet
 missing_quiet : IsQuiet missing
 missing_quiet = refl
 
@@ -48,6 +51,7 @@ asked answer e = plain (event.Start 0 0) ∷ plain (event.Take 0 0 Shared) ∷ p
 abbrev unasked : Event → List RunEntry
 unasked e = plain (event.Start 0 0) ∷ plain (event.Take 0 0 Shared) ∷ plain (event.Read 0 0) ∷ plain (event.Free 0 0) ∷ plain e ∷ []
 
+-- each of these is a run, whatever fits
 asked_runs : (answer : GoalAnswer) (budget : ℕ) → IsRunOf (plan true budget) (asked answer (event.End 0 (ending.Goal 0))) × IsRunOf (plan true budget) (asked answer (event.End 0 (ending.OutputTooLarge 0)))
     × IsRunOf (plan true budget) (asked answer (event.End 0 ending.NoArtifact)) × IsRunOf (plan true budget) (asked answer (event.Take 0 1 Exclusive))
 unfolding after cause_now
@@ -58,6 +62,7 @@ asked_runs answer budget = (
   run_is (outline_of (plan true budget)) (events_of (asked answer (event.Take 0 1 Exclusive))) refl,
 )
 
+-- so are those without an answer
 unasked_runs : (budget : ℕ) → IsRunOf (plan true budget) (unasked (event.End 0 ending.ClasspathTooLarge)) × IsRunOf (plan true budget) (asked Done (event.End 0 ending.NoArtifact))
 unfolding after cause_now
 unasked_runs budget = (run_is (outline_of (plan true budget)) (events_of (unasked (event.End 0 ending.ClasspathTooLarge))) refl, run_is (outline_of (plan true budget)) (events_of (asked Done (event.End 0 ending.NoArtifact))) refl)
@@ -71,22 +76,27 @@ module _ (start remote : Files) where
   hands w = record { remote = Some remote; area = true; gate = None }
 
   module _ (none : file_at remote (65 ∷ []) ≡ None) where
+    -- the remote doesn't have the file
     away : remote_bytes remote (65 ∷ []) ≡ None
     away = simp none
 
+    -- the run fits
     missing_fits : AllFit (plan false 100) (Some start) hands [] missing
     unfolding after
     missing_fits = ((refl, tt), ((refl, tt), ((refl, tt), ((refl, tt), ((refl, tt), ((refl, away), ((refl, tt), ((refl, tt), ((refl, tt), ((refl, tt), ((refl, tt), ((refl, away), ((refl, tt), tt)))))))))))))
 
   -- one that is larger than the limit is as if it weren't there
   module _ (bytes : List ℕ) (here : file_at remote (65 ∷ []) ≡ Some bytes) where
+    -- a file above the limit counts as absent
     large_away : nat_le (length bytes) most_fetched ≡ false → remote_bytes remote (65 ∷ []) ≡ None
     large_away large = simp (here, large)
 
+    -- so the run fits then too
     large_fits : nat_le (length bytes) most_fetched ≡ false → AllFit (plan false 100) (Some start) hands [] missing
     unfolding after
     large_fits large = ((refl, tt), ((refl, tt), ((refl, tt), ((refl, tt), ((refl, tt), ((refl, large_away large), ((refl, tt), ((refl, tt), ((refl, tt), ((refl, tt), ((refl, tt), ((refl, large_away large), ((refl, tt), tt)))))))))))))
 
+    -- one within the limit is had
     small_here : nat_le (length bytes) most_fetched ≡ true → remote_bytes remote (65 ∷ []) ≡ Some bytes
     small_here small = simp (here, small)
 
@@ -96,15 +106,18 @@ module _ (start remote : Files) where
     small_unfit small fits = not_none bytes (sym (small_here small) ∙ fits.1.1.1.1.1.0.1)
 
   module _ (bytes : List ℕ) (here : file_at start (65 ∷ []) ≡ Some bytes) where
+    -- a file within the limit leaves the classpath within it
     entries_within : nat_le (length bytes + 0) most_classpath ≡ true → nat_le (bytes_len (file_at start (65 ∷ [])) + 0) most_classpath ≡ true
     entries_within small = ap (λ o. nat_le (bytes_len o + 0) most_classpath) here ∙ small
 
+    -- one beyond it doesn't
     entries_beyond : nat_le (length bytes + 0) most_classpath ≡ false → nat_le (bytes_len (file_at start (65 ∷ [])) + 0) most_classpath ≡ false
     entries_beyond large = ap (λ o. nat_le (bytes_len o + 0) most_classpath) here ∙ large
 
     -- ---- too large a classpath
 
     module _ (large : nat_le (length bytes + 0) most_classpath ≡ false) where
+      -- then the end fits
       beyond_fits : AllFit (plan true 100) (Some start) hands [] (unasked (event.End 0 ending.ClasspathTooLarge))
       unfolding after
       beyond_fits = ((refl, tt), ((refl, tt), ((refl, tt), ((refl, tt), ((refl, entries_beyond large), tt)))))
@@ -115,16 +128,19 @@ module _ (start remote : Files) where
       beyond_unfit answer e fits = false≢true (sym (entries_beyond large) ∙ fits.1.1.1.1.0.1.0)
 
     module _ (small : nat_le (length bytes + 0) most_classpath ≡ true) where
+      -- within the limit it doesn't
       within_unfit : AllFit (plan true 100) (Some start) hands [] (unasked (event.End 0 ending.ClasspathTooLarge)) → ⊥
       unfolding after
       within_unfit fits = false≢true (sym fits.1.1.1.1.0.1 ∙ entries_within small)
 
       -- ---- a goal that failed
 
+      -- behind a failure the end fits
       failed_fits : (text : List ℕ) → AllFit (plan true 100) (Some start) hands [] (asked (Failed text) (event.End 0 (ending.Goal 0)))
       unfolding after
       failed_fits text = ((refl, tt), ((refl, tt), ((refl, tt), ((refl, tt), ((refl, (entries_within small, refl, tt)), ((refl, refl), tt))))))
 
+      -- behind a good answer it doesn't
       done_unfit : AllFit (plan true 100) (Some start) hands [] (asked Done (event.End 0 (ending.Goal 0))) → ⊥
       unfolding after
       done_unfit fits = false≢true fits.1.1.1.1.1.0.1
@@ -136,28 +152,34 @@ module _ (start remote : Files) where
 
       -- ---- too large an output
 
+      -- an output over the budget ends so
       large_output_fits : AllFit (plan true 2) (Some start) hands [] (asked (Produced (7 ∷ 7 ∷ 7 ∷ [])) (event.End 0 (ending.OutputTooLarge 0)))
       unfolding after
       large_output_fits = ((refl, tt), ((refl, tt), ((refl, tt), ((refl, tt), ((refl, (entries_within small, refl, tt)), ((refl, refl), tt))))))
 
+      -- one within it doesn't
       small_output_unfit : AllFit (plan true 3) (Some start) hands [] (asked (Produced (7 ∷ 7 ∷ 7 ∷ [])) (event.End 0 (ending.OutputTooLarge 0))) → ⊥
       unfolding after
       small_output_unfit fits = false≢true fits.1.1.1.1.1.0.1
 
+      -- and no installing behind it
       large_output_unfit : AllFit (plan true 2) (Some start) hands [] (asked (Produced (7 ∷ 7 ∷ 7 ∷ [])) (event.Take 0 1 Exclusive)) → ⊥
       unfolding after
       large_output_unfit fits = false≢true fits.1.1.1.1.1.0.1.1
 
       -- ---- nothing to be installed
 
+      -- without the artifact the end fits
       no_artifact_fits : AllFit (plan true 100) (Some start) hands [] (asked Done (event.End 0 ending.NoArtifact))
       unfolding after
       no_artifact_fits = ((refl, tt), ((refl, tt), ((refl, tt), ((refl, tt), ((refl, (entries_within small, refl, tt)), ((refl, (entries_within small, refl, refl)), tt))))))
 
+      -- with it it doesn't
       artifact_unfit : AllFit (plan true 100) (Some start) hands [] (asked (Produced (7 ∷ [])) (event.End 0 ending.NoArtifact)) → ⊥
       unfolding after
       artifact_unfit fits = false≢true fits.1.1.1.1.1.0.1.2
 
+      -- and no installing without it
       no_artifact_unfit : AllFit (plan true 100) (Some start) hands [] (asked Done (event.Take 0 1 Exclusive)) → ⊥
       unfolding after
       no_artifact_unfit fits = false≢true (sym fits.1.1.1.1.1.0.1.2)

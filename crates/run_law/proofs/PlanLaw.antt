@@ -16,13 +16,14 @@ use Rattle.event_core.specs.Runs.{IsComplete, IsQuiet, IsRunOf, answers_in, even
 use Rattle.event_core.specs.Standing.{after, upstream_of}
 use Rattle.event_core.specs.Worlds.{AllFit, HandTold}
 use Rattle.run_law.specs.Closed.{state_at}
-use Rattle.run_law.specs.Given.{Given, IsFitting, IsPresent, IsUntouched, IsWhole, is_fault, one_hand, state_after, untouched}
+use Rattle.run_law.specs.Given.{Given, IsFitting, IsPresent, IsUntouched, IsWhole, is_fault, sequential, state_after, untouched}
 use Rattle.run_law.specs.SamplePlan.{plan, sound}
 use Rattle.run_law.proofs.Checks.{run_is}
 use Rattle.run_law.proofs.Extending.{extends_itself}
 use Rattle.run_law.proofs.Laws.{same_states, untouched_state}
 use Rattle.run_law.proofs.PlanRuns.{faulty, faulty_ends, faulty_fits, faulty_runs, whole, whole_ends, whole_fits, whole_quiet, whole_runs}
 
+-- the run isn't quiet
 faulty_loud : IsQuiet faulty → ⊥
 faulty_loud quiet = false≢true quiet
 
@@ -39,6 +40,7 @@ first_untouched : IsUntouched (plan false 100) faulty 0
 unfolding after
 first_untouched = untouched 0 refl (λ u l. absurd (false≢true l))
 
+-- nor is the third
 third_untouched : IsUntouched (plan false 100) faulty 2
 unfolding after
 third_untouched = untouched 2 refl (λ u l. by u (nat_eq 0 u) refl l)
@@ -51,6 +53,7 @@ module _ (start remote : Files) (none : (q : List ℕ) → file_at start q ≡ N
   abbrev given : Given
   given = record { plan = plan false 100; start = start; remote = remote; hands = λ w. record { remote = Some remote; area = true; gate = None } }
 
+  -- nothing is there at the start
   present : IsPresent (plan false 100) start
   present zero low = sym (ap is_some (none (65 ∷ [])))
   present (suc zero) low = sym (ap is_some (none (66 ∷ [])))
@@ -69,7 +72,7 @@ module _ (start remote : Files) (none : (q : List ℕ) → file_at start q ≡ N
   }
 
   -- so one hand builds all three
-  all_built : (one_hand given (answer_at (answers_in (plan false 100) whole))).states ≡ Ended ending.Built ∷ Ended ending.Built ∷ Ended ending.Built ∷ []
+  all_built : (sequential given (answer_at (answers_in (plan false 100) whole))).states ≡ Ended ending.Built ∷ Ended ending.Built ∷ Ended ending.Built ∷ []
   unfolding after
   all_built = sym (same_states given whole (answer_at (answers_in (plan false 100) whole)) sample (extends_itself (answers_in (plan false 100) whole)))
 
@@ -77,6 +80,7 @@ module _ (start remote : Files) (none : (q : List ℕ) → file_at start q ≡ N
   faulty_fitting : IsFitting given faulty
   faulty_fitting = record { sound = sound false 100; present = present; tell = λ w low. (refl, refl); follows = faulty_runs; fits = faulty_fits start remote (none (65 ∷ [])) here }
 
-  third_built : state_at (one_hand given (answer_at (answers_in (plan false 100) faulty))) 2 ≡ Ended ending.Built
+  -- so the third is built by one hand too
+  third_built : state_at (sequential given (answer_at (answers_in (plan false 100) faulty))) 2 ≡ Ended ending.Built
   unfolding after
   third_built = sym (untouched_state given faulty (answer_at (answers_in (plan false 100) faulty)) faulty_fitting (extends_itself (answers_in (plan false 100) faulty)) faulty_ends 2 (omega arith) third_untouched)

@@ -42,14 +42,17 @@ whole =
     ∷ plain (event.Start 1 2) ∷ plain (event.Take 1 0 Shared) ∷ plain (event.Read 1 0) ∷ plain (event.Free 1 0) ∷ says 1 0 (Produced (8 ∷ 9 ∷ []))
     ∷ plain (event.Take 1 3 Exclusive) ∷ puts 1 4 (3 ∷ []) ∷ puts 1 5 (8 ∷ 9 ∷ []) ∷ plain (event.Free 1 3) ∷ plain (event.End 1 ending.Built) ∷ []
 
+-- it is a run
 pub whole_runs : IsRunOf (plan false 100) whole
 unfolding after cause_now
 whole_runs = run_is (outline_of (plan false 100)) (events_of whole) refl
 
+-- and complete
 pub whole_ends : IsComplete (plan false 100) whole
 unfolding after
 whole_ends = refl
 
+-- and quiet
 pub whole_quiet : IsQuiet whole
 whole_quiet = refl
 
@@ -62,10 +65,12 @@ faulty =
     ∷ plain (event.Start 1 2) ∷ plain (event.Take 1 0 Shared) ∷ plain (event.Read 1 0) ∷ plain (event.Free 1 0) ∷ says 1 0 (Produced (8 ∷ 9 ∷ []))
     ∷ plain (event.Take 1 3 Exclusive) ∷ puts 1 4 (3 ∷ []) ∷ puts 1 5 (8 ∷ 9 ∷ []) ∷ plain (event.Free 1 3) ∷ plain (event.End 1 ending.Built) ∷ []
 
+-- it is a run
 pub faulty_runs : IsRunOf (plan false 100) faulty
 unfolding after cause_now
 faulty_runs = run_is (outline_of (plan false 100)) (events_of faulty) refl
 
+-- and complete
 pub faulty_ends : IsComplete (plan false 100) faulty
 unfolding after
 faulty_ends = refl
@@ -90,33 +95,43 @@ module _ (start remote : Files) (none : file_at start (65 ∷ []) ≡ None) (her
   abbrev five : Files
   five = finite.insert four (70 ∷ []) (8 ∷ 9 ∷ [])
 
+  -- the fetched file is there from the fetch on
   one_has : file_at one (65 ∷ []) ≡ Some (5 ∷ [])
   one_has = at_insert start (65 ∷ []) (5 ∷ []) (65 ∷ [])
 
+  -- and behind the first module's POM
   two_has : file_at two (65 ∷ []) ≡ Some (5 ∷ [])
   two_has = at_insert one (66 ∷ []) (1 ∷ []) (65 ∷ []) ∙ one_has
 
+  -- and behind its jar
   three_has : file_at three (65 ∷ []) ≡ Some (5 ∷ [])
   three_has = at_insert two (67 ∷ []) (7 ∷ []) (65 ∷ []) ∙ two_has
 
+  -- and behind the third module's POM
   four_has : file_at four (65 ∷ []) ≡ Some (5 ∷ [])
   four_has = at_insert three (69 ∷ []) (3 ∷ []) (65 ∷ []) ∙ three_has
 
+  -- and behind its jar
   five_has : file_at five (65 ∷ []) ≡ Some (5 ∷ [])
   five_has = at_insert four (70 ∷ []) (8 ∷ 9 ∷ []) (65 ∷ []) ∙ four_has
 
+  -- the remote has it
   got : remote_bytes remote (65 ∷ []) ≡ Some (5 ∷ [])
   got = simp here
 
+  -- so the first's classpath is within the limit
   lib_within : (files : Files) → file_at files (65 ∷ []) ≡ Some (5 ∷ []) → nat_le (bytes_len (file_at files (65 ∷ [])) + 0) most_classpath ≡ true
   lib_within files has = ap (λ o. nat_le (bytes_len o + 0) most_classpath) has
 
+  -- and the third's
   app_within : (files : Files) → file_at files (65 ∷ []) ≡ Some (5 ∷ []) → nat_le (bytes_len (file_at files (65 ∷ [])) + 1) most_classpath ≡ true
   app_within files has = ap (λ o. nat_le (bytes_len o + 1) most_classpath) has
 
+  -- the files behind the run
   whole_contents : contents (plan false 100) start whole ≡ five
   whole_contents = refl
 
+  -- each entry fits
   pub whole_fits : AllFit (plan false 100) (Some start) hands [] whole
   unfolding after
   whole_fits = ((refl, tt), ((refl, tt), ((refl, tt), ((refl, tt), ((refl, tt), ((refl, tt), ((refl, tt), ((refl, got), ((refl, tt), ((refl, tt), ((refl, tt), ((refl, tt), ((refl, (lib_within one one_has, refl, tt)), ((refl, tt), ((refl, (lib_within one one_has, refl, tt)), ((refl, (lib_within one one_has, refl, refl)), ((refl, (lib_within one one_has, refl, refl, refl)), ((refl, ((lib_within one one_has, refl, refl), refl)), ((refl, ((lib_within two two_has, refl, refl), refl)), ((refl, tt), ((refl, (lib_within three three_has, refl, refl, refl)), ((refl, tt), ((refl, tt), ((refl, tt), ((refl, tt), ((refl, (app_within three three_has, refl, tt)), ((refl, (app_within three three_has, refl, refl)), ((refl, ((app_within three three_has, refl, refl), refl)), ((refl, ((app_within four four_has, refl, refl), refl)), ((refl, tt), ((refl, (app_within five five_has, refl, refl, refl)), tt)))))))))))))))))))))))))))))))
@@ -141,16 +156,19 @@ module _ (start remote : Files) (none : file_at start (65 ∷ []) ≡ None) (her
   abbrev gates : ℕ → ℕ → HandTold
   gates n w = record { remote = Some remote; area = true; gate = Some (λ asked answer. asked_with n asked.classpath) }
 
+  -- the first gate's answer fits
   asked_fits : Fits (plan false 100) (Some start) (gates 7) (take 25 whole) (says 1 0 (Produced (8 ∷ 9 ∷ [])))
   unfolding after
   asked_fits = (refl, (app_within three three_has, refl, refl))
 
+  -- the second's doesn't
   asked_unfit : Fits (plan false 100) (Some start) (gates 8) (take 25 whole) (says 1 0 (Produced (8 ∷ 9 ∷ []))) → ⊥
   unfolding after
   asked_unfit fits = false≢true fits.1.2
 
   -- ---- a run with a fault fits too
 
+  -- each entry fits
   pub faulty_fits : AllFit (plan false 100) (Some start) hands [] faulty
   unfolding after
   faulty_fits = ((refl, tt), ((refl, tt), ((refl, tt), ((refl, tt), ((refl, tt), ((refl, tt), ((refl, got), ((refl, tt), ((refl, tt), ((refl, (lib_within one one_has, refl, tt)), ((refl, (lib_within one one_has, refl, refl)), ((refl, ((lib_within one one_has, refl, refl), refl)), ((refl, ((lib_within two two_has, refl, refl), refl)), ((refl, tt), ((refl, (lib_within three three_has, refl, refl, refl)), ((refl, tt), ((refl, tt), ((refl, tt), ((refl, tt), ((refl, (app_within three three_has, refl, tt)), ((refl, (app_within three three_has, refl, refl)), ((refl, ((app_within three three_has, refl, refl), refl)), ((refl, ((app_within four four_has, refl, refl), refl)), ((refl, tt), ((refl, (app_within five five_has, refl, refl, refl)), tt)))))))))))))))))))))))))

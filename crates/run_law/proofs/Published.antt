@@ -13,6 +13,7 @@ use Rattle.event_core.specs.Scripts.{Script, Step, absent, answers, choice_scrip
 use Rattle.run_law.proofs.Courses.{start_fit}
 use Rattle.run_law.proofs.Once.{both}
 use Rattle.event_core.proofs.Weights.{nothing_is}
+use Rattle.run_law.proofs.Basics.{both3, chosen, or_left, or_right}
 
 -- a file that a script may publish as its own
 abbrev pub own_in : ℕ → Script → Bool
@@ -42,14 +43,7 @@ IsOnce (step stage (answers g) rest) = IsOnce rest
 abbrev pub IsLeftOf : Script → Script → Type 0
 IsLeftOf s rest = (IsOnce s → IsOnce rest) × ((f : ℕ) → own_in f rest ≡ true → own_in f s ≡ true)
 
-or_left : (a b : Bool) → a ≡ true → (a || b) ≡ true
-or_left true b e = refl
-or_left false b e = absurd (false≢true e)
-
-or_right : (a b : Bool) → b ≡ true → (a || b) ≡ true
-or_right true b e = refl
-or_right false b e = e
-
+-- a settled script has no file that it hadn't
 pub settled_left : (there : List Bool) (empty : Bool) (s : Script) → IsLeftOf s (settled there empty s)
 settled_left there empty whole = (λ o. o, λ f l. l)
 settled_left there empty (absent files this that) = by (list_all (is_there there) files) (settled_left there empty this) (settled_left there empty that)
@@ -73,10 +67,7 @@ settled_left there empty (step stage (publishes g) rest) = (λ o. o, λ f l. l)
 settled_left there empty (step stage (may_publish g) rest) = (λ o. o, λ f l. l)
 settled_left there empty (step stage (answers g) rest) = (λ o. o, λ f l. l)
 
-chosen : (b : Bool) (s rest : Script) → (if b then Some s else None) ≡ Some rest → (b ≡ true) × (s ≡ rest)
-chosen true s rest e = (refl, ap (λ o. unwrap_or o whole) e)
-chosen false s rest e = absurd (nothing_is rest e)
-
+-- nor has what a deed leaves
 pub done_left : (s : Script) (d : Deed) (rest : Script) → done s d ≡ Some rest → IsLeftOf s rest
 done_left whole d rest e = absurd (nothing_is rest e)
 done_left (absent files this that) d rest e = absurd (nothing_is rest e)
@@ -126,11 +117,7 @@ pub or_cases : (a b : Bool) → (a || b) ≡ true → (a ≡ true) ⊎ (b ≡ tr
 or_cases true b e = inl refl
 or_cases false b e = inr e
 
-three : (a b c : Bool) → (a && b && c) ≡ true → (a ≡ true) × (b ≡ true) × (c ≡ true)
-three true true c is = (refl, refl, is)
-three true false c is = absurd (false≢true is)
-three false b c is = absurd (false≢true is)
-
+-- an own file of a script is the module's
 pub own_listed : (fetch own : List ℕ) (s : Script) (f : ℕ) → files_fit fetch own s ≡ true → own_in f s ≡ true → is_listed f own ≡ true
 own_listed fetch own whole f fit l = absurd (false≢true l)
 own_listed fetch own (absent files this that) f fit l = by (or_cases (own_in f this) (own_in f that) l) (own_listed fetch own this f (both (files_fit fetch own this) (files_fit fetch own that) fit).0) (own_listed fetch own that f (both (files_fit fetch own this) (files_fit fetch own that) fit).1)
@@ -143,10 +130,10 @@ own_listed fetch own (step stage (publishes g) rest) f fit l = by (nat_eq f g) r
     by : (b : Bool) → nat_eq f g ≡ b → (b || own_in f rest) ≡ true → (own_in f rest ≡ true → is_listed f own ≡ true) → is_listed f own ≡ true
     by true e l again = subst (λ k. is_listed k own ≡ true) (sym (eqb-true f g e)) (both (is_listed g own) (files_fit fetch own rest) fit).0
     by false e l again = again l
-own_listed fetch own (step stage (may_publish g) rest) f fit l = by (nat_eq f g) refl l (own_listed fetch own rest f (three (is_listed g own) (files_fit fetch own rest) (files_fit [] own rest) fit).1)
+own_listed fetch own (step stage (may_publish g) rest) f fit l = by (nat_eq f g) refl l (own_listed fetch own rest f (both3 (is_listed g own) (files_fit fetch own rest) (files_fit [] own rest) fit).1)
   where
     by : (b : Bool) → nat_eq f g ≡ b → (b || own_in f rest) ≡ true → (own_in f rest ≡ true → is_listed f own ≡ true) → is_listed f own ≡ true
-    by true e l again = subst (λ k. is_listed k own ≡ true) (sym (eqb-true f g e)) (three (is_listed g own) (files_fit fetch own rest) (files_fit [] own rest) fit).0
+    by true e l again = subst (λ k. is_listed k own ≡ true) (sym (eqb-true f g e)) (both3 (is_listed g own) (files_fit fetch own rest) (files_fit [] own rest) fit).0
     by false e l again = again l
 own_listed fetch own (step stage (fetches g) rest) f fit l = own_listed fetch own rest f (both (is_listed g fetch) (files_fit fetch own rest) fit).1 l
 own_listed fetch own (step stage (takes mode n) rest) f fit l = own_listed fetch own rest f fit l
@@ -156,24 +143,29 @@ own_listed fetch own (step stage (answers g) rest) f fit l = own_listed fetch ow
 
 -- ---- at the start
 
+-- plain steps leave each own file standing once
 plain_once : (stage : ℕ) (f : ℕ → Step) (rest : Script) → ((x : ℕ) (more : Script) → IsOnce more → IsOnce (step stage (f x) more)) → (xs : List ℕ) → IsOnce rest → IsOnce (steps stage f xs rest)
 plain_once stage f rest same [] o = o
 plain_once stage f rest same (x ∷ xs) o = same x (steps stage f xs rest) (plain_once stage f rest same xs o)
 
+-- a file that isn't listed isn't among further own files
 none_own : (f : ℕ) (xs : List ℕ) → AllByRecursion (λ y. nat_eq f y ≡ false) xs → own_in f (steps 6 may_publish xs (step 6 frees whole)) ≡ false
 none_own f [] all = refl
 none_own f (x ∷ xs) all = rw all.0 (none_own f xs all.1)
 
+-- further own files stand once
 may_once : (xs : List ℕ) → IsDistinct nat_eq xs → IsOnce (steps 6 may_publish xs (step 6 frees whole))
 unfolding IsDistinct
 may_once [] d = tt
 may_once (x ∷ xs) d = (none_own x xs d.0, may_once xs d.1)
 
+-- so do own files
 own_once : (own : List ℕ) → IsDistinct nat_eq own → IsOnce (own_script own)
 unfolding IsDistinct
 own_once [] d = tt
 own_once (pom ∷ others) d = (none_own pom others d.0, may_once others d.1)
 
+-- so they do in installing
 install_once : (m : ModuleOutline) → IsDistinct nat_eq m.own → IsOnce (install_script m)
 install_once m d = by m.installs
   where
@@ -181,13 +173,16 @@ install_once m d = by m.installs
     by true = own_once m.own d
     by false = tt
 
+-- and behind reading
 read_once : (m : ModuleOutline) → IsDistinct nat_eq m.own → IsOnce (read_script m)
 read_once m d = plain_once 4 reads (release_script m) (λ x more o. o) m.reads (plain_once 5 answers (install_script m) (λ x more o. o) (below m.goals) (install_once m d))
 
+-- and in a module's script
 start_once : (m : ModuleOutline) → IsDistinct nat_eq m.own → IsOnce (script_of m)
 start_once m d =
     plain_once 2 (takes Shared) (choice_script m) (λ x more o. o) m.batch
     (plain_once 3 (takes Exclusive) (steps 3 fetches m.fetch (read_script m)) (λ x more o. o) m.batch (plain_once 3 fetches (read_script m) (λ x more o. o) m.fetch (read_once m d)), read_once m d)
 
+-- so a script begins with each own file once
 pub begin_once : (m : ModuleOutline) → IsDistinct nat_eq m.own → IsOnce (script_of m) × ((f : ℕ) → own_in f (script_of m) ≡ true → is_listed f m.own ≡ true)
 begin_once m d = (start_once m d, λ f l. own_listed m.fetch m.own (script_of m) f (start_fit m) l)

@@ -3,7 +3,7 @@ use Rattle.std.proofs.Common.{◌≡◌, ℕ, ◌⊎◌, inl, inr, Bool, true, f
 use Rattle.std.specs.List.{list_any}
 use Rattle.std.specs.Option.{option_map_or}
 use Rattle.std.proofs.lemmas.Bool.{eqb-true, false≢true}
-use Rattle.std.proofs.lemmas.List.{append_assoc, get_or-set_other, get_or-set_same, length-set}
+use Rattle.std.proofs.lemmas.List.{append-nil, append_assoc, get_or-set_other, get_or-set_same, length-set}
 use Rattle.event_core.specs.declared.deed.Deed.{Deed}
 use Rattle.event_core.specs.declared.deed.Deed.TheVariants as deed
 use Rattle.build_core.specs.declared.ending.Ending.{Ending}
@@ -32,10 +32,12 @@ use Rattle.event_core.proofs.Fits.{one_more, same_or_not}
 use Rattle.run_law.proofs.Published.{IsLeftOf, IsOnce, begin_once, done_left, done_own, own_in, own_listed, settled_left}
 use Rattle.run_law.proofs.Stored.{due_on, get_in, get_map, length_map}
 use Rattle.event_core.proofs.Ties.{any_idle, waits_alone}
+use Rattle.run_law.proofs.Basics.{or_false}
 
 abbrev pub is_put : List Event → ℕ → Bool
 is_put past f = list_any (publishes f) past
 
+-- what was put behind one event more
 put_more : (past : List Event) (e : Event) (f : ℕ) → is_put (past ++ e ∷ []) f ≡ (is_put past f || publishes f e)
 put_more [] e f = by (publishes f e)
   where
@@ -48,10 +50,7 @@ put_more (x ∷ past) e f = by (publishes f x) (put_more past e f)
     by true again = refl
     by false again = again
 
-append_nil : {X : Type 0} (xs : List X) → xs ++ [] ≡ xs
-append_nil [] = refl
-append_nil (x ∷ xs) = ap (λ t. x ∷ t) (append_nil xs)
-
+-- what was published is what was put
 put_is : (past : List RunEntry) (f : ℕ) → list_any (λ (e : RunEntry). publishes f e.event) past ≡ is_put (events_of past) f
 put_is [] f = refl
 put_is (e ∷ past) f = ap (λ b. publishes f e.event || b) (put_is past f)
@@ -67,9 +66,11 @@ IsNew P idle = Unit {0}
 IsNew P (off_course number file gathered) = Unit {0}
 IsNew P (on_course number script last) = IsOnce script × ((f : ℕ) → own_in f script ≡ true → P f ≡ false)
 
+-- what is left of a script is new too
 new_left : (P : ℕ → Bool) (s rest : Script) → IsLeftOf s rest → IsOnce s × ((f : ℕ) → own_in f s ≡ true → P f ≡ false) → IsOnce rest × ((f : ℕ) → own_in f rest ≡ true → P f ≡ false)
 new_left P s rest left new = (left.0 new.0, λ f l. new.1 f (left.1 f l))
 
+-- so is a course behind a deed
 new_deed : (P : ℕ → Bool) (there : List Bool) (held : List ℕ) (d : Deed) (answered : Option ℕ) (c : Course) → IsNew P c → IsNew P (after_deed there held d answered c)
 new_deed P there held d answered idle new = tt
 new_deed P there held d answered (off_course number file gathered) new = tt
@@ -79,6 +80,7 @@ new_deed P there held d answered (on_course number script last) new = by (done s
     by None e = new
     by (Some rest) e = new_left P rest (settled there (is_empty held) rest) (settled_left there (is_empty held) rest) (new_left P script rest (done_left script d rest e) new)
 
+-- and behind a free
 new_free : (P : ℕ → Bool) (o : Outline) (there : List Bool) (held : List ℕ) (c : Course) → IsNew P c → IsNew P (after_free o there held c)
 new_free P o there held idle new = tt
 new_free P o there held (off_course number file gathered) new = tt
@@ -88,6 +90,7 @@ new_free P o there held (on_course number script last) new = by (done script dee
     by None e = tt
     by (Some rest) e = new_left P rest (settled there (is_empty held) rest) (settled_left there (is_empty held) rest) (new_left P script rest (done_left script deed.Free rest e) new)
 
+-- it depends on what was put alone
 new_same : (P P' : ℕ → Bool) → ((f : ℕ) → P' f ≡ P f) → (c : Course) → IsNew P c → IsNew P' c
 new_same P P' same idle new = tt
 new_same P P' same (off_course number file gathered) new = tt
@@ -107,6 +110,7 @@ module _ (plan : Plan) (sound : IsSoundPlan plan) where
     waits : (number f : ℕ) (m : PlanModule) → slice_get plan.modules number ≡ Some m → is_waiting (progress_of now.progress number) ≡ true → is_own f m ≡ true → P f ≡ false
     courses : (w : ℕ) → IsNew P (course_of now w)
 
+  -- so does all of it
   same_new : (P P' : ℕ → Bool) (now : Standing) → ((f : ℕ) → P' f ≡ P f) → AreNew P now → AreNew P' now
   same_new P P' now same u = record {
     sized = u.sized;
@@ -124,6 +128,7 @@ module _ (plan : Plan) (sound : IsSoundPlan plan) where
       by (inr e) = absurd (false≢true (sym not ∙ sym (ap is_waiting e.1) ∙ waits))
 
   module _ (P : ℕ → Bool) (now : Standing) (s : Stands plan sound now) (u : AreNew P now) where
+    -- a course that begins is new
     begin_new : (w m : ℕ) → IsEnabled o now (event.Start w m) → IsNew P (on_course m (settled now.there (is_empty (held_by now w)) (start_of o m)) None)
     begin_new w m is =
         let long = length_map module_outline plan.modules in
@@ -135,6 +140,7 @@ module _ (plan : Plan) (sound : IsSoundPlan plan) where
         (first.0, λ f l. u.waits m f at.0 at.1 is.2 (first.1 f l)) in
         new_left P (start_of o m) (settled now.there (is_empty (held_by now w)) (start_of o m)) (settled_left now.there (is_empty (held_by now w)) (start_of o m)) here
 
+    -- what waits behind an end waited before
     ended_new : (w : ℕ) (e : Ending) (number : ℕ) → is_waiting (progress_of (ended (module_of (course_of now w)) e now.progress) number) ≡ true → is_waiting (progress_of now.progress number) ≡ true
     ended_new w e number = by (module_of (course_of now w))
       where
@@ -145,6 +151,7 @@ module _ (plan : Plan) (sound : IsSoundPlan plan) where
     -- ---- a publish
 
     module _ (w g : ℕ) (is : IsEnabled o now (event.Publish w g)) (P' : ℕ → Bool) (more : (f : ℕ) → P' f ≡ (P f || nat_eq g f)) where
+      -- another file isn't put
       not_put : (f : ℕ) → P f ≡ false → (f ≡ g → ⊥) → P' f ≡ false
       not_put f old other = more f ∙ ap (λ b. b || nat_eq g f) old ∙ by (nat_eq g f) refl
         where
@@ -152,12 +159,15 @@ module _ (plan : Plan) (sound : IsSoundPlan plan) where
           by false e = e
           by true e = absurd (other (sym (eqb-true g f e)))
 
+      -- where the worker is
       on : (number : ℕ) × (script : Script) × (last : Option ℕ) × (course_of now w ≡ on_course number script last)
       on = due_on (course_of now w) (deed.Publish g) is.2
 
+      -- and at which module
       mine : (m : PlanModule) × (slice_get plan.modules on.0 ≡ Some m) × (files_fit m.fetch (map (λ (x : OwnFile). x.file) m.own) on.1 ≡ true)
       mine = found plan sound now s w on.0 on.1 on.2 on.3
 
+      -- what it is to publish is new
       new : IsOnce on.1 × ((f : ℕ) → own_in f on.1 ≡ true → P f ≡ false)
       new = subst (IsNew P) on.3 (u.courses w)
 
@@ -177,6 +187,7 @@ module _ (plan : Plan) (sound : IsSoundPlan plan) where
           by (inl a) = false≢true (sym (sound.not_fetched g on.0 on.0 mine.0 mine.0 mine.1 mine.1 (own_listed mine.0.fetch (map (λ (x : OwnFile). x.file) mine.0.own) on.1 g mine.2 ((done_left on.1 (deed.Publish g) rest e).1 g l))) ∙ a)
           by (inr b) = false≢true (sym b.1 ∙ l)
 
+      -- so is what is left
       turned : List Bool → List ℕ → IsNew P' (after_deed (set now.there g true) (held_by now w) (deed.Publish g) None (course_of now w))
       turned a b = subst (λ c. IsNew P' (after_deed (set now.there g true) (held_by now w) (deed.Publish g) None c)) (sym on.3) (by (done on.1 (deed.Publish g)) refl (subst (λ c. is_due c (deed.Publish g) ≡ true) on.3 is.2))
         where
@@ -187,6 +198,7 @@ module _ (plan : Plan) (sound : IsSoundPlan plan) where
               new_left P' rest (settled (set now.there g true) (is_empty (held_by now w)) rest) (settled_left (set now.there g true) (is_empty (held_by now w)) rest)
               (left.0 new.0, λ f l. not_put f (new.1 f (left.1 f l)) (λ same. gone rest e (subst (λ k. own_in k rest ≡ true) same l)))
 
+      -- and the other workers' courses
       others : (v : ℕ) → (v ≡ w → ⊥) → (c : Course) → course_of now v ≡ c → IsNew P c → IsNew P' c
       others v other idle at old = tt
       others v other (off_course number file gathered) at old = tt
@@ -200,6 +212,7 @@ module _ (plan : Plan) (sound : IsSoundPlan plan) where
               let same = owner number his.0 his.1 (own_listed his.0.fetch (map (λ (x : OwnFile). x.file) his.0.own) script g his.2 l) in
               ap runner (sym (s.standing.tied.busy v number (ap module_of at)) ∙ ap (progress_of now.progress) same ∙ s.standing.tied.busy w on.0 (ap module_of on.3))
 
+      -- so all is new behind a publish
       publish_new : AreNew P' (after o now (event.Publish w g))
       unfolding after
       publish_new = record {
@@ -237,6 +250,7 @@ module _ (plan : Plan) (sound : IsSoundPlan plan) where
           by (inl a) true e = absurd (false≢true (sym (subst (IsAbsentAt now.there) on.3 (s.absent w) g a.0) ∙ u.there g e))
           by (inr b) true e = owned b (done on.1 (deed.Publish g)) refl (subst (λ c. is_due c (deed.Publish g) ≡ true) on.3 is.2)
 
+    -- and behind an event that publishes nothing
     quiet : (e : Event) → IsEnabled o now e → ((w f : ℕ) → e ≡ event.Publish w f → ⊥) → AreNew P (after o now e)
     unfolding after
     quiet (event.Start w m) is other = record { sized = u.sized; there = u.there; waits = λ number f x at waits own. u.waits number f x at (still_waits now.progress m (Running w) refl number waits) own; courses = at_place (IsNew P) now.courses w (on_course m (settled now.there (is_empty (held_by now w)) (start_of o m)) None) idle (begin_new w m is) u.courses }
@@ -252,10 +266,7 @@ module _ (plan : Plan) (sound : IsSoundPlan plan) where
     quiet (event.Answer w g) is other = record { sized = u.sized; there = u.there; waits = u.waits; courses = at_place (IsNew P) now.courses w (after_deed now.there (held_by now w) (deed.Answer g) (Some g) (course_of now w)) idle (new_deed P now.there (held_by now w) (deed.Answer g) (Some g) (course_of now w) (u.courses w)) u.courses }
     quiet (event.End w e) is other = record { sized = u.sized; there = u.there; waits = λ number f x at waits own. u.waits number f x at (ended_new w e number waits) own; courses = at_place (IsNew P) now.courses w idle idle tt u.courses }
 
-  or_false : (b : Bool) → (b || false) ≡ b
-  or_false true = refl
-  or_false false = refl
-
+  -- so behind each event
   new_after : (past : List Event) (e : Event) → Stands plan sound (standing_of o past) → AreNew (is_put past) (standing_of o past) → IsEnabled o (standing_of o past) e → AreNew (is_put (past ++ e ∷ [])) (after o (standing_of o past) e)
   new_after past (event.Publish w g) s u is = publish_new (is_put past) (standing_of o past) s u w g is (is_put (past ++ event.Publish w g ∷ [])) (put_more past (event.Publish w g))
   new_after past (event.Start w m) s u is = same_new (is_put past) (is_put (past ++ event.Start w m ∷ [])) (after o (standing_of o past) (event.Start w m)) (λ f. put_more past (event.Start w m) f ∙ or_false (is_put past f)) (quiet (is_put past) (standing_of o past) s u (event.Start w m) is (λ v f e. false≢true (ap is_publish e)))
@@ -266,12 +277,14 @@ module _ (plan : Plan) (sound : IsSoundPlan plan) where
   new_after past (event.Answer w n) s u is = same_new (is_put past) (is_put (past ++ event.Answer w n ∷ [])) (after o (standing_of o past) (event.Answer w n)) (λ f. put_more past (event.Answer w n) f ∙ or_false (is_put past f)) (quiet (is_put past) (standing_of o past) s u (event.Answer w n) is (λ v f e. false≢true (ap is_publish e)))
   new_after past (event.End w x) s u is = same_new (is_put past) (is_put (past ++ event.End w x ∷ [])) (after o (standing_of o past) (event.End w x)) (λ f. put_more past (event.End w x) f ∙ or_false (is_put past f)) (quiet (is_put past) (standing_of o past) s u (event.End w x) is (λ v f e. false≢true (ap is_publish e)))
 
+  -- and where nothing has happened
   new_first : AreNew (is_put []) (at_first o)
   new_first = record { sized = refl; there = λ f p. absurd (false≢true p); waits = λ number f m at waits own. refl; courses = λ w. subst (IsNew (is_put [])) (sym (any_idle o.workers w)) tt }
 
+  -- so behind every run
   new_all : (past events : List Event) → Stands plan sound (standing_of o past) → AreNew (is_put past) (standing_of o past) → IsRun o past events → AreNew (is_put (past ++ events)) (standing_of o (past ++ events))
   unfolding Enabled
-  new_all past [] s u run = subst (λ es. AreNew (is_put es) (standing_of o es)) (sym (append_nil past)) u
+  new_all past [] s u run = subst (λ es. AreNew (is_put es) (standing_of o es)) (sym (append-nil past)) u
   new_all past (e ∷ events) s u run =
       subst (λ es. AreNew (is_put es) (standing_of o es)) (append_assoc past (e ∷ []) events)
       (new_all (past ++ e ∷ []) events (subst (Stands plan sound) (sym (one_more o past e)) (stands_after plan sound (standing_of o past) e s run.0))

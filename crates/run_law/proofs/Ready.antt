@@ -22,17 +22,21 @@ use Rattle.run_law.proofs.Hand.{AreApart, len_is}
 use Rattle.run_law.proofs.Kept.{outputs_are}
 use Rattle.run_law.proofs.Once.{both, len_same, listed_first, listed_later}
 
+-- no more is not less
 pub le_lt : (a b : ℕ) → nat_le a b ≡ true → nat_lt b a ≡ false
 le_lt a b is = grind (arith, nat_tests)
 
+-- and what isn't no more is less
 pub not_le_lt : (a b : ℕ) → nat_le a b ≡ false → nat_lt b a ≡ true
 not_le_lt a b is = grind (arith, nat_tests)
 
+-- a file that is there is one of the list
 pub there_low : (there : List Bool) (f : ℕ) → is_there there f ≡ true → f < length there
 there_low [] f is = absurd (false≢true is)
 there_low (b ∷ there) zero is = omega arith
 there_low (b ∷ there) (suc f) is = let again = there_low there f is in omega (arith, again)
 
+-- what holds of all holds of each that is listed
 pub all_listed : (p : ℕ → Bool) (xs : List ℕ) → list_all p xs ≡ true → (x : ℕ) → is_listed x xs ≡ true → p x ≡ true
 all_listed p [] all x is = absurd (false≢true is)
 all_listed p (y ∷ xs) all x is = by (nat_eq y x) refl is (both (p y) (list_all p xs) all).0 (all_listed p xs (both (p y) (list_all p xs) all).1 x)
@@ -41,6 +45,7 @@ all_listed p (y ∷ xs) all x is = by (nat_eq y x) refl is (both (p y) (list_all
     by true e l here later = subst (λ z. p z ≡ true) (eqb-true y x e) here
     by false e l here later = later l
 
+-- where nothing passes a test nothing is found
 pub find_nothing : (p : ℕ → Bool) (xs : List ℕ) → ((x : ℕ) → is_listed x xs ≡ true → p x ≡ false) → find p xs ≡ None
 find_nothing p [] isnt = refl
 find_nothing p (x ∷ xs) isnt = ap (λ b. if b then Some x else find p xs) (isnt x (listed_first x xs)) ∙ find_nothing p xs (λ y l. isnt y (listed_later x y xs l))
@@ -56,18 +61,23 @@ module _ (plan : Plan) (start remote : Files) (apart : AreApart plan) (number : 
       (bytes, ap is_some (sym bytes) ∙ sym (stored.there f low) ∙ is)
 
   module _ (all : list_all (is_there (standing_of_run plan past).there) m.fetch ≡ true) where
+    -- each fetched file is there
     each : (f : ℕ) → is_listed f m.fetch ≡ true → is_there (standing_of_run plan past).there f ≡ true
     each f l = all_listed (is_there (standing_of_run plan past).there) m.fetch all f l
 
+    -- so none is missing
     pub all_had : (kept : List Answered) → missing_of plan (supply_of start remote kept) m.fetch ≡ None
     all_had kept = find_nothing (λ f. not (is_some (available plan (supply_of start remote kept) f))) m.fetch (λ f l. ap not (file_had f l (each f l)).1)
 
+    -- and the classpath has the length that is judged
     long_is : entries_len (map (path_entry plan (contents plan start past) (outputs_in plan past)) m.entries) ≡ total_len plan (supply_of start remote []) (outs plan (answers_in plan past)) m.entries
     long_is = len_is plan (supply_of start remote []) apart number m at (record { files = contents plan start past; states = []; outputs = outputs_in plan past }) (contents plan start past) (λ f l. (file_had f l (each f l)).0) m.entries backed
         ∙ len_same plan (supply_of start remote []) m (λ u. slice_index_or (outputs_in plan past) u []) (outs plan (answers_in plan past)) (λ u l. outputs_are plan past u) m.entries backed
 
+    -- so what is within the limit is judged within it
     pub within_is : IsWithin (stood plan (Some start) past number m) → nat_lt most_classpath (total_len plan (supply_of start remote []) (outs plan (answers_in plan past)) m.entries) ≡ false
     within_is is = le_lt (total_len plan (supply_of start remote []) (outs plan (answers_in plan past)) m.entries) most_classpath (subst (λ n. nat_le n most_classpath ≡ true) long_is is)
 
+    -- and what is beyond it beyond it
     pub beyond_is : IsBeyond (stood plan (Some start) past number m) → nat_lt most_classpath (total_len plan (supply_of start remote []) (outs plan (answers_in plan past)) m.entries) ≡ true
     beyond_is is = not_le_lt (total_len plan (supply_of start remote []) (outs plan (answers_in plan past)) m.entries) most_classpath (subst (λ n. nat_le n most_classpath ≡ false) long_is is)

@@ -50,14 +50,17 @@ module _ (plan : Plan) (fit : IsFitPlan plan) (owns : AreOwnsFit plan) (start mi
   abbrev two : Progress
   two = one_thread plan again
 
+  -- how the files of the first build stand
   left : IsLeft plan first (state_at one) (outputs_at one) one.files
   left = hand_left plan first fit owns
 
+  -- and those of the second
   left' : IsLeft plan again (state_at two) (outputs_at two) two.files
   left' = hand_left plan again fit owns
 
   -- ---- what can be had is the same
 
+  -- a fetched file can be had the same
   have_same : (f : ℕ) → IsFetchFile plan f → available plan again f ≡ available plan first f
   have_same f fetch = by (lies (name_of plan f))
     where
@@ -76,23 +79,28 @@ module _ (plan : Plan) (fit : IsFitPlan plan) (owns : AreOwnsFit plan) (start mi
       by (inr e) = ap (λ x. option_or x (remote_bytes remote (name_of plan f))) e ∙ at_end (is_some (file_at one.files (name_of plan f))) refl
 
   module _ (number : ℕ) (m : PlanModule) (at : slice_get plan.modules number ≡ Some m) where
+    -- so can each of a module's list
     have : (f : ℕ) → is_listed f m.fetch ≡ true → available plan again f ≡ available plan first f
     have f l = have_same f (number, m, at, l)
 
+    -- so the same is missing
     missing_same : missing_of plan again m.fetch ≡ missing_of plan first m.fetch
     missing_same = find_same (λ f. not (is_some (available plan again f))) (λ f. not (is_some (available plan first f))) m.fetch (λ f l. ap (λ o. not (is_some o)) (have f l))
 
+    -- and the same is reached
     prefix_same : (xs : List ℕ) → ((f : ℕ) → is_listed f xs ≡ true → is_listed f m.fetch ≡ true) → had_prefix plan again xs ≡ had_prefix plan first xs
     prefix_same [] sub = refl
     prefix_same (f ∷ xs) sub =
         ap (λ b. if is_some b then f ∷ had_prefix plan again xs else []) (have f (sub f (listed_first f xs)))
         ∙ ap (λ ys. if is_some (available plan first f) then f ∷ ys else []) (prefix_same xs (λ g l. sub g (listed_later f g xs l)))
 
+    -- an entry has the same length
     origin_again : (outputs : ℕ → List OwnBytes) (o : Origin) → is_backed m o ≡ true → origin_len plan again outputs o ≡ origin_len plan first outputs o
     origin_again outputs (origin.File f) is = ap bytes_len (have f is)
     origin_again outputs (origin.Module u s) is = refl
     origin_again outputs origin.Nothing is = refl
 
+    -- so has the classpath
     len_again : (outputs : ℕ → List OwnBytes) (entries : List Entry) → list_all (λ (e : Entry). is_backed m e.origin) entries ≡ true → total_len plan again outputs entries ≡ total_len plan first outputs entries
     len_again outputs [] is = refl
     len_again outputs (e ∷ entries) is =
@@ -105,6 +113,7 @@ module _ (plan : Plan) (fit : IsFitPlan plan) (owns : AreOwnsFit plan) (start mi
     fetch_again outputs None =
         ap (λ n. if nat_lt most_classpath n then record { state = state.Ended ending.ClasspathTooLarge; outputs = [] } else verdict_of_goals m (run_goals m.budget (said number) 0 m.goals [])) (len_again outputs m.entries (fit.backed number m at))
 
+    -- so each module is judged the same
     judge_again : (states : ℕ → State) (outputs : ℕ → List OwnBytes) → judge plan again states outputs number m ≡ judge plan first states outputs number m
     unfolding judge
     judge_again states outputs = by (find (λ u. not (is_built (states u))) m.upstream)
@@ -115,18 +124,22 @@ module _ (plan : Plan) (fit : IsFitPlan plan) (owns : AreOwnsFit plan) (start mi
 
   -- ---- endings
 
+  -- so the second build stands as judged for the first
   judged_again : AreJudged plan first (λ _. Unit {0}) (state_at two) (outputs_at two)
   judged_again number m at any = hand_judged plan again fit.apart fit.low fit.backed number m at tt ∙ judge_again number m at (state_at two) (outputs_at two)
 
+  -- a place below a module's is a module's
   real : (number u : ℕ) (m : PlanModule) → slice_get plan.modules number ≡ Some m → u < number → (n : PlanModule) × (slice_get plan.modules u ≡ Some n)
   real number u m at less = get_in plan.modules u (let low = in_list plan.modules number m at in omega (arith, less, low))
 
+  -- so both stand in one way
   pub ends_again : (number : ℕ) (m : PlanModule) → slice_get plan.modules number ≡ Some m → (state_at two number ≡ state_at one number) × (outputs_at two number ≡ outputs_at one number)
   ends_again number m at = judged_once plan first (λ _. Unit {0}) (state_at two) (state_at one) (outputs_at two) (outputs_at one) (λ k u n here l. (fit.low k u n here l, λ any. tt)) real fit.backed
       judged_again (hand_judged plan first fit.apart fit.low fit.backed) number m at tt
 
   -- ---- files
 
+  -- what a module reaches is the same
   prefix_of : (number : ℕ) (m : PlanModule) → slice_get plan.modules number ≡ Some m → had_prefix plan again m.fetch ≡ had_prefix plan first m.fetch
   prefix_of number m at = prefix_same number m at m.fetch (λ f l. l)
 
@@ -138,6 +151,7 @@ module _ (plan : Plan) (fit : IsFitPlan plan) (owns : AreOwnsFit plan) (start mi
       by (inl e) = e
       by (inr e) = e ∙ same
 
+  -- so the second build's files are in the closed form of the first
   left_again : IsLeft plan first (state_at two) (outputs_at two) two.files
   left_again = record {
     other = λ q apart. left'.other q apart ∙ mid_same q (left.other q apart);
@@ -180,5 +194,6 @@ module _ (plan : Plan) (fit : IsFitPlan plan) (owns : AreOwnsFit plan) (start mi
           ap (option_or (written f m (state_at two number) (outputs_at two number))) (e ∙ left.own number f m at mine ∙ ap (λ x. option_or x (file_at start (name_of plan f))) alike)
           ∙ put_again (written f m (state_at two number) (outputs_at two number)) (file_at start (name_of plan f))
 
+  -- so they are the same
   pub files_again : two.files ≡ one.files
   files_again = left_once plan first (state_at two) (state_at one) (outputs_at two) (outputs_at one) two.files one.files left_again left ends_again

@@ -15,6 +15,7 @@ use Rattle.run_law.proofs.Ended.{lt_is}
 use Rattle.run_law.proofs.Ready.{all_listed}
 use Rattle.run_law.proofs.Stored.{get_map}
 
+-- a text is the same as itself
 text_itself : (x : List ℕ) → same_text x x ≡ true
 text_itself [] = refl
 text_itself (n ∷ x) = by (nat_eq n n) (eq-eqb n n refl) (text_itself x)
@@ -23,11 +24,13 @@ text_itself (n ∷ x) = by (nat_eq n n) (eq-eqb n n refl) (text_itself x)
     by true e t = t
     by false e t = absurd (false≢true e)
 
+-- what differs from all differs from each
 all_apart : (x : List ℕ) (xs : List (List ℕ)) → AllByRecursion (λ y. same_text x y ≡ false) xs → (i : ℕ) → i < length xs → same_text x (get_or xs i []) ≡ false
 all_apart x [] all i low = absurd (omega (arith, low))
 all_apart x (y ∷ xs) all zero low = all.0
 all_apart x (y ∷ xs) all (suc i) low = all_apart x xs all.1 i (omega (arith, low))
 
+-- texts that differ do so at any two places
 before_apart : (xs : List (List ℕ)) → IsDistinct same_text xs → (i j : ℕ) → i < j → j < length xs → same_text (get_or xs i []) (get_or xs j []) ≡ false
 unfolding IsDistinct
 before_apart [] is i j less low = absurd (omega (arith, low))
@@ -35,6 +38,7 @@ before_apart (x ∷ xs) is i zero less low = absurd (omega (arith, less))
 before_apart (x ∷ xs) is zero (suc j) less low = all_apart x xs is.0 j (omega (arith, low))
 before_apart (x ∷ xs) is (suc i) (suc j) less low = before_apart xs is.1 i j (omega (arith, less)) (omega (arith, low))
 
+-- one number is below another, equal or above
 three : (i j : ℕ) → (i < j) ⊎ ((i ≡ j) ⊎ (j < i))
 three zero zero = inr (inl refl)
 three zero (suc j) = inl (omega arith)
@@ -47,6 +51,7 @@ three (suc i) (suc j) = by (three i j)
     by (inr (inr c)) = inr (inr (omega (arith, c)))
 
 module _ (plan : Plan) (sound : IsSoundPlan plan) where
+  -- the files of a sound plan have different names
   differ : FilesDiffer plan
   differ f g a b same = by (three f g)
     where
@@ -58,21 +63,25 @@ module _ (plan : Plan) (sound : IsSoundPlan plan) where
       by (inr (inl e)) = e
       by (inr (inr less)) = absurd (false≢true (sym (before_apart plan.files sound.files g f less a) ∙ ap (λ x. same_text x (name_of plan f)) (sym names) ∙ text_itself (name_of plan f)))
 
+  -- a fetched file is the plan's
   fetch_low : (f : ℕ) → IsFetchFile plan f → f < length plan.files
   fetch_low f x =
       let places = sound.places x.0 (module_outline x.1) (get_map module_outline plan.modules x.0 x.1 x.2) in
       let low = lt_is f (length plan.present) (all_listed (λ y. nat_lt y (length plan.present)) x.1.fetch places.fetch f x.3) in
       let sized = sound.present in omega (arith, low, sized)
 
+  -- so is an own file
   own_low : (f : ℕ) → IsOwnFile plan f → f < length plan.files
   own_low f x =
       let places = sound.places x.0 (module_outline x.1) (get_map module_outline plan.modules x.0 x.1 x.2) in
       let low = lt_is f (length plan.present) (all_listed (λ y. nat_lt y (length plan.present)) (module_outline x.1).own places.own f x.3) in
       let sized = sound.present in omega (arith, low, sized)
 
+  -- and no file is both
   own_apart : (f : ℕ) → IsFetchFile plan f → IsOwnFile plan f → ⊥
   own_apart f x y = false≢true (sym (sound.not_fetched f y.0 x.0 y.1 x.1 y.2 x.2 y.3) ∙ x.3)
 
+  -- so a sound plan is as the law asks
   pub sound_fit : IsFitPlan plan
   sound_fit = record {
     apart = λ f g x y. apart f g x y (eq_by_cmp (slice_cmp nat_cmp) (name_of plan f) (name_of plan g)) refl;

@@ -41,10 +41,7 @@ use Rattle.run_law.proofs.Hand.{AreApart}
 use Rattle.run_law.proofs.Kept.{has_more, other_answers}
 use Rattle.run_law.proofs.Ready.{all_had, within_is}
 use Rattle.run_law.proofs.Stored.{due_on, get_in, get_map, length_map}
-
-append-nil : {X : Type 0} (xs : List X) → xs ++ [] ≡ xs
-append-nil [] = refl
-append-nil (x ∷ xs) = ap (λ t. x ∷ t) (append-nil xs)
+use Rattle.std.proofs.lemmas.List.{append-nil}
 
 abbrev ended_list : Option ℕ → Ending → List Progress → List Progress
 ended_list found e progress = Standing.ended found e progress
@@ -57,6 +54,7 @@ abbrev ending_in : Progress → Ending
 ending_in (Ended e) = e
 ending_in other = ending.Memory
 
+-- numbers that differ are told apart
 apart_from : (k u : ℕ) → (k ≡ u → ⊥) → nat_eq k u ≡ false
 apart_from k u other = by (nat_eq k u) refl
   where
@@ -72,6 +70,7 @@ set_back ps m p isnt u e is = by (set_cases ps m p u)
     by (inl same) = sym same ∙ is
     by (inr here) = absurd (false≢true (sym isnt ∙ ap is_ended (sym here.1 ∙ is)))
 
+-- what is there, with its value
 is_some_at : {X : Type 0} (found : Option X) → is_some found ≡ true → (x : X) × (found ≡ Some x)
 is_some_at (Some x) is = (x, refl)
 is_some_at None is = absurd (false≢true is)
@@ -104,6 +103,7 @@ module _ (plan : Plan) (start remote : Files) (apart : AreApart plan) (present :
     pub place_of : (w k : ℕ) → module_of (course_of now w) ≡ Some k → (m : PlanModule) × (slice_get plan.modules k ≡ Some m)
     place_of w k is = let real = behind.standing.tied.real w k is in let long = length_map module_outline plan.modules in get_in plan.modules k (omega (arith, real, long))
 
+    -- what the row of an entry says of its worker's module
     pub behind_of : (w k : ℕ) (m : PlanModule) (e : Event) (what : Carried) → module_of (course_of now w) ≡ Some k → slice_get plan.modules k ≡ Some m → FitsBehind plan (Some start) hands past (record { event = e; carried = what }) (Some w) → FitsModule (stood plan (Some start) past k m) (hands w) (stage_at (course_of now w)) e what
     behind_of w k m e what is at fits =
         let one = subst (λ x. IfSome x (λ number. IfSome (slice_get plan.modules number) (λ m. FitsModule (stood plan (Some start) past number m) (hands w) (stage_at (course_of now w)) e what))) is fits in
@@ -114,12 +114,15 @@ module _ (plan : Plan) (start remote : Files) (apart : AreApart plan) (present :
       abbrev new : Answered
       new = record { «module» = k; goal = g; answer = answer }
 
+      -- the module runs
       runs : progress_of now.progress k ≡ Running w
       runs = behind.standing.tied.busy w k whose
 
+      -- what is over has the answers that it had
       same : (u : ℕ) → is_over (progress_of now.progress u) ≡ true → answer_at (old ++ new ∷ []) u ≡ answer_at old u
       same u over = other_answers old new u (apart_from k u (λ e. false≢true (sym (ap is_over runs) ∙ subst (λ x. is_over (progress_of now.progress x) ≡ true) (sym e) over)))
 
+      -- all its files are there
       all : list_all (is_there now.there) m.fetch ≡ true
       all =
           let on = due_on (course_of now w) (deed.Answer g) is.2 in
@@ -138,9 +141,11 @@ module _ (plan : Plan) (start remote : Files) (apart : AreApart plan) (present :
               publishing (deed.Publish f) = true
               publishing other = false
 
+      -- a begun module's classpath stays within the limit
       stays : (number : ℕ) (n : PlanModule) → slice_get plan.modules number ≡ Some n → is_begun (progress_of now.progress number) ≡ true → nat_lt most_classpath (total_len plan base (outs plan old) n.entries) ≡ false → nat_lt most_classpath (total_len plan base (outs plan (old ++ new ∷ [])) n.entries) ≡ false
       stays number n here begun fine = subst (λ l. nat_lt most_classpath l ≡ false) (sym (len_stays plan start remote apart present backed now old (old ++ new ∷ []) behind.ordered same number n here begun)) fine
 
+      -- an answer more leaves what is kept as judged
       one_answer : Holds (after o now (event.Answer w g)) (old ++ new ∷ [])
       unfolding after
       one_answer = (
@@ -165,11 +170,13 @@ module _ (plan : Plan) (start remote : Files) (apart : AreApart plan) (present :
               subst (λ (x : PlanModule). nat_lt most_classpath (total_len plan base (outs plan (old ++ new ∷ [])) x.entries) ≡ false) same
               (stays k m at (ap is_begun runs) (within_is plan start remote apart k m at (backed k m at) past behind.stored all within))
 
+    -- what may end is a module
     pub end_on : (c : Course) (e : Ending) → may_end_so o c e ≡ true → (k : ℕ) × (module_of c ≡ Some k)
     end_on idle e is = absurd (false≢true is)
     end_on (on_course k script last) e is = (k, refl)
     end_on (off_course k file gathered) e is = (k, refl)
 
+    -- an end leaves what has ended as judged
     one_end : (w : ℕ) (e : Ending) (what : Carried) → IsEnabled o now (event.End w e) → Fits plan (Some start) hands past (record { event = event.End w e; carried = what }) → AreEnded plan start remote (after o now (event.End w e)) old
     unfolding after
     one_end w e what is fits number m x at ended quiet =
@@ -186,6 +193,7 @@ module _ (plan : Plan) (start remote : Files) (apart : AreApart plan) (present :
             judged_end plan start remote apart present backed past behind number m at (hands w) (tells w) sized w x mine quiet
             (subst (λ y. may_end_so o (course_of now w) y ≡ true) alike is.3) (subst (λ y. ending_in_range o (course_of now w) y ≡ true) alike is.1) (subst (λ y. FitsEnd (stood plan (Some start) past number m) (hands w) y) alike fit)
 
+    -- so does each event
     pub kept_after : (e : Event) (what : Carried) → IsEnabled o now e → Fits plan (Some start) hands past (record { event = e; carried = what }) → Holds (after o now e) (old ++ kept_by plan past e what)
     unfolding after
     kept_after (event.Start w m) what is fits = plain (event.Start w m) is (set_back now.progress m (Running w) refl)

@@ -34,20 +34,24 @@ use Rattle.run_law.proofs.Complete.{IsStanding, by_entries, events_more, standin
 use Rattle.event_core.proofs.Fits.{fold_more, one_more, same_or_not}
 use Rattle.event_core.proofs.Weights.{nothing_is}
 
+-- an option without a value is none
 pub none_is : {X : Type 0} (o : Option X) → is_some o ≡ false → o ≡ None
 none_is None e = refl
 none_is (Some x) e = absurd (false≢true (sym e))
 
+-- there is an item at each place below the length
 pub get_in : {X : Type 0} (xs : List X) (i : ℕ) → i < length xs → (x : X) × (slice_get xs i ≡ Some x)
 get_in [] i low = absurd (omega (arith, low))
 get_in (x ∷ xs) zero low = (x, refl)
 get_in (x ∷ xs) (suc i) low = get_in xs i (omega (arith, low))
 
+-- what stands at a place of a mapped list
 pub get_map : {X Y : Type 0} (f : X → Y) (xs : List X) (i : ℕ) (x : X) → slice_get xs i ≡ Some x → slice_get (map f xs) i ≡ Some (f x)
 get_map f [] i x is = absurd (nothing_is x is)
 get_map f (y ∷ xs) zero x is = ap (λ o. Some (f (unwrap_or o y))) is
 get_map f (y ∷ xs) (suc i) x is = get_map f xs i x is
 
+-- mapping leaves the length
 pub length_map : {X Y : Type 0} (f : X → Y) (xs : List X) → length (map f xs) ≡ length xs
 length_map f [] = refl
 length_map f (x ∷ xs) = ap suc (length_map f xs)
@@ -64,6 +68,7 @@ module _ (plan : Plan) (supply : Supply) (differ : FilesDiffer plan) (own : OwnA
 
   -- a publish that is due
   module _ (now : Standing) (files : Files) (w f : ℕ) (bytes : List ℕ) (low : f < length plan.files) (stored : IsStored plan supply now files) where
+    -- another file has another name
     name_apart : (g : ℕ) → g < length plan.files → (g ≡ f → ⊥) → eq_by_cmp (slice_cmp nat_cmp) (name_of plan g) (name_of plan f) ≡ false
     name_apart g small other = by (eq_by_cmp (slice_cmp nat_cmp) (name_of plan g) (name_of plan f)) refl
       where
@@ -71,15 +76,19 @@ module _ (plan : Plan) (supply : Supply) (differ : FilesDiffer plan) (own : OwnA
         by false e = e
         by true e = absurd (other (differ g f small low e))
 
+    -- a put file is there
     file_here : file_at (finite.insert files (name_of plan f) bytes) (name_of plan f) ≡ Some bytes
     file_here = at_insert files (name_of plan f) bytes (name_of plan f) ∙ ap (λ b. cond b (Some bytes) (file_at files (name_of plan f))) (name_itself (name_of plan f))
 
+    -- other names stay
     file_there : (q : List ℕ) → eq_by_cmp (slice_cmp nat_cmp) q (name_of plan f) ≡ false → file_at (finite.insert files (name_of plan f) bytes) q ≡ file_at files q
     file_there q e = at_insert files (name_of plan f) bytes q ∙ ap (λ b. cond b (Some bytes) (file_at files q)) e
 
+    -- its mark is set
     set_here : is_there (set now.there f true) f ≡ true
     set_here = get_or-set_same now.there f true false (omega (arith, low, stored.sized))
 
+    -- so the repository stands as it is marked
     pub stored_more : (IsFetchFile plan f → available plan supply f ≡ Some bytes) → (next : Standing) → next.there ≡ set now.there f true → IsStored plan supply next (finite.insert files (name_of plan f) bytes)
     stored_more had next same = record {
       sized = ap length same ∙ length-set now.there f true ∙ stored.sized;
@@ -134,6 +143,7 @@ module _ (plan : Plan) (supply : Supply) (differ : FilesDiffer plan) (own : OwnA
       × ((number : ℕ) (m : PlanModule) (script : Script) (last : Option ℕ) → course_of now w ≡ on_course number script last → slice_get plan.modules number ≡ Some m → is_listed f m.fetch ≡ true → remote_bytes supply.remote (name_of plan f) ≡ Some bytes)
   Brings now other what = Unit {0}
 
+  -- so behind each event
   pub stored_after : (now : Standing) (files : Files) (e : Event) (what : Carried) → IsStanding o now → AreCoursesFit o now → length plan.present ≡ length plan.files → IsStored plan supply now files → IsEnabled o now e → Brings now e what → IsStored plan supply (after o now e) (put_carried plan files e what)
   unfolding after
   stored_after now files (event.Start w m) what standing courses sized stored is brings = stays now (after o now (event.Start w m)) files refl stored
@@ -148,6 +158,7 @@ module _ (plan : Plan) (supply : Supply) (differ : FilesDiffer plan) (own : OwnA
       subst (λ c. IsStored plan supply (after o now (event.Publish w f)) (put_carried plan files (event.Publish w f) c)) (sym brings.1)
       (stored_more now files w f brings.0 low stored (λ fetch. fetch_had now w f brings.0 low standing courses is.2 brings.2 fetch) (after o now (event.Publish w f)) refl)
 
+  -- and where nothing has happened
   pub stored_first : length plan.present ≡ length plan.files → IsStored plan supply (at_first o) supply.start
   stored_first sized = record {
     sized = sized;
@@ -172,6 +183,7 @@ module _ (plan : Plan) (supply : Supply) (differ : FilesDiffer plan) (own : OwnA
   abbrev pub AllTell : (ℕ → HandTold) → Type 0
   AllTell hands = (w : ℕ) → ((hands w).area ≡ true) × ((hands w).remote ≡ Some supply.remote)
 
+  -- what an entry that fits brings
   pub brings_of : (hands : ℕ → HandTold) → AllTell hands → (past : List RunEntry) (e : Event) (what : Carried) → Fits plan (Some supply.start) hands past (record { event = e; carried = what }) → Brings (standing_of_run plan past) e what
   brings_of hands tell past (event.Start w m) what fits = tt
   brings_of hands tell past (event.Skip m) what fits = tt
@@ -196,6 +208,7 @@ module _ (plan : Plan) (supply : Supply) (differ : FilesDiffer plan) (own : OwnA
             subst (λ x. IfSome x (λ remote. TellsBytes (carried.Published bytes) (remote_bytes remote (name_of plan f)))) (tell w).1 four,
       )
 
+  -- so behind one entry more
   more_behind : (hands : ℕ → HandTold) → AllTell hands → length plan.present ≡ length plan.files → (past : List RunEntry) (e : RunEntry) → HoldsBehind past → Enabled o (events_of past) e.event → Fits plan (Some supply.start) hands past e → HoldsBehind (past ++ e ∷ [])
   unfolding Enabled
   more_behind hands tell sized past e holds is fits =
@@ -208,6 +221,7 @@ module _ (plan : Plan) (supply : Supply) (differ : FilesDiffer plan) (own : OwnA
             (stored_after (standing_of_run plan past) (contents plan supply.start past) e.event e.carried holds.standing holds.courses sized holds.stored is (brings_of hands tell past e.event e.carried fits)));
       }
 
+  -- so behind every fitting run
   pub holds_behind : (hands : ℕ → HandTold) → AllTell hands → length plan.present ≡ length plan.files → (entries : List RunEntry) → IsRunOf plan entries → AllFit plan (Some supply.start) hands [] entries → HoldsBehind entries
   holds_behind hands tell sized entries run fits =
       by_entries plan supply.start hands HoldsBehind (more_behind hands tell sized) [] entries

@@ -17,6 +17,7 @@ use Rattle.event_core.specs.Worlds.{AllFit, Fits, FitsBehind, FitsModule, HandTo
 use Rattle.run_law.proofs.Complete.{events_more}
 use Rattle.event_core.proofs.Weights.{nothing_is}
 
+-- options with equal values have equal values
 some_is : (a b : ℕ) → ◌≡◌ {A = Option ℕ} (Some a) (Some b) → a ≡ b
 some_is a b e = ap (λ o. unwrap_or o 0) e
 
@@ -36,6 +37,7 @@ module _ (g : Given) where
   abbrev pub told : ℕ → HandTold
   told w = if nat_lt w g.plan.workers then g.hands w else record { remote = Some g.remote; area = true; gate = None }
 
+  -- these hands all tell
   pub all_told : AllTell g → (w : ℕ) → ((told w).area ≡ true) × ((told w).remote ≡ Some g.remote)
   all_told tell w = by (nat_lt w g.plan.workers) refl
     where
@@ -46,9 +48,11 @@ module _ (g : Given) where
           is_low e = ltb-true w g.plan.workers e
       by false e = rw e (refl, refl)
 
+  -- a worker's hand is its own
   same_hand : (w : ℕ) → w < g.plan.workers → g.hands w ≡ told w
   same_hand w low = sym (ap (λ b. if b then g.hands w else record { remote = Some g.remote; area = true; gate = None }) (lt-ltb w g.plan.workers low))
 
+  -- so what fits by the one fits by the others
   fits_told : (past : List RunEntry) (e : RunEntry) → Enabled (outline_of g.plan) (events_of past) e.event → Fits g.plan (Some g.start) g.hands past e → Fits g.plan (Some g.start) told past e
   unfolding Enabled
   fits_told past e is fits = by (worker_of e.event) (λ w whose. same_hand w (worker_low (outline_of g.plan) (standing_of (outline_of g.plan) (events_of past)) e.event w is whose)) fits
@@ -62,9 +66,11 @@ module _ (g : Given) where
         subst (λ h. IfSome (module_by g.plan past w) (λ number. IfSome (slice_get g.plan.modules number) (λ m. FitsModule (stood g.plan (Some g.start) past number m) h (stage_at (course_of (standing_of_run g.plan past) w)) e.event e.carried))) (same w refl) x.1,
       )
 
+  -- so does each entry of a run
   told_from : (past run : List RunEntry) → IsRun (outline_of g.plan) (events_of past) (events_of run) → AllFit g.plan (Some g.start) g.hands past run → AllFit g.plan (Some g.start) told past run
   told_from past [] is fits = tt
   told_from past (e ∷ run) is fits = (fits_told past e is.0 fits.0, told_from (past ++ e ∷ []) run (subst (λ es. IsRun (outline_of g.plan) es (events_of run)) (sym (events_more past e)) is.1) fits.1)
 
+  -- so does a whole run
   pub fits_all : (run : List RunEntry) → IsFitting g run → AllFit g.plan (Some g.start) told [] run
   fits_all run fitting = told_from [] run fitting.follows fitting.fits

@@ -33,10 +33,12 @@ module _ (gav : Gav) where
   one_module P here zero m at = subst (P 0) (ap (λ o. unwrap_or o (jar gav)) at) here
   one_module P here (suc number) m at = absurd (nothing_is m at)
 
+  -- what holds of the one outline
   one_outline : (P : ℕ → ModuleOutline → Type 0) → P 0 (module_outline (jar gav)) → (number : ℕ) (m : ModuleOutline) → slice_get (outline_of (plan gav)).modules number ≡ Some m → P number m
   one_outline P here zero m at = subst (P 0) (ap (λ o. unwrap_or o (module_outline (jar gav))) at) here
   one_outline P here (suc number) m at = absurd (nothing_is m at)
 
+  -- the plan is sound
   sound : IsSoundPlan (plan gav)
   unfolding IsDistinct
   sound = record {
@@ -61,15 +63,17 @@ module _ (gav : Gav) where
     abbrev hands : ℕ → HandTold
     hands w = record { remote = Some remote; area = true; gate = None }
 
+    -- nothing is there at the start
     present : IsPresent (plan gav) start
     present zero low = sym (ap is_some pom)
     present (suc zero) low = sym (ap is_some main)
     present (suc (suc f)) low = absurd (omega (arith, low))
 
+    -- each entry fits
     fits : AllFit (plan gav) (Some start) hands [] (built gav)
     unfolding after
     fits = ((refl, tt), ((refl, (refl, refl, tt)), ((refl, (refl, refl, refl)), ((refl, ((refl, refl, refl), refl)), ((refl, ((refl, refl, refl), refl)), ((refl, tt), ((refl, (refl, refl, refl, refl)), tt)))))))
 
     -- the build by one hand puts the two files
-    one_hand : (one_thread (plan gav) (supply_of start remote (answers_in (plan gav) (built gav)))).files ≡ finite.insert (finite.insert start (65 ∷ []) (1 ∷ [])) (66 ∷ []) (7 ∷ [])
-    one_hand = sym (core_sound (plan gav) start remote sound present hands (λ w. (refl, refl)) (built gav) run fits (complete gav) (quiet gav) (answer_at (answers_in (plan gav) (built gav))) (extends_itself (answers_in (plan gav) (built gav))))
+    sequential : (one_thread (plan gav) (supply_of start remote (answers_in (plan gav) (built gav)))).files ≡ finite.insert (finite.insert start (65 ∷ []) (1 ∷ [])) (66 ∷ []) (7 ∷ [])
+    sequential = sym (core_sound (plan gav) start remote sound present hands (λ w. (refl, refl)) (built gav) run fits (complete gav) (quiet gav) (answer_at (answers_in (plan gav) (built gav))) (extends_itself (answers_in (plan gav) (built gav))))

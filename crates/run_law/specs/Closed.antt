@@ -1,4 +1,4 @@
--- How modules end, without an order of events: by what can be had, and by how their upstreams end. Own.
+-- How modules end, without an order of events: by what can be had, and by how their upstreams end. Project rule.
 use Rattle.std.specs.Prelude.{◌≡◌, ℕ, ◌+◌, Bool, true, false, not, nat_lt, List, [], ◌∷◌, find, slice_get, Option, Some, None, is_some, if◌then◌else◌}
 use Rattle.std.specs.Option.{option_or}
 use Rattle.std.specs.List.{slice_index_or}

@@ -1,4 +1,4 @@
--- A worked case, which the checker computes: the closed form beside the build by one hand, and an answer that carries nothing.
+-- A worked case, which the checker computes: the closed form beside the sequential build, and an answer that carries nothing.
 use Rattle.std.specs.Prelude.{◌≡◌, ℕ, true, false, List, [], ◌∷◌, Some, None}
 use Rattle.std.proofs.Common.{refl}
 use Rattle.std.proofs.lemmas.Bool.{false≢true}

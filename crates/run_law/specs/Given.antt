@@ -1,4 +1,4 @@
--- What a build on many workers is given, what its runs are to meet, and what stands behind them. Own.
+-- What a build on many workers is given, what its runs are to meet, and what stands behind them. Project rule.
 use Rattle.std.specs.Prelude.{◌≡◌, ℕ, ◌<◌, ◌⊎◌, Bool, true, false, ◌&&◌, ◌==◌, List, [], length, map, find, nat_le, slice_get, Option, Some, is_some}
 use Rattle.std.specs.List.{slice_index_or}
 use Rattle.name_locks.specs.Locks.{below}
@@ -61,7 +61,7 @@ is_answer number goal a = (a.«module» == number) && (a.goal == goal)
 abbrev pub Extends : List Answered → Answers → Type 0
 Extends kept said = (number goal : ℕ) (a : Answered) → find (is_answer number goal) kept ≡ Some a → said number goal ≡ a.answer
 
--- ---- what stands behind a run, and behind the build by one hand with these answers
+-- ---- what stands behind a run, and behind the sequential build with these answers
 
 abbrev pub state_after : Plan → List RunEntry → ℕ → State
 state_after plan run number = state_of (outline_of plan) (standing_of_run plan run).progress number
@@ -75,12 +75,12 @@ outputs_after plan run number = slice_index_or (outputs_in plan run) number []
 abbrev pub supply_by : (start remote : Files) → Answers → Supply
 supply_by start remote said = record { start = start; remote = remote; answers = said }
 
-abbrev pub one_hand : Given → Answers → Progress
-one_hand g said = one_thread g.plan (supply_by g.start g.remote said)
+abbrev pub sequential : Given → Answers → Progress
+sequential g said = one_thread g.plan (supply_by g.start g.remote said)
 
 -- ---- goals
 
--- the goals that the build by one hand comes to in a module that ends so
+-- the goals that the sequential build comes to in a module that ends so
 abbrev pub reaches : Ending → ℕ → Bool
 reaches ending.Built goal = true
 reaches ending.NoArtifact goal = true

@@ -10,12 +10,13 @@ ghost use Rattle.event_core.specs.SoundPlans.{IsSoundPlan};
 ghost use Rattle.run_law.specs.Closed.{AllJudged, AreJudged, outputs_at, state_at};
 ghost use Rattle.run_law.specs.Given.{Answers, Extends, Given, IsFitting, is_fault, outputs_after, state_after, supply_by};
 
-/// A law: the closed form is one. The build by one hand stands as it is judged; so does a complete fitting run, but for the modules
+/// A law: the closed form is one. The sequential build stands as it is judged; so does a complete fitting run, but for the modules
 /// that ended by a fault or for want of memory; and all modules of a sound plan stand as judged in one way alone. Does nothing. Project
 /// rule.
 pub fn one_closed_form()
     ensures hand { (plan : Plan) (supply : Supply) → IsSoundPlan plan
-        → AllJudged plan supply (state_at (one_thread plan supply)) (outputs_at (one_thread plan supply)) }
+        → AllJudged plan supply (state_at (one_thread plan supply))
+        (outputs_at (one_thread plan supply)) }
     ensures run { (g : Given) (run : List RunEntry) (said : Answers) → IsFitting g run
         → IsComplete g.plan run → Extends (answers_in g.plan run) said
         → AreJudged g.plan (supply_by g.start g.remote said)

@@ -1,4 +1,4 @@
-//! What the runs of a build on many workers come to: each complete, quiet, fitting run ends as the build by one hand does. Laws
+//! What the runs of a build on many workers come to: each complete, quiet, fitting run ends as the sequential build does. Laws
 //! alone: functions that do nothing, each with what holds as its clauses.
 #![tactic(auto)]
 

@@ -17,7 +17,8 @@ ghost use Rattle.run_law.specs.Given.{Given, IsBetween, IsFitting, outputs_after
 /// Does nothing. Project rule.
 pub fn nothing_goes_back()
     ensures files { (g : Given) (past rest : List RunEntry) → IsFitting g (past ++ rest)
-        → IsBetween g.start (contents g.plan g.start (past ++ rest)) (contents g.plan g.start past) }
+        → IsBetween g.start (contents g.plan g.start (past ++ rest))
+        (contents g.plan g.start past) }
     ensures once { (plan : Plan) (past : List RunEntry) (w file : ℕ) → IsSoundPlan plan
         → IsRunOf plan past → Enabled (outline_of plan) (events_of past) (Publish w file)
         → was_published past file ≡ false }

@@ -1,4 +1,4 @@
-// The build by one hand, once more.
+// The sequential build, once more.
 ghost use Rattle.std.specs.Prelude.{◌≡◌};
 ghost use Rattle.mvn_shared.specs.Files.{Files};
 ghost use Rattle.build_core.specs.declared.plan.Plan.{Plan};
@@ -6,7 +6,7 @@ ghost use Rattle.build_core.specs.OneThread.{one_thread};
 ghost use Rattle.event_core.specs.SoundPlans.{IsSoundPlan};
 ghost use Rattle.run_law.specs.Given.{Answers, IsBetween, supply_by};
 
-/// A law: over one sound plan, with the same remote and the same answers, the build by one hand from any files between the start and
+/// A law: over one sound plan, with the same remote and the same answers, the sequential build from any files between the start and
 /// its end, as a stop may leave them, ends as it did from the start: the same states, outputs and files. Does nothing. Project rule.
 pub fn again_the_same()
     ensures { (plan : Plan) (start between remote : Files) (said : Answers) → IsSoundPlan plan

@@ -67,7 +67,7 @@ returns-clause-always g c =
 pub returns-clause-once : goal.returns-clause-once
 returns-clause-once g c =
     once_of_adds c.args.plan.now c.args.module.now c.build_module-run.result.own (g.S.Shelf.told c.args.shelf.now) (g.S.Shelf.told c.build_module-run.new.shelf) (g.S.Shelf.told c.settle-settled.new.shelf) (is_some (g.S.Area.Area.contents c.args.hand.now.area)) c.settle-settled.result
-    c.requires.one.distinct c.build_module-run.ensures.adds c.settle-settled.ensures.ok c.settle-settled.ensures.err
+    (g.met.S.Shelf.settled_within c.args.shelf.now) c.requires.one.distinct c.build_module-run.ensures.adds c.settle-settled.ensures.ok c.settle-settled.ensures.err
 
 pub returns-clause-count : goal.returns-clause-count
 returns-clause-count g c =

@@ -11,7 +11,7 @@ returns g c =
     let profiles = c.as_slice-profiles.result.now in
     let same = c.as_slice-profiles.ensures ∙ c.deref.ensures in
     let kept = c.in_ok-places.ensures
-        ∙ ap (λ l. places_from (is_placed judge (list_any (λ b. b) l)) 0 (zip l profiles)) c.as_slice.ensures in
+    ∙ ap (λ l. places_from (is_placed judge (list_any (λ b. b) l)) 0 (zip l profiles)) c.as_slice.ensures in
     record {
       asks = record {
         tells = λ world fits. kept

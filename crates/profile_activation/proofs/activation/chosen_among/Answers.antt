@@ -14,10 +14,10 @@ loop-profile-preserved g c =
     let low : at < length profiles = c.loop-profile-test.true in
     let is : item ≡ get_or profiles at item = c.profile-item.is in
     let none_at = λ (none : asks_for_any j profiles ≡ false).
-        none_from (is_some j.place) (needs_file (on_by j) (off_by j)) profiles at item low is (c.loop-profile.invariant.further none) in
+    none_from (is_some j.place) (needs_file (on_by j) (off_by j)) profiles at item low is (c.loop-profile.invariant.further none) in
     let more = λ (world : List ℕ → Bool) (chosen : c.in_ok-chosen.chosen ≡ is_chosen_by j world item).
-        map_more (is_chosen_by j world) profiles at item c.loop-profile.list c.push.new.self (map (is_chosen_by j world) profiles) low is
-        (c.in_ok-push.ensures.ok ∙ ap (λ b. c.loop-profile.list ++ b ∷ []) chosen) in
+    map_more (is_chosen_by j world) profiles at item c.loop-profile.list c.push.new.self (map (is_chosen_by j world) profiles) low is
+    (c.in_ok-push.ensures.ok ∙ ap (λ b. c.loop-profile.list ++ b ∷ []) chosen) in
     record {
       tells = λ world fits. more world (c.in_ok-chosen.ensures.asks.tells world (c.loop-profile.invariant.fit world fits)) (c.loop-profile.invariant.tells world fits);
       alone = λ none world. more world (c.in_ok-chosen.ensures.alone.is (none_at none).0 world) (c.loop-profile.invariant.alone none world);

@@ -1,9 +1,7 @@
-// The machine and the files that the rows know.
-use crate::fields::{pairs, words};
-use goal_types::SourceFile;
+// The machine that the rows know.
+use crate::fields::pairs;
 use mvn_base::Machine;
-use mvn_shared::{Bytes, List, Mem, Text};
-use outside_mem::{Calls, MemTree};
+use mvn_shared::{Mem, Shared, Text};
 use std::alloc::Global;
 
 // What the system is.
@@ -28,8 +26,7 @@ fn linux(alloc: Global) -> Mem<System> {
     })
 }
 
-/// A Linux 5 for the JDK 17.0.2, with the project in `/w`, two variables and two properties of the system.
-pub(crate) fn machine(alloc: Global) -> Mem<Machine> {
+fn described(alloc: Global) -> Mem<Machine> {
     let root = Text::from_str(alloc, "/w")?;
     let jdk = Text::from_str(alloc, "17.0.2")?;
     let env = pairs(alloc, "E=${s} HOME=/h")?;
@@ -47,16 +44,8 @@ pub(crate) fn machine(alloc: Global) -> Mem<Machine> {
     })
 }
 
-/// The files at these paths. The first call fails where that is wanted.
-pub(crate) fn tree(alloc: Global, paths: &str, fails: bool) -> Mem<MemTree<Calls>> {
-    let mut files = List::new(alloc);
-    for path in words(alloc, paths)?.into_vec() {
-        let bytes = Bytes::of(Vec::new(alloc));
-        files.push(SourceFile { path, bytes })?;
-    }
-    let mut failing = List::new(alloc);
-    if fails {
-        failing.push(0u64)?;
-    }
-    MemTree::new(alloc, files, &failing)
+/// A Linux 5 for the JDK 17.0.2, with the project in `/w`, two variables and two properties of the system.
+pub fn machine(alloc: Global) -> Mem<Shared<Machine>> {
+    let machine = described(alloc)?;
+    Shared::new(alloc, machine)
 }

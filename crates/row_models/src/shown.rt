@@ -1,10 +1,11 @@
 // A model as one text, field by field.
 use model_types::{
-    Activation, Build, BuildBase, Coordinates, Dependency, Execution, ModelBase, Os, Outputs,
-    Parent, Plugin, Profile, Property, RawModel, Sources,
+    Activation, Build, BuildBase, Coordinates, Dependency, Exclusion, Execution, ModelBase, Os,
+    Outputs, Parent, Plugin, Profile, Property, RawModel, Sources,
 };
 use mvn_base::{Gav, Pair, PomId, Setting};
 use mvn_shared::{List, Mem, Shared, Text};
+use std::alloc::Global;
 
 fn push_text(shown: &mut String, label: &str, text: &Text) -> Mem<()> {
     shown.push_str(label)?;
@@ -20,7 +21,7 @@ fn push_option(shown: &mut String, label: &str, text: &Option<Text>) -> Mem<()> 
 }
 
 /// Texts, each behind a label.
-pub(crate) fn push_texts(shown: &mut String, label: &str, texts: &List<Text>) -> Mem<()> {
+pub fn push_texts(shown: &mut String, label: &str, texts: &List<Text>) -> Mem<()> {
     for text in texts.as_slice() {
         push_text(shown, label, text)?;
     }
@@ -34,7 +35,7 @@ fn push_gav(shown: &mut String, gav: &Gav) -> Mem<()> {
 }
 
 /// Names and their values.
-pub(crate) fn push_pairs(shown: &mut String, pairs: &List<Pair>) -> Mem<()> {
+pub fn push_pairs(shown: &mut String, pairs: &List<Pair>) -> Mem<()> {
     for pair in pairs.as_slice() {
         push_text(shown, " $", &pair.name)?;
         push_text(shown, "=", &pair.value)?;
@@ -45,7 +46,7 @@ pub(crate) fn push_pairs(shown: &mut String, pairs: &List<Pair>) -> Mem<()> {
 fn push_setting(shown: &mut String, mark: &str, setting: &Setting) -> Mem<()> {
     push_text(shown, mark, &setting.name)?;
     push_text(shown, "'", &setting.text)?;
-    shown.push('\'')?;
+    shown.push_str("'")?;
     Ok(())
 }
 
@@ -67,11 +68,19 @@ fn push_second(shown: &mut String, settings: &List<Setting>) -> Mem<()> {
 }
 
 /// Settings and those in them, three levels deep.
-pub(crate) fn push_settings(shown: &mut String, settings: &List<Setting>) -> Mem<()> {
+pub fn push_settings(shown: &mut String, settings: &List<Setting>) -> Mem<()> {
     for setting in settings.as_slice() {
         push_setting(shown, " <", setting)?;
         push_second(shown, &setting.children)?;
-        shown.push('>')?;
+        shown.push_str(">")?;
+    }
+    Ok(())
+}
+
+fn push_exclusions(shown: &mut String, exclusions: &List<Exclusion>) -> Mem<()> {
+    for exclusion in exclusions.as_slice() {
+        push_text(shown, " -", &exclusion.group)?;
+        push_text(shown, ":", &exclusion.artifact)?;
     }
     Ok(())
 }
@@ -81,11 +90,7 @@ fn push_stated(shown: &mut String, dependency: &Dependency) -> Mem<()> {
     push_option(shown, " v=", &dependency.version)?;
     push_option(shown, " scope=", &dependency.scope)?;
     push_text(shown, " optional=", &dependency.optional)?;
-    for exclusion in dependency.exclusions.as_slice() {
-        push_text(shown, " -", &exclusion.group)?;
-        push_text(shown, ":", &exclusion.artifact)?;
-    }
-    Ok(())
+    push_exclusions(shown, &dependency.exclusions)
 }
 
 fn push_dependency(shown: &mut String, dependency: &Dependency) -> Mem<()> {
@@ -97,7 +102,7 @@ fn push_dependency(shown: &mut String, dependency: &Dependency) -> Mem<()> {
 }
 
 /// Dependencies, each behind a label with a bracket.
-pub(crate) fn push_dependencies(
+pub fn push_dependencies(
     shown: &mut String,
     label: &str,
     list: &List<Shared<Dependency>>,
@@ -105,7 +110,7 @@ pub(crate) fn push_dependencies(
     for dependency in list.as_slice() {
         shown.push_str(label)?;
         push_dependency(shown, dependency)?;
-        shown.push(']')?;
+        shown.push_str("]")?;
     }
     Ok(())
 }
@@ -123,33 +128,34 @@ fn push_execution(shown: &mut String, execution: &Execution) -> Mem<()> {
     push_texts(shown, " goal=", &execution.goals)?;
     push_own(shown, execution.inherited)?;
     push_settings(shown, &execution.configuration)?;
-    shown.push('}')?;
+    shown.push_str("}")?;
+    Ok(())
+}
+
+fn push_executions(shown: &mut String, executions: &List<Shared<Execution>>) -> Mem<()> {
+    for execution in executions.as_slice() {
+        push_execution(shown, execution)?;
+    }
     Ok(())
 }
 
 /// A plugin.
-pub(crate) fn push_plugin(shown: &mut String, plugin: &Plugin) -> Mem<()> {
+pub fn push_plugin(shown: &mut String, plugin: &Plugin) -> Mem<()> {
     push_text(shown, "", &plugin.group)?;
     push_text(shown, ":", &plugin.artifact)?;
     push_option(shown, " v=", &plugin.version)?;
     push_own(shown, plugin.inherited)?;
     push_dependencies(shown, " [", &plugin.dependencies)?;
-    for execution in plugin.executions.as_slice() {
-        push_execution(shown, execution)?;
-    }
+    push_executions(shown, &plugin.executions)?;
     push_settings(shown, &plugin.configuration)
 }
 
 /// Plugins, each behind a label with a bracket.
-pub(crate) fn push_plugins(
-    shown: &mut String,
-    label: &str,
-    plugins: &List<Shared<Plugin>>,
-) -> Mem<()> {
+pub fn push_plugins(shown: &mut String, label: &str, plugins: &List<Shared<Plugin>>) -> Mem<()> {
     for plugin in plugins.as_slice() {
         shown.push_str(label)?;
         push_plugin(shown, plugin)?;
-        shown.push(']')?;
+        shown.push_str("]")?;
     }
     Ok(())
 }
@@ -169,53 +175,78 @@ fn push_sources(shown: &mut String, sources: &Sources) -> Mem<()> {
 }
 
 /// The plugins of a build, and those that it manages.
-pub(crate) fn push_build_base(shown: &mut String, managed: &str, base: &BuildBase) -> Mem<()> {
+pub fn push_build_base(shown: &mut String, managed: &str, base: &BuildBase) -> Mem<()> {
     push_plugins(shown, " plugin[", &base.plugins)?;
     push_plugins(shown, managed, &base.managed_plugins)
 }
 
-/// A build.
-pub(crate) fn push_build(shown: &mut String, build: &Build) -> Mem<()> {
-    push_outputs(shown, &build.outputs)?;
-    push_sources(shown, &build.sources)?;
-    push_build_base(shown, " managed[", &build.base)?;
-    for extension in build.extensions.as_slice() {
+fn push_extensions(shown: &mut String, extensions: &List<Gav>) -> Mem<()> {
+    for extension in extensions.as_slice() {
         shown.push_str(" extension=")?;
         push_gav(shown, extension)?;
     }
     Ok(())
 }
 
-fn push_property(shown: &mut String, property: &Property) -> Mem<()> {
-    push_text(shown, " property=", &property.name)?;
-    push_option(shown, ":", &property.value)
+/// A build.
+pub fn push_build(shown: &mut String, build: &Build) -> Mem<()> {
+    push_outputs(shown, &build.outputs)?;
+    push_sources(shown, &build.sources)?;
+    push_build_base(shown, " managed[", &build.base)?;
+    push_extensions(shown, &build.extensions)
 }
 
-fn push_os(shown: &mut String, os: &Os) -> Mem<()> {
+fn push_default(shown: &mut String, by_default: bool) -> Mem<()> {
+    if by_default {
+        shown.push_str(" default")?;
+    }
+    Ok(())
+}
+
+fn push_property(shown: &mut String, property: &Option<Property>) -> Mem<()> {
+    match property {
+        Some(property) => {
+            push_text(shown, " property=", &property.name)?;
+            push_option(shown, ":", &property.value)
+        }
+        None => Ok(()),
+    }
+}
+
+fn push_system(shown: &mut String, os: &Os) -> Mem<()> {
     push_option(shown, " os=", &os.name)?;
     push_option(shown, " family=", &os.family)?;
     push_option(shown, " arch=", &os.arch)?;
     push_option(shown, " os_version=", &os.version)
 }
 
-fn push_activation(shown: &mut String, activation: &Activation) -> Mem<()> {
-    if activation.by_default {
-        shown.push_str(" default")?;
+fn push_os(shown: &mut String, os: &Option<Os>) -> Mem<()> {
+    match os {
+        Some(os) => push_system(shown, os),
+        None => Ok(()),
     }
-    if let Some(property) = &activation.property {
-        push_property(shown, property)?;
-    }
+}
+
+// The criteria of a profile.
+fn push_criteria(shown: &mut String, activation: &Activation) -> Mem<()> {
+    shown.push_str(" when")?;
+    push_default(shown, activation.by_default)?;
+    push_property(shown, &activation.property)?;
     push_option(shown, " exists=", &activation.exists)?;
     push_option(shown, " missing=", &activation.missing)?;
     push_option(shown, " jdk=", &activation.jdk)?;
-    if let Some(os) = &activation.os {
-        push_os(shown, os)?;
+    push_os(shown, &activation.os)
+}
+
+fn push_activation(shown: &mut String, activation: &Option<Shared<Activation>>) -> Mem<()> {
+    match activation {
+        Some(activation) => push_criteria(shown, activation),
+        None => Ok(()),
     }
-    Ok(())
 }
 
 /// What a project and a profile may both state.
-pub(crate) fn push_base(shown: &mut String, base: &ModelBase) -> Mem<()> {
+pub fn push_base(shown: &mut String, base: &ModelBase) -> Mem<()> {
     push_texts(shown, " module=", &base.modules)?;
     push_pairs(shown, &base.properties)?;
     push_dependencies(shown, " managed[", &base.managed)?;
@@ -224,13 +255,10 @@ pub(crate) fn push_base(shown: &mut String, base: &ModelBase) -> Mem<()> {
 
 fn push_profile(shown: &mut String, profile: &Profile) -> Mem<()> {
     push_text(shown, " profile{", &profile.id)?;
-    if let Some(activation) = &profile.activation {
-        shown.push_str(" when")?;
-        push_activation(shown, activation)?;
-    }
+    push_activation(shown, &profile.activation)?;
     push_base(shown, &profile.base)?;
     push_build_base(shown, " managed_plugin[", &profile.build)?;
-    shown.push('}')?;
+    shown.push_str("}")?;
     Ok(())
 }
 
@@ -254,17 +282,33 @@ fn push_coordinates(shown: &mut String, coordinates: &Coordinates) -> Mem<()> {
     push_text(shown, " packaging=", &coordinates.packaging)
 }
 
-/// A model.
-pub(crate) fn push_model(shown: &mut String, model: &RawModel) -> Mem<()> {
-    push_pom(shown, &model.pom)?;
-    if let Some(parent) = &model.parent {
-        push_parent(shown, parent)?;
-    }
-    push_coordinates(shown, &model.coordinates)?;
-    push_base(shown, &model.base)?;
-    push_build(shown, &model.build)?;
-    for profile in model.profiles.as_slice() {
+fn push_profiles(shown: &mut String, profiles: &List<Profile>) -> Mem<()> {
+    for profile in profiles.as_slice() {
         push_profile(shown, profile)?;
     }
     Ok(())
+}
+
+// The name of a model and its parent.
+fn push_names(shown: &mut String, model: &RawModel) -> Mem<()> {
+    push_pom(shown, &model.pom)?;
+    match &model.parent {
+        Some(parent) => push_parent(shown, parent),
+        None => Ok(()),
+    }
+}
+
+fn push_model(shown: &mut String, model: &RawModel) -> Mem<()> {
+    push_names(shown, model)?;
+    push_coordinates(shown, &model.coordinates)?;
+    push_base(shown, &model.base)?;
+    push_build(shown, &model.build)?;
+    push_profiles(shown, &model.profiles)
+}
+
+/// A model as one text.
+pub fn model_text(alloc: Global, model: &RawModel) -> Mem<String> {
+    let mut shown = String::new(alloc);
+    push_model(&mut shown, model)?;
+    Ok(shown)
 }

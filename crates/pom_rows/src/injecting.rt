@@ -1,0 +1,43 @@
+// What the profiles of a POM add.
+use model_types::RawModel;
+use mvn_base::ModelError;
+use mvn_shared::{Mem, Shared};
+use profile_injection::inject;
+use row_models::{behind, field, push_base, push_build_base};
+use std::alloc::Global;
+
+// The words of a field as numbers.
+fn numbers(alloc: Global, field: &str) -> Mem<Vec<u32>> {
+    let mut list = Vec::new(alloc);
+    for word in field.split_whitespace() {
+        let number = word.parse::<u32>().unwrap_or(0);
+        list.push(number)?;
+    }
+    Ok(list)
+}
+
+// A POM with its profiles at some places.
+fn injected(alloc: Global, raw: &RawModel, places: &[u32]) -> Mem<Shared<RawModel>> {
+    let model = inject(alloc, raw, places)?;
+    Shared::new(alloc, model)
+}
+
+// What a POM and its profiles both state.
+fn shown(alloc: Global, model: &RawModel) -> Mem<String> {
+    let mut shown = String::new(alloc);
+    push_base(&mut shown, &model.base)?;
+    push_build_base(&mut shown, " managed_plugin[", &model.build.base)?;
+    Ok(shown)
+}
+
+fn told_of_model(alloc: Global, raw: &RawModel, field: &str) -> Mem<String> {
+    let places = numbers(alloc, field)?;
+    let model = injected(alloc, raw, places.as_slice())?;
+    shown(alloc, &model)
+}
+
+/// What a POM states with its profiles at some places.
+pub(crate) fn told(alloc: Global, fields: &[&str]) -> Result<String, ModelError> {
+    let raw = behind(alloc, field(fields, 0))?;
+    Ok(told_of_model(alloc, &raw, field(fields, 1))?)
+}

@@ -1,0 +1,33 @@
+// The files that the rows know.
+use goal_types::SourceFile;
+use mvn_shared::{Bytes, List, Mem};
+use outside_mem::{Calls, MemTree};
+use row_models::words;
+use std::alloc::Global;
+
+// The files at these paths.
+fn files(alloc: Global, paths: &str) -> Mem<List<SourceFile>> {
+    let paths = words(alloc, paths)?;
+    let mut files = List::new(alloc);
+    for path in paths.into_vec() {
+        let bytes = Bytes::of(Vec::new(alloc));
+        files.push(SourceFile { path, bytes })?;
+    }
+    Ok(files)
+}
+
+// The numbers of the calls that fail.
+fn failing(alloc: Global, fails: bool) -> Mem<List<u64>> {
+    let mut failing = List::new(alloc);
+    if fails {
+        failing.push(0u64)?;
+    }
+    Ok(failing)
+}
+
+/// The files at these paths. The first call fails where that is wanted.
+pub(crate) fn tree(alloc: Global, paths: &str, fails: bool) -> Mem<MemTree<Calls>> {
+    let failing = failing(alloc, fails)?;
+    let files = files(alloc, paths)?;
+    MemTree::new(alloc, files, &failing)
+}

@@ -6,6 +6,8 @@ use Rattle.event_core.specs.declared.deed.Deed.{Deed}
 use Rattle.event_core.specs.declared.deed.Deed.TheVariants as deed
 use Rattle.event_core.specs.declared.script_place.ScriptPlace.{ScriptPlace}
 use Rattle.event_core.specs.declared.script_place.ScriptPlace.TheVariants as place
+use Rattle.event_core.specs.declared.rest.Rest.{Rest}
+use Rattle.event_core.specs.declared.rest.Rest.TheVariants.{From, Nothing}
 use Rattle.event_core.specs.declared.course.Course.{Course as KeptCourse}
 use Rattle.event_core.specs.declared.course.Course.TheVariants as kept
 use Rattle.event_core.specs.Climbing.{but}
@@ -37,6 +39,15 @@ HoldsBehind m (place.Answering i) held = held ≡ []
 HoldsBehind m place.Securing held = held ≡ []
 HoldsBehind m (place.Installing i) held = (held ≡ m.own_name ∷ []) ⊎ ((held ≡ []) × (length m.own ≤ i))
 HoldsBehind m place.Whole held = held ≡ []
+
+-- where this is left of its script, settled and directly behind a deed
+abbrev pub RestHolds : Rest → List ℕ → Type 0
+RestHolds Nothing held = Unit {0}
+RestHolds (From m p) held = HoldsAt m.now p held
+
+abbrev pub RestHoldsBehind : Rest → List ℕ → Type 0
+RestHoldsBehind Nothing held = Unit {0}
+RestHoldsBehind (From m p) held = HoldsBehind m.now p held
 
 -- of a worker that is at this: nothing is said where it left its script
 abbrev pub CourseHolds : Outline → KeptCourse → List ℕ → Type 0

@@ -10,6 +10,7 @@ pub mod HeldAt
 pub mod Kept
 pub mod Outlines
 pub mod RunExamples
+pub mod Rests
 pub mod Runs
 pub mod ScriptPlaces
 pub mod Scripts

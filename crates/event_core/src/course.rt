@@ -1,5 +1,5 @@
 // What a worker is at, and what may come next there.
-ghost use Rattle.std.specs.Prelude.{◌≡◌, ◌&&◌, ℕ, List, [], true, slice_get, Some, None, option_map, option_and_then};
+ghost use Rattle.std.specs.Prelude.{◌≡◌, ◌&&◌, nat_lt, ℕ, List, [], true, slice_get, Some, None, option_map, option_and_then};
 ghost use Rattle.event_core.specs.declared.outline.Outline.{Outline};
 ghost use Rattle.event_core.specs.Scripts.{done, head, is_gathered, is_to_install, may_end, published_by, read_by, settled, stage_of, wanted};
 ghost use Rattle.event_core.specs.Standing.{after_deed, after_free, goals_of, is_empty, module_of, on_course, start_of};
@@ -14,6 +14,7 @@ ghost use Rattle.event_core.specs.Kept.{course_at, script_at};
 
 use crate::deed::Deed;
 use crate::outline::Outline;
+use crate::rest::Rest;
 use crate::script_place::ScriptPlace;
 use build_core::Ending;
 
@@ -35,101 +36,13 @@ pub enum Course {
     },
 }
 
-fn done_at(outline: &Outline, number: u32, place: ScriptPlace, deed: Deed) -> Option<ScriptPlace>
-    ensures rest { option_map (script_at outline.now number) result ≡ done (script_at outline.now number place) deed }
-    ensures held { (held : List ℕ) (m : ModuleOutline) → slice_get outline.now.modules number ≡ Some m → HoldsAt m place held → (next : ScriptPlace) → result ≡ Some next → HoldsThen deed held (HoldsBehind m next) }
+// Whether a module has a goal of this number: none where there is no such module.
+fn has_goal(outline: &Outline, number: u32, goal: u32) -> bool
+    ensures { result ≡ nat_lt goal (goals_of outline.now number) }
 {
     match outline.modules.get(number as usize) {
-        Some(plan) => place.done(plan, deed),
-        None => None,
-    }
-}
-
-fn settled_at(
-    outline: &Outline,
-    there: &[bool],
-    empty: bool,
-    number: u32,
-    place: ScriptPlace,
-) -> ScriptPlace
-    ensures rest { script_at outline.now number result ≡ settled there.now empty (script_at outline.now number place) }
-    ensures held { (held : List ℕ) (m : ModuleOutline) → slice_get outline.now.modules number ≡ Some m → empty ≡ is_empty held → HoldsBehind m place held → HoldsAt m result held }
-{
-    match outline.modules.get(number as usize) {
-        Some(plan) => place.settled(plan, there, empty),
-        None => ScriptPlace::Whole,
-    }
-}
-
-fn stage_at(outline: &Outline, number: u32, place: ScriptPlace) -> u32
-    ensures { result ≡ stage_of (script_at outline.now number place) }
-{
-    match outline.modules.get(number as usize) {
-        Some(plan) => place.stage(plan),
-        None => 7,
-    }
-}
-
-fn wanted_at(outline: &Outline, number: u32, place: ScriptPlace) -> Option<u32>
-    ensures { result ≡ wanted (script_at outline.now number place) }
-{
-    match outline.modules.get(number as usize) {
-        Some(plan) => place.wanted(plan),
-        None => None,
-    }
-}
-
-fn read_at(outline: &Outline, number: u32, place: ScriptPlace) -> Option<u32>
-    ensures { result ≡ option_and_then read_by (head (script_at outline.now number place)) }
-{
-    match outline.modules.get(number as usize) {
-        Some(plan) => place.to_read(plan),
-        None => None,
-    }
-}
-
-fn published_at(outline: &Outline, number: u32, place: ScriptPlace) -> Option<u32>
-    ensures { result ≡ option_and_then published_by (head (script_at outline.now number place)) }
-{
-    match outline.modules.get(number as usize) {
-        Some(plan) => place.to_publish(plan),
-        None => None,
-    }
-}
-
-fn gathered_at(outline: &Outline, number: u32, place: ScriptPlace) -> bool
-    ensures { result ≡ is_gathered (goals_of outline.now number) (script_at outline.now number place) }
-{
-    match outline.modules.get(number as usize) {
-        Some(plan) => place.is_gathered(plan),
-        None => true,
-    }
-}
-
-fn may_end_at(outline: &Outline, number: u32, place: ScriptPlace) -> bool
-    ensures { result ≡ may_end (script_at outline.now number place) }
-{
-    match outline.modules.get(number as usize) {
-        Some(plan) => place.may_end(plan),
-        None => true,
-    }
-}
-
-fn lacks_artifact_at(outline: &Outline, number: u32, place: ScriptPlace) -> bool
-    ensures { result ≡ (is_to_install (script_at outline.now number place) && needs_artifact outline.now number) }
-{
-    match outline.modules.get(number as usize) {
-        Some(plan) => place.is_to_install(plan) && plan.needs_artifact,
+        Some(plan) => (goal as usize) < plan.goals,
         None => false,
-    }
-}
-
-fn goals_of(outline: &Outline, number: u32) -> usize
-    ensures { result ≡ goals_of outline.now number }
-{
-    match outline.modules.get(number as usize) {
-        Some(plan) => plan.goals,
-        None => 0,
     }
 }
 
@@ -152,13 +65,14 @@ fn on_ends(
 ) -> bool
     ensures { result ≡ on_ends outline.now number (script_at outline.now number place) answered ending }
 {
+    let rest = Rest::of(outline, number, place);
     match ending {
-        Ending::Built => may_end_at(outline, number, place),
-        Ending::Missing(file) => is_this(wanted_at(outline, number, place), file),
-        Ending::ClasspathTooLarge => gathered_at(outline, number, place),
+        Ending::Built => rest.may_end(),
+        Ending::Missing(file) => is_this(rest.wanted(), file),
+        Ending::ClasspathTooLarge => rest.is_gathered(),
         Ending::Goal(goal) => is_this(answered, goal),
         Ending::OutputTooLarge(goal) => is_this(answered, goal),
-        Ending::NoArtifact => lacks_artifact_at(outline, number, place),
+        Ending::NoArtifact => rest.lacks_artifact(),
         Ending::Fault(_) => true,
         Ending::Memory => true,
     }
@@ -183,10 +97,10 @@ impl Course {
         ensures at { course_at outline.now result ≡ on_course number (settled there.now empty (start_of outline.now number)) None }
         ensures held { empty ≡ true → CourseHolds outline.now result [] }
     {
-        let place = settled_at(outline, there, empty, number, ScriptPlace::Sharing(0));
+        let rest = Rest::of(outline, number, ScriptPlace::Sharing(0));
         Course::On {
             module: number,
-            place,
+            place: rest.settled(there, empty),
             answered: None,
         }
     }
@@ -206,7 +120,7 @@ impl Course {
     {
         match self {
             Course::Idle => 1,
-            Course::On { module, place, .. } => stage_at(outline, module, place),
+            Course::On { module, place, .. } => Rest::of(outline, module, place).stage(),
             Course::Off { .. } => 7,
         }
     }
@@ -215,7 +129,9 @@ impl Course {
         ensures { result ≡ is_due (course_at outline.now self) deed }
     {
         match self {
-            Course::On { module, place, .. } => done_at(outline, module, place, deed).is_some(),
+            Course::On { module, place, .. } => Rest::of(outline, module, place)
+                .done(deed)
+                .is_some(),
             _ => false,
         }
     }
@@ -225,7 +141,7 @@ impl Course {
         ensures { result ≡ read_due (course_at outline.now self) }
     {
         match self {
-            Course::On { module, place, .. } => read_at(outline, module, place),
+            Course::On { module, place, .. } => Rest::of(outline, module, place).to_read(),
             _ => None,
         }
     }
@@ -235,7 +151,7 @@ impl Course {
         ensures { result ≡ publish_due (course_at outline.now self) }
     {
         match self {
-            Course::On { module, place, .. } => published_at(outline, module, place),
+            Course::On { module, place, .. } => Rest::of(outline, module, place).to_publish(),
             _ => None,
         }
     }
@@ -246,7 +162,7 @@ impl Course {
     {
         match self {
             Course::Idle => None,
-            Course::On { module, place, .. } => wanted_at(outline, module, place),
+            Course::On { module, place, .. } => Rest::of(outline, module, place).wanted(),
             Course::Off { missing, .. } => missing,
         }
     }
@@ -256,7 +172,7 @@ impl Course {
         ensures { result ≡ goal_in_range outline.now (course_at outline.now self) goal }
     {
         match self.module() {
-            Some(module) => (goal as usize) < goals_of(outline, module),
+            Some(module) => has_goal(outline, module, goal),
             None => true,
         }
     }
@@ -292,14 +208,16 @@ impl Course {
         ensures held { (before held : List ℕ) → CourseHolds outline.now self before → is_due (course_at outline.now self) deed ≡ true → IsHeldThen deed before held → empty ≡ is_empty held → CourseHolds outline.now result held }
     {
         match self {
-            Course::On { module, place, .. } => match done_at(outline, module, place, deed) {
-                Some(next) => Course::On {
-                    module,
-                    place: settled_at(outline, there, empty, module, next),
-                    answered: answer,
-                },
-                None => self,
-            },
+            Course::On { module, place, .. } => {
+                match Rest::of(outline, module, place).done(deed) {
+                    Some(next) => Course::On {
+                        module,
+                        place: next.settled(there, empty),
+                        answered: answer,
+                    },
+                    None => self,
+                }
+            }
             other => other,
         }
     }
@@ -310,18 +228,21 @@ impl Course {
         ensures held { (before : List ℕ) (n : ℕ) → CourseHolds outline.now self before → is_listed n before ≡ true → empty ≡ is_empty (but n before) → CourseHolds outline.now result (but n before) }
     {
         match self {
-            Course::On { module, place, .. } => match done_at(outline, module, place, Deed::Free) {
-                Some(next) => Course::On {
-                    module,
-                    place: settled_at(outline, there, empty, module, next),
-                    answered: None,
-                },
-                None => Course::Off {
-                    module,
-                    missing: wanted_at(outline, module, place),
-                    gathered: gathered_at(outline, module, place),
-                },
-            },
+            Course::On { module, place, .. } => {
+                let rest = Rest::of(outline, module, place);
+                match rest.done(Deed::Free) {
+                    Some(next) => Course::On {
+                        module,
+                        place: next.settled(there, empty),
+                        answered: None,
+                    },
+                    None => Course::Off {
+                        module,
+                        missing: rest.wanted(),
+                        gathered: rest.is_gathered(),
+                    },
+                }
+            }
             other => other,
         }
     }

@@ -15,6 +15,7 @@ mod moves;
 pub mod outline;
 pub mod progress;
 pub mod refused;
+pub mod rest;
 mod run;
 pub mod script_place;
 mod standing;
@@ -24,6 +25,3 @@ pub use outline::{ModuleOutline, Outline};
 pub use progress::Progress;
 pub use refused::NotEnabled;
 pub use run::Core;
-
-#[cfg(test)]
-mod tests;

@@ -77,7 +77,8 @@ impl Standing {
         number: u32,
     ) -> Option<NotEnabled>
         requires upstreams { self.now.modules.0 ≡ upstreams outline.now }
-        ensures { result ≡ start_cause outline.now (standing_in outline.now self.now) worker number }
+        ensures { result ≡ start_cause outline.now (standing_in outline.now self.now) worker
+            number }
     {
         if worker >= outline.workers {
             return Some(NotEnabled::Range(worker));
@@ -93,7 +94,8 @@ impl Standing {
 
     fn begin_cause(&self, outline: &Outline, worker: u32, number: u32) -> Option<NotEnabled>
         requires upstreams { self.now.modules.0 ≡ upstreams outline.now }
-        ensures { result ≡ begin_cause outline.now (standing_in outline.now self.now) worker number }
+        ensures { result ≡ begin_cause outline.now (standing_in outline.now self.now) worker
+            number }
     {
         match self.upstream_cause(outline, number) {
             Some(cause) => Some(cause),
@@ -103,7 +105,9 @@ impl Standing {
 
     fn upstream_cause(&self, outline: &Outline, number: u32) -> Option<NotEnabled>
         requires upstreams { self.now.modules.0 ≡ upstreams outline.now }
-        ensures { result ≡ where_found (first_not_built outline.now (standing_in outline.now self.now).progress number) (λ u. Upstream u) None }
+        ensures { result ≡ where_found
+            (first_not_built outline.now (standing_in outline.now self.now).progress number)
+            (λ u. Upstream u) None }
     {
         match self.modules.first_unbuilt(number) {
             Some(upstream) => Some(NotEnabled::Upstream(upstream)),
@@ -112,7 +116,9 @@ impl Standing {
     }
 
     fn busy_cause(&self, worker: u32) -> Option<NotEnabled>
-        ensures { (outline : Outline) → result ≡ where_found (module_of (course_of (standing_in outline self.now) worker)) (λ at. Worker at) None }
+        ensures { (outline : Outline)
+            → result ≡ where_found (module_of (course_of (standing_in outline self.now) worker))
+            (λ at. Worker at) None }
     {
         match self.course(worker).module() {
             Some(number) => Some(NotEnabled::Worker(number)),
@@ -141,7 +147,8 @@ impl Standing {
         deed: Deed,
         due: Option<u32>,
     ) -> Option<NotEnabled>
-        ensures { result ≡ unless (is_due (course_of (standing_in outline.now self.now) worker) deed) (by_file due (course_of (standing_in outline.now self.now) worker)) None }
+        ensures { result ≡ unless (is_due (course_of (standing_in outline.now self.now) worker)
+            deed) (by_file due (course_of (standing_in outline.now self.now) worker)) None }
     {
         let course = self.course(worker);
         if course.is_due(outline, deed) {
@@ -151,7 +158,9 @@ impl Standing {
     }
 
     fn order_cause(&self, worker: u32, name: u32) -> Option<NotEnabled>
-        ensures { (outline : Outline) → result ≡ where_found (not_below name (held_by (standing_in outline self.now) worker)) (λ h. Unordered h) None }
+        ensures { (outline : Outline)
+            → result ≡ where_found (not_below name (held_by (standing_in outline self.now) worker))
+            (λ h. Unordered h) None }
     {
         match not_below(self.holdings.greatest(worker), name) {
             Some(greatest) => Some(NotEnabled::Unordered(greatest)),
@@ -166,8 +175,10 @@ impl Standing {
         name: u32,
         mode: Mode,
     ) -> Option<NotEnabled>
-        requires seats { (names_of self.now.holdings.0 ≡ outline.now.names) × (workers_of self.now.holdings.0 ≡ outline.now.workers) }
-        ensures cause { result ≡ take_cause outline.now (standing_in outline.now self.now) worker name mode }
+        requires seats { (names_of self.now.holdings.0 ≡ outline.now.names)
+            × (workers_of self.now.holdings.0 ≡ outline.now.workers) }
+        ensures cause { result ≡ take_cause outline.now (standing_in outline.now self.now) worker
+            name mode }
     {
         if worker >= outline.workers {
             return Some(NotEnabled::Range(worker));
@@ -219,7 +230,8 @@ impl Standing {
         deed: Deed,
         due: Option<u32>,
     ) -> Option<NotEnabled>
-        ensures { result ≡ file_cause outline.now (standing_in outline.now self.now) worker file deed due }
+        ensures { result ≡ file_cause outline.now (standing_in outline.now self.now) worker file
+            deed due }
     {
         if worker >= outline.workers {
             return Some(NotEnabled::Range(worker));
@@ -248,7 +260,8 @@ impl Standing {
     }
 
     fn is_in_range(&self, outline: &Outline, worker: u32, ending: Ending) -> bool
-        ensures { result ≡ ending_in_range outline.now (course_of (standing_in outline.now self.now) worker) ending }
+        ensures { result ≡ ending_in_range outline.now
+            (course_of (standing_in outline.now self.now) worker) ending }
     {
         match ending {
             Ending::Goal(goal) => self.course(worker).has_goal(outline, goal),
@@ -259,7 +272,8 @@ impl Standing {
     }
 
     fn wrong_end(&self, outline: &Outline, worker: u32, ending: Ending) -> NotEnabled
-        ensures { result ≡ wrong_end (course_of (standing_in outline.now self.now) worker) (held_by (standing_in outline.now self.now) worker) ending }
+        ensures { result ≡ wrong_end (course_of (standing_in outline.now self.now) worker)
+            (held_by (standing_in outline.now self.now) worker) ending }
     {
         let course = self.course(worker);
         if self.holds_none(worker) {
@@ -270,7 +284,8 @@ impl Standing {
     }
 
     fn may_end(&self, outline: &Outline, worker: u32, ending: Ending) -> bool
-        ensures { result ≡ (is_empty (held_by (standing_in outline.now self.now) worker) && may_end_so outline.now (course_of (standing_in outline.now self.now) worker) ending) }
+        ensures { result ≡ (is_empty (held_by (standing_in outline.now self.now) worker) &&
+            may_end_so outline.now (course_of (standing_in outline.now self.now) worker) ending) }
     {
         self.holds_none(worker) && self.course(worker).may_end(outline, ending)
     }
@@ -298,7 +313,8 @@ impl Standing {
     /// The first cause for which an event may not come.
     #[tactic(auto, unfolding(crate::specs::Causes::cause_now))]
     pub(crate) fn cause(&self, outline: &Outline, event: Event) -> Option<NotEnabled>
-        requires seats { (names_of self.now.holdings.0 ≡ outline.now.names) × (workers_of self.now.holdings.0 ≡ outline.now.workers) }
+        requires seats { (names_of self.now.holdings.0 ≡ outline.now.names)
+            × (workers_of self.now.holdings.0 ≡ outline.now.workers) }
         requires upstreams { self.now.modules.0 ≡ upstreams outline.now }
         ensures cause { result ≡ cause_now outline.now (standing_in outline.now self.now) event }
     {

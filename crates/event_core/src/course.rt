@@ -63,7 +63,8 @@ fn on_ends(
     answered: Option<u32>,
     ending: Ending,
 ) -> bool
-    ensures { result ≡ on_ends outline.now number (script_at outline.now number place) answered ending }
+    ensures { result ≡ on_ends outline.now number (script_at outline.now number place) answered
+        ending }
 {
     let rest = Rest::of(outline, number, place);
     match ending {
@@ -94,7 +95,8 @@ fn off_ends(missing: Option<u32>, gathered: bool, ending: Ending) -> bool
 impl Course {
     // A module from its first place on that wants an event.
     pub(crate) fn begun(outline: &Outline, there: &[bool], empty: bool, number: u32) -> Course
-        ensures at { course_at outline.now result ≡ on_course number (settled there.now empty (start_of outline.now number)) None }
+        ensures at { course_at outline.now result
+            ≡ on_course number (settled there.now empty (start_of outline.now number)) None }
         ensures held { empty ≡ true → CourseHolds outline.now result [] }
     {
         let rest = Rest::of(outline, number, ScriptPlace::Sharing(0));
@@ -204,8 +206,12 @@ impl Course {
         deed: Deed,
         answer: Option<u32>,
     ) -> Course
-        ensures at { (held : List ℕ) → empty ≡ is_empty held → course_at outline.now result ≡ after_deed there.now held deed answer (course_at outline.now self) }
-        ensures held { (before held : List ℕ) → CourseHolds outline.now self before → is_due (course_at outline.now self) deed ≡ true → IsHeldThen deed before held → empty ≡ is_empty held → CourseHolds outline.now result held }
+        ensures at { (held : List ℕ) → empty ≡ is_empty held
+            → course_at outline.now result ≡ after_deed there.now held deed answer
+            (course_at outline.now self) }
+        ensures held { (before held : List ℕ) → CourseHolds outline.now self before
+            → is_due (course_at outline.now self) deed ≡ true → IsHeldThen deed before held
+            → empty ≡ is_empty held → CourseHolds outline.now result held }
     {
         match self {
             Course::On { module, place, .. } => {
@@ -224,8 +230,12 @@ impl Course {
 
     // And behind a free: one that isn't due leaves the script.
     pub(crate) fn after_free(self, outline: &Outline, there: &[bool], empty: bool) -> Course
-        ensures at { (held : List ℕ) → empty ≡ is_empty held → course_at outline.now result ≡ after_free outline.now there.now held (course_at outline.now self) }
-        ensures held { (before : List ℕ) (n : ℕ) → CourseHolds outline.now self before → is_listed n before ≡ true → empty ≡ is_empty (but n before) → CourseHolds outline.now result (but n before) }
+        ensures at { (held : List ℕ) → empty ≡ is_empty held
+            → course_at outline.now result ≡ after_free outline.now there.now held
+            (course_at outline.now self) }
+        ensures held { (before : List ℕ) (n : ℕ) → CourseHolds outline.now self before
+            → is_listed n before ≡ true → empty ≡ is_empty (but n before)
+            → CourseHolds outline.now result (but n before) }
     {
         match self {
             Course::On { module, place, .. } => {

@@ -40,7 +40,9 @@ fn set_there(there: &mut Vec<bool>, at: u32)
 impl Standing {
     fn turn(&mut self, worker: u32, course: Course)
         ensures upstreams { self.new.modules.0 ≡ self.old.modules.0 }
-        ensures at { (outline : Outline) → standing_in outline self.new ≡ turned_to (standing_in outline self.old) worker (course_at outline course) }
+        ensures at { (outline : Outline)
+            → standing_in outline self.new ≡ turned_to (standing_in outline self.old) worker
+            (course_at outline course) }
         ensures holdings { self.new.holdings ≡ self.old.holdings }
         ensures courses { self.new.courses.items ≡ slice_set self.old.courses.items worker course }
     {
@@ -51,9 +53,12 @@ impl Standing {
         requires low { number < length self.old.modules.1 }
         requires open { is_over (progress_of self.old.modules.1 number) ≡ false }
         ensures upstreams { self.new.modules.0 ≡ self.old.modules.0 }
-        ensures at { standing_in outline.now self.new ≡ after_start outline.now (standing_in outline.now self.old) worker number }
+        ensures at { standing_in outline.now self.new
+            ≡ after_start outline.now (standing_in outline.now self.old) worker number }
         ensures holdings { self.new.holdings ≡ self.old.holdings }
-        ensures holding { IsHolding outline.now self.old → held_by (standing_in outline.now self.old) worker ≡ [] → IsHolding outline.now self.new }
+        ensures holding { IsHolding outline.now self.old
+            → held_by (standing_in outline.now self.old) worker ≡ []
+            → IsHolding outline.now self.new }
     {
         let empty = self.holds_none(worker);
         let course = Course::begun(outline, self.there.as_slice(), empty, number);
@@ -65,18 +70,27 @@ impl Standing {
         requires low { number < length self.old.modules.1 }
         requires open { is_over (progress_of self.old.modules.1 number) ≡ false }
         ensures upstreams { self.new.modules.0 ≡ self.old.modules.0 }
-        ensures at { (outline : Outline) → standing_in outline self.new ≡ after_skip (standing_in outline self.old) number }
+        ensures at { (outline : Outline)
+            → standing_in outline self.new ≡ after_skip (standing_in outline self.old) number }
         ensures holdings { self.new.holdings ≡ self.old.holdings }
-        ensures holding { (outline : Outline) → IsHolding outline self.old → IsHolding outline self.new }
+        ensures holding { (outline : Outline) → IsHolding outline self.old
+            → IsHolding outline self.new }
     {
         self.modules.set(number, Progress::Skipped);
     }
 
     fn deed(&mut self, outline: &Outline, worker: u32, deed: Deed, answer: Option<u32>)
         ensures upstreams { self.new.modules.0 ≡ self.old.modules.0 }
-        ensures at { standing_in outline.now self.new ≡ deed_done (standing_in outline.now self.old) worker deed answer }
+        ensures at { standing_in outline.now self.new
+            ≡ deed_done (standing_in outline.now self.old) worker deed answer }
         ensures holdings { self.new.holdings ≡ self.old.holdings }
-        ensures holding { (course : KeptCourse) × (self.new.courses.items ≡ slice_set self.old.courses.items worker course) × ((before : List ℕ) → CourseHolds outline.now (slice_index_or self.old.courses.items worker Idle) before → is_due (course_of (standing_in outline.now self.old) worker) deed ≡ true → IsHeldThen deed before (held_by (standing_in outline.now self.old) worker) → CourseHolds outline.now course (held_by (standing_in outline.now self.old) worker)) }
+        ensures holding { (course : KeptCourse)
+            × (self.new.courses.items ≡ slice_set self.old.courses.items worker course)
+            × ((before : List ℕ) → CourseHolds outline.now
+            (slice_index_or self.old.courses.items worker Idle) before
+            → is_due (course_of (standing_in outline.now self.old) worker) deed ≡ true
+            → IsHeldThen deed before (held_by (standing_in outline.now self.old) worker)
+            → CourseHolds outline.now course (held_by (standing_in outline.now self.old) worker)) }
     {
         let empty = self.holds_none(worker);
         let course = self.course(worker);
@@ -88,10 +102,14 @@ impl Standing {
         requires seat { IsSeat self.old.holdings.0 name worker }
         requires free { hold self.old.holdings.0 name worker ≡ None }
         requires allowed { blocker self.old.holdings.0 name worker mode ≡ None }
-        requires above { list_all (λ h. nat_lt h name) (held_by (standing_in outline.now self.old) worker) ≡ true }
+        requires above { list_all (λ h. nat_lt h name)
+            (held_by (standing_in outline.now self.old) worker) ≡ true }
         ensures upstreams { self.new.modules.0 ≡ self.old.modules.0 }
-        ensures at { standing_in outline.now self.new ≡ after_take (standing_in outline.now self.old) worker name mode }
-        ensures holding { IsHolding outline.now self.old → worker < outline.now.workers → is_due (course_of (standing_in outline.now self.old) worker) (Take mode name) ≡ true → IsHolding outline.now self.new }
+        ensures at { standing_in outline.now self.new
+            ≡ after_take (standing_in outline.now self.old) worker name mode }
+        ensures holding { IsHolding outline.now self.old → worker < outline.now.workers
+            → is_due (course_of (standing_in outline.now self.old) worker) (Take mode name) ≡ true
+            → IsHolding outline.now self.new }
     {
         self.holdings.take(name, worker, mode);
         self.deed(outline, worker, Deed::Take(mode, name), None);
@@ -101,8 +119,11 @@ impl Standing {
         requires seat { IsSeat self.old.holdings.0 name worker }
         requires holds { is_some (hold self.old.holdings.0 name worker) ≡ true }
         ensures upstreams { self.new.modules.0 ≡ self.old.modules.0 }
-        ensures at { standing_in outline.now self.new ≡ after_freed outline.now (standing_in outline.now self.old) worker name }
-        ensures holding { IsHolding outline.now self.old → worker < outline.now.workers → is_listed name (held_by (standing_in outline.now self.old) worker) ≡ true → IsHolding outline.now self.new }
+        ensures at { standing_in outline.now self.new
+            ≡ after_freed outline.now (standing_in outline.now self.old) worker name }
+        ensures holding { IsHolding outline.now self.old → worker < outline.now.workers
+            → is_listed name (held_by (standing_in outline.now self.old) worker) ≡ true
+            → IsHolding outline.now self.new }
     {
         self.holdings.free(name, worker);
         let empty = self.holds_none(worker);
@@ -113,18 +134,25 @@ impl Standing {
 
     fn publish(&mut self, outline: &Outline, worker: u32, file: u32)
         ensures upstreams { self.new.modules.0 ≡ self.old.modules.0 }
-        ensures at { standing_in outline.now self.new ≡ after_publish (standing_in outline.now self.old) worker file }
+        ensures at { standing_in outline.now self.new
+            ≡ after_publish (standing_in outline.now self.old) worker file }
         ensures holdings { self.new.holdings ≡ self.old.holdings }
-        ensures holding { IsHolding outline.now self.old → worker < outline.now.workers → is_due (course_of (standing_in outline.now self.old) worker) (Publish file) ≡ true → IsHolding outline.now self.new }
+        ensures holding { IsHolding outline.now self.old → worker < outline.now.workers
+            → is_due (course_of (standing_in outline.now self.old) worker) (Publish file) ≡ true
+            → IsHolding outline.now self.new }
     {
         set_there(&mut self.there, file);
         self.deed(outline, worker, Deed::Publish(file), None);
     }
 
     fn close(&mut self, worker: u32, ending: Ending)
-        requires running { (outline : Outline) × ((m : ℕ) → module_of (course_of (standing_in outline self.old) worker) ≡ Some m → (m < length self.old.modules.1) × (is_over (progress_of self.old.modules.1 m) ≡ false)) }
+        requires running { (outline : Outline)
+            × ((m : ℕ) → module_of (course_of (standing_in outline self.old) worker) ≡ Some m
+            → (m < length self.old.modules.1)
+            × (is_over (progress_of self.old.modules.1 m) ≡ false)) }
         ensures upstreams { self.new.modules.0 ≡ self.old.modules.0 }
-        ensures at { (outline : Outline) → standing_in outline self.new ≡ closed (standing_in outline self.old) worker ending }
+        ensures at { (outline : Outline)
+            → standing_in outline self.new ≡ closed (standing_in outline self.old) worker ending }
         ensures holdings { self.new.holdings ≡ self.old.holdings }
         ensures courses { self.new.courses ≡ self.old.courses }
     {
@@ -135,11 +163,17 @@ impl Standing {
     }
 
     fn end(&mut self, worker: u32, ending: Ending)
-        requires running { (outline : Outline) × ((m : ℕ) → module_of (course_of (standing_in outline self.old) worker) ≡ Some m → (m < length self.old.modules.1) × (is_over (progress_of self.old.modules.1 m) ≡ false)) }
+        requires running { (outline : Outline)
+            × ((m : ℕ) → module_of (course_of (standing_in outline self.old) worker) ≡ Some m
+            → (m < length self.old.modules.1)
+            × (is_over (progress_of self.old.modules.1 m) ≡ false)) }
         ensures upstreams { self.new.modules.0 ≡ self.old.modules.0 }
-        ensures at { (outline : Outline) → standing_in outline self.new ≡ after_end (standing_in outline self.old) worker ending }
+        ensures at { (outline : Outline)
+            → standing_in outline self.new ≡ after_end (standing_in outline self.old) worker
+            ending }
         ensures holdings { self.new.holdings ≡ self.old.holdings }
-        ensures holding { (outline : Outline) → IsHolding outline self.old → held_by (standing_in outline self.old) worker ≡ [] → IsHolding outline self.new }
+        ensures holding { (outline : Outline) → IsHolding outline self.old
+            → held_by (standing_in outline self.old) worker ≡ [] → IsHolding outline self.new }
     {
         self.close(worker, ending);
         self.turn(worker, Course::Idle);
@@ -152,7 +186,8 @@ impl Standing {
         requires tied { IsTied outline.now (standing_in outline.now self.old) }
         requires enabled { IsEnabled outline.now (standing_in outline.now self.old) event }
         ensures upstreams { self.new.modules.0 ≡ self.old.modules.0 }
-        ensures at { standing_in outline.now self.new ≡ after outline.now (standing_in outline.now self.old) event }
+        ensures at { standing_in outline.now self.new
+            ≡ after outline.now (standing_in outline.now self.old) event }
         ensures holding { IsHolding outline.now self.old → IsHolding outline.now self.new }
     {
         match event {

@@ -23,14 +23,14 @@ pub enum Rest<'a> {
 impl<'a> Rest<'a> {
     // What is left from a place on: nothing where no module has this number.
     pub(crate) fn of(outline: &'a Outline, number: u32, place: ScriptPlace) -> Rest<'a>
-        ensures module { module_left result ≡ slice_get outline.now.modules number }
+        ensures owner { module_left result ≡ slice_get outline.now.modules number }
         ensures script { script_left result ≡ script_at outline.now number place }
-        ensures held { (held : List ℕ) →
-            ((m : ModuleOutline) → slice_get outline.now.modules number ≡ Some m → HoldsAt m place held) →
-            RestHolds result held }
-        ensures behind { (held : List ℕ) →
-            ((m : ModuleOutline) → slice_get outline.now.modules number ≡ Some m → HoldsBehind m place held) →
-            RestHoldsBehind result held }
+        ensures held { (held : List ℕ)
+            → ((m : ModuleOutline) → slice_get outline.now.modules number ≡ Some m
+            → HoldsAt m place held) → RestHolds result held }
+        ensures behind { (held : List ℕ)
+            → ((m : ModuleOutline) → slice_get outline.now.modules number ≡ Some m
+            → HoldsBehind m place held) → RestHoldsBehind result held }
     {
         match outline.modules.get(number as usize) {
             Some(plan) => Rest::From(plan, place),
@@ -41,9 +41,9 @@ impl<'a> Rest<'a> {
     // What is left behind a deed that is due.
     pub(crate) fn done(self, deed: Deed) -> Option<Rest<'a>>
         ensures script { option_map script_left result ≡ done (script_left self) deed }
-        ensures module { (next : Rest) → result ≡ Some next → module_left next ≡ module_left self }
-        ensures held { (held : List ℕ) → RestHolds self held → (next : Rest) → result ≡ Some next →
-            HoldsThen deed held (RestHoldsBehind next) }
+        ensures owner { (next : Rest) → result ≡ Some next → module_left next ≡ module_left self }
+        ensures held { (held : List ℕ) → RestHolds self held → (next : Rest) → result ≡ Some next
+            → HoldsThen deed held (RestHoldsBehind next) }
     {
         match self {
             Rest::Nothing => None,
@@ -56,10 +56,10 @@ impl<'a> Rest<'a> {
 
     // The first place from here on that wants an event.
     pub(crate) fn settled(self, there: &[bool], empty: bool) -> ScriptPlace
-        ensures script { (o : Outline) (number : ℕ) → module_left self ≡ slice_get o.modules number →
-            script_at o number result ≡ settled there.now empty (script_left self) }
-        ensures held { (held : List ℕ) → empty ≡ is_empty held → RestHoldsBehind self held →
-            (m : ModuleOutline) → module_left self ≡ Some m → HoldsAt m result held }
+        ensures script { (o : Outline) (number : ℕ) → module_left self ≡ slice_get o.modules number
+            → script_at o number result ≡ settled there.now empty (script_left self) }
+        ensures held { (held : List ℕ) → empty ≡ is_empty held → RestHoldsBehind self held
+            → (m : ModuleOutline) → module_left self ≡ Some m → HoldsAt m result held }
     {
         match self {
             Rest::Nothing => ScriptPlace::Whole,

@@ -104,8 +104,11 @@ impl Core {
     /// those that it is an upstream of are looked at, each once, and with the last name of a batch, a fetched file and a start the files
     /// of the fetch list that are there are passed over, each once or twice. Nothing grows with the events so far. Own.
     pub fn step(&mut self, event: Event) -> Result<(), NotEnabled>
-        ensures ok { OnOk result (Enabled self.old.0 self.old.1 event × (self.new ≡ (self.old.0, self.old.1 ++ event ∷ []))) }
-        ensures err { IfErr result (λ why. (cause_now self.old.0 (standing_of self.old.0 self.old.1) event ≡ Some why) × (self.new ≡ self.old)) }
+        ensures ok { OnOk result (Enabled self.old.0 self.old.1 event
+            × (self.new ≡ (self.old.0, self.old.1 ++ event ∷ []))) }
+        ensures err { IfErr result (λ why.
+            (cause_now self.old.0 (standing_of self.old.0 self.old.1) event ≡ Some why)
+            × (self.new ≡ self.old)) }
     {
         match self.first_cause(event) {
             Some(cause) => Err(cause),
@@ -145,7 +148,8 @@ impl Core {
 
     /// The first waiting module whose upstreams are all built. Takes no memory; costs a look at words of bits, one for 4,096 modules.
     pub fn ready(&self) -> Option<u32>
-        ensures { result ≡ find (is_ready self.now.0 (standing_of self.now.0 self.now.1).progress) (below (length self.now.0.modules)) }
+        ensures { result ≡ find (is_ready self.now.0 (standing_of self.now.0 self.now.1).progress)
+            (below (length self.now.0.modules)) }
     {
         self.standing.modules.ready()
     }
@@ -153,7 +157,8 @@ impl Core {
     /// The first waiting module of which an upstream was skipped, or ended otherwise than built. Takes no memory; costs a look at words
     /// of bits, one for 4,096 modules.
     pub fn skippable(&self) -> Option<u32>
-        ensures { result ≡ find (is_skippable self.now.0 (standing_of self.now.0 self.now.1).progress) (below (length self.now.0.modules)) }
+        ensures { result ≡ find (is_skippable self.now.0
+            (standing_of self.now.0 self.now.1).progress) (below (length self.now.0.modules)) }
     {
         self.standing.modules.skippable()
     }

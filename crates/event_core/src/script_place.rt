@@ -133,7 +133,10 @@ fn is_there(there: &[bool], file: u32) -> bool
 #[tactic(auto, using(crate::proofs::ScriptPlaces::pass_over, crate::proofs::ScriptPlaces::stop_over, crate::proofs::ScriptPlaces::none_over))]
 fn absent_from(there: &[bool], files: &[u32], from: usize) -> Option<usize>
     ensures low { (at : ℕ) → result ≡ Some at → at < length files.now }
-    ensures rest { (empty : Bool) (rest : Script) → option_map_or (λ at. steps 3 fetches (drop at files.now) rest) result (settled there.now empty rest) ≡ settled there.now empty (steps 3 fetches (drop from files.now) rest) }
+    ensures rest { (empty : Bool) (rest : Script)
+        → option_map_or (λ at. steps 3 fetches (drop at files.now) rest) result
+        (settled there.now empty rest) ≡ settled there.now empty
+        (steps 3 fetches (drop from files.now) rest) }
 {
     for at in from..files.len() {
         if !is_there(there, files[at]) {
@@ -147,7 +150,10 @@ fn absent_from(there: &[bool], files: &[u32], from: usize) -> Option<usize>
 #[tactic(auto, using(crate::proofs::Dues::pass_own, crate::proofs::Dues::stop_own, crate::proofs::Dues::end_own), unfolding(crate::specs::ScriptPlaces::rest_of))]
 fn place_from(files: &[u32], from: usize, file: u32) -> Option<usize>
     ensures low { (at : ℕ) → result ≡ Some at → at < length files.now }
-    ensures found { (rest : Script) → option_map_or (λ at. Some (steps 6 may_publish (drop (at + 1) files.now) rest)) result (done rest (Publish file)) ≡ done (steps 6 may_publish (drop from files.now) rest) (Publish file) }
+    ensures found { (rest : Script)
+        → option_map_or (λ at. Some (steps 6 may_publish (drop (at + 1) files.now) rest)) result
+        (done rest (Publish file)) ≡ done (steps 6 may_publish (drop from files.now) rest)
+        (Publish file) }
 {
     for at in from..files.len() {
         if file == files[at] {
@@ -159,7 +165,8 @@ fn place_from(files: &[u32], from: usize, file: u32) -> Option<usize>
 
 #[tactic(auto, using(crate::proofs::ScriptPlaces::release_empty, crate::proofs::ScriptPlaces::release_held), unfolding(crate::specs::ScriptPlaces::rest_of))]
 fn settled_release(plan: &ModuleOutline, empty: bool) -> ScriptPlace
-    ensures rest { (there : List Bool) → rest_of plan.now result ≡ settled there empty (rest_of plan.now Releasing) }
+    ensures rest { (there : List Bool)
+        → rest_of plan.now result ≡ settled there empty (rest_of plan.now Releasing) }
     ensures held { (held : List ℕ) → empty ≡ is_empty held → HoldsAt plan.now result held }
 {
     if empty {
@@ -171,8 +178,10 @@ fn settled_release(plan: &ModuleOutline, empty: bool) -> ScriptPlace
 
 #[tactic(auto, using(crate::proofs::ScriptPlaces::read_more, crate::proofs::ScriptPlaces::read_end), unfolding(crate::specs::ScriptPlaces::rest_of))]
 fn settled_read(plan: &ModuleOutline, empty: bool, at: usize) -> ScriptPlace
-    ensures rest { (there : List Bool) → rest_of plan.now result ≡ settled there empty (rest_of plan.now (Reading at)) }
-    ensures held { (held : List ℕ) → empty ≡ is_empty held → held ≡ plan.now.batch → HoldsAt plan.now result held }
+    ensures rest { (there : List Bool)
+        → rest_of plan.now result ≡ settled there empty (rest_of plan.now (Reading at)) }
+    ensures held { (held : List ℕ) → empty ≡ is_empty held → held ≡ plan.now.batch
+        → HoldsAt plan.now result held }
 {
     if at < plan.reads.len() {
         ScriptPlace::Reading(at)
@@ -183,8 +192,10 @@ fn settled_read(plan: &ModuleOutline, empty: bool, at: usize) -> ScriptPlace
 
 #[tactic(auto, unfolding(crate::specs::ScriptPlaces::rest_of))]
 fn settled_fetch(plan: &ModuleOutline, there: &[bool], empty: bool, at: usize) -> ScriptPlace
-    ensures rest { rest_of plan.now result ≡ settled there.now empty (rest_of plan.now (Fetching at)) }
-    ensures held { (held : List ℕ) → empty ≡ is_empty held → held ≡ plan.now.batch → HoldsAt plan.now result held }
+    ensures rest { rest_of plan.now result
+        ≡ settled there.now empty (rest_of plan.now (Fetching at)) }
+    ensures held { (held : List ℕ) → empty ≡ is_empty held → held ≡ plan.now.batch
+        → HoldsAt plan.now result held }
 {
     match absent_from(there, plan.fetch.as_slice(), at) {
         Some(at) => ScriptPlace::Fetching(at),
@@ -194,8 +205,10 @@ fn settled_fetch(plan: &ModuleOutline, there: &[bool], empty: bool, at: usize) -
 
 #[tactic(auto, using(crate::proofs::ScriptPlaces::lock_more, crate::proofs::ScriptPlaces::lock_end), unfolding(crate::specs::ScriptPlaces::rest_of))]
 fn settled_lock(plan: &ModuleOutline, there: &[bool], empty: bool, at: usize) -> ScriptPlace
-    ensures rest { rest_of plan.now result ≡ settled there.now empty (rest_of plan.now (Locking at)) }
-    ensures held { (held : List ℕ) → empty ≡ is_empty held → held ≡ take at plan.now.batch → HoldsAt plan.now result held }
+    ensures rest { rest_of plan.now result
+        ≡ settled there.now empty (rest_of plan.now (Locking at)) }
+    ensures held { (held : List ℕ) → empty ≡ is_empty held → held ≡ take at plan.now.batch
+        → HoldsAt plan.now result held }
 {
     if at < plan.batch.len() {
         ScriptPlace::Locking(at)
@@ -218,8 +231,10 @@ fn settled_free(plan: &ModuleOutline, there: &[bool], empty: bool) -> ScriptPlac
 
 #[tactic(auto, using(crate::proofs::ScriptPlaces::share_more, crate::proofs::ScriptPlaces::share_there, crate::proofs::ScriptPlaces::share_absent), unfolding(crate::specs::ScriptPlaces::rest_of))]
 fn settled_share(plan: &ModuleOutline, there: &[bool], empty: bool, at: usize) -> ScriptPlace
-    ensures rest { rest_of plan.now result ≡ settled there.now empty (rest_of plan.now (Sharing at)) }
-    ensures held { (held : List ℕ) → empty ≡ is_empty held → held ≡ take at plan.now.batch → HoldsAt plan.now result held }
+    ensures rest { rest_of plan.now result
+        ≡ settled there.now empty (rest_of plan.now (Sharing at)) }
+    ensures held { (held : List ℕ) → empty ≡ is_empty held → held ≡ take at plan.now.batch
+        → HoldsAt plan.now result held }
 {
     if at < plan.batch.len() {
         ScriptPlace::Sharing(at)
@@ -232,8 +247,10 @@ fn settled_share(plan: &ModuleOutline, there: &[bool], empty: bool, at: usize) -
 
 #[tactic(auto, using(crate::proofs::ScriptPlaces::install_more, crate::proofs::ScriptPlaces::install_held, crate::proofs::ScriptPlaces::install_end), unfolding(crate::specs::ScriptPlaces::rest_of))]
 fn settled_install(plan: &ModuleOutline, empty: bool, at: usize) -> ScriptPlace
-    ensures rest { (there : List Bool) → rest_of plan.now result ≡ settled there empty (rest_of plan.now (Installing at)) }
-    ensures held { (held : List ℕ) → empty ≡ is_empty held → HoldsBehind plan.now (Installing at) held → HoldsAt plan.now result held }
+    ensures rest { (there : List Bool)
+        → rest_of plan.now result ≡ settled there empty (rest_of plan.now (Installing at)) }
+    ensures held { (held : List ℕ) → empty ≡ is_empty held
+        → HoldsBehind plan.now (Installing at) held → HoldsAt plan.now result held }
 {
     if at < plan.own.len() || !empty {
         ScriptPlace::Installing(at)
@@ -264,7 +281,8 @@ impl ScriptPlace {
     #[tactic(auto, using(crate::proofs::ScriptPlaces::answering_stays, crate::proofs::ScriptPlaces::securing_stays), unfolding(crate::specs::ScriptPlaces::rest_of))]
     pub(crate) fn settled(self, plan: &ModuleOutline, there: &[bool], empty: bool) -> ScriptPlace
         ensures rest { rest_of plan.now result ≡ settled there.now empty (rest_of plan.now self) }
-        ensures held { (held : List ℕ) → empty ≡ is_empty held → HoldsBehind plan.now self held → HoldsAt plan.now result held }
+        ensures held { (held : List ℕ) → empty ≡ is_empty held → HoldsBehind plan.now self held
+            → HoldsAt plan.now result held }
     {
         match self {
             ScriptPlace::Sharing(at) => settled_share(plan, there, empty, at),
@@ -284,7 +302,8 @@ impl ScriptPlace {
     #[tactic(auto, unfolding(crate::specs::ScriptPlaces::rest_of))]
     pub(crate) fn done(self, plan: &ModuleOutline, deed: Deed) -> Option<ScriptPlace>
         ensures rest { option_map (rest_of plan.now) result ≡ done (rest_of plan.now self) deed }
-        ensures held { (held : List ℕ) → HoldsAt plan.now self held → (next : ScriptPlace) → result ≡ Some next → HoldsThen deed held (HoldsBehind plan.now next) }
+        ensures held { (held : List ℕ) → HoldsAt plan.now self held → (next : ScriptPlace)
+            → result ≡ Some next → HoldsThen deed held (HoldsBehind plan.now next) }
     {
         match deed {
             Deed::Take(mode, name) => taken(self.here(plan), plan, mode, name),
@@ -428,16 +447,20 @@ fn may_end_at(place: ScriptPlace) -> bool
 
 // Whether the item of a list is this one.
 fn is_at(list: &[u32], at: usize, wanted: u32) -> bool
-    ensures there { result ≡ true → (at < length list.now) × (nat_eq wanted (get_or list.now at 0) ≡ true) }
-    ensures other { result ≡ false → at < length list.now → nat_eq wanted (get_or list.now at 0) ≡ false }
+    ensures there { result ≡ true → (at < length list.now)
+        × (nat_eq wanted (get_or list.now at 0) ≡ true) }
+    ensures other { result ≡ false → at < length list.now
+        → nat_eq wanted (get_or list.now at 0) ≡ false }
 {
     at < list.len() && wanted == list[at]
 }
 
 #[tactic(auto, using(crate::proofs::Dues::share_yes, crate::proofs::Dues::share_no, crate::proofs::Dues::share_other), unfolding(crate::specs::ScriptPlaces::rest_of))]
 fn shared(plan: &ModuleOutline, at: usize, mode: Mode, name: u32) -> Option<ScriptPlace>
-    ensures rest { option_map (rest_of plan.now) result ≡ done (rest_of plan.now (Sharing at)) (Take mode name) }
-    ensures held { (held : List ℕ) → HoldsAt plan.now (Sharing at) held → (next : ScriptPlace) → result ≡ Some next → HoldsBehind plan.now next (held ++ name ∷ []) }
+    ensures rest { option_map (rest_of plan.now) result
+        ≡ done (rest_of plan.now (Sharing at)) (Take mode name) }
+    ensures held { (held : List ℕ) → HoldsAt plan.now (Sharing at) held → (next : ScriptPlace)
+        → result ≡ Some next → HoldsBehind plan.now next (held ++ name ∷ []) }
 {
     match mode {
         Mode::Shared if is_at(plan.batch.as_slice(), at, name) => Some(ScriptPlace::Sharing(
@@ -450,8 +473,10 @@ fn shared(plan: &ModuleOutline, at: usize, mode: Mode, name: u32) -> Option<Scri
 #[tactic(auto, using(crate::proofs::Dues::lock_yes, crate::proofs::Dues::lock_no, crate::proofs::Dues::lock_other), unfolding(crate::specs::ScriptPlaces::rest_of))]
 fn locked(plan: &ModuleOutline, at: usize, mode: Mode, name: u32) -> Option<ScriptPlace>
     requires { at < length plan.now.batch }
-    ensures rest { option_map (rest_of plan.now) result ≡ done (rest_of plan.now (Locking at)) (Take mode name) }
-    ensures held { (held : List ℕ) → HoldsAt plan.now (Locking at) held → (next : ScriptPlace) → result ≡ Some next → HoldsBehind plan.now next (held ++ name ∷ []) }
+    ensures rest { option_map (rest_of plan.now) result
+        ≡ done (rest_of plan.now (Locking at)) (Take mode name) }
+    ensures held { (held : List ℕ) → HoldsAt plan.now (Locking at) held → (next : ScriptPlace)
+        → result ≡ Some next → HoldsBehind plan.now next (held ++ name ∷ []) }
 {
     match mode {
         Mode::Exclusive if is_at(plan.batch.as_slice(), at, name) => Some(ScriptPlace::Locking(
@@ -464,8 +489,10 @@ fn locked(plan: &ModuleOutline, at: usize, mode: Mode, name: u32) -> Option<Scri
 #[tactic(auto, using(crate::proofs::Dues::own_yes, crate::proofs::Dues::own_no, crate::proofs::Dues::own_other), unfolding(crate::specs::ScriptPlaces::rest_of))]
 fn secured(plan: &ModuleOutline, mode: Mode, name: u32) -> Option<ScriptPlace>
     requires { plan.now.installs ≡ true }
-    ensures rest { option_map (rest_of plan.now) result ≡ done (rest_of plan.now Securing) (Take mode name) }
-    ensures held { (held : List ℕ) → HoldsAt plan.now Securing held → (next : ScriptPlace) → result ≡ Some next → HoldsBehind plan.now next (held ++ name ∷ []) }
+    ensures rest { option_map (rest_of plan.now) result
+        ≡ done (rest_of plan.now Securing) (Take mode name) }
+    ensures held { (held : List ℕ) → HoldsAt plan.now Securing held → (next : ScriptPlace)
+        → result ≡ Some next → HoldsBehind plan.now next (held ++ name ∷ []) }
 {
     match mode {
         Mode::Exclusive if name == plan.own_name => Some(ScriptPlace::Installing(0)),
@@ -476,8 +503,10 @@ fn secured(plan: &ModuleOutline, mode: Mode, name: u32) -> Option<ScriptPlace>
 #[tactic(auto, unfolding(crate::specs::ScriptPlaces::rest_of))]
 fn taken(place: ScriptPlace, plan: &ModuleOutline, mode: Mode, name: u32) -> Option<ScriptPlace>
     requires { IsPlaced plan.now place }
-    ensures rest { option_map (rest_of plan.now) result ≡ done (rest_of plan.now place) (Take mode name) }
-    ensures held { (held : List ℕ) → HoldsAt plan.now place held → (next : ScriptPlace) → result ≡ Some next → HoldsBehind plan.now next (held ++ name ∷ []) }
+    ensures rest { option_map (rest_of plan.now) result
+        ≡ done (rest_of plan.now place) (Take mode name) }
+    ensures held { (held : List ℕ) → HoldsAt plan.now place held → (next : ScriptPlace)
+        → result ≡ Some next → HoldsBehind plan.now next (held ++ name ∷ []) }
 {
     match place {
         ScriptPlace::Sharing(at) => shared(plan, at, mode, name),
@@ -491,7 +520,8 @@ fn taken(place: ScriptPlace, plan: &ModuleOutline, mode: Mode, name: u32) -> Opt
 fn freed(place: ScriptPlace, plan: &ModuleOutline) -> Option<ScriptPlace>
     requires { IsPlaced plan.now place }
     ensures rest { option_map (rest_of plan.now) result ≡ done (rest_of plan.now place) Free }
-    ensures held { (held : List ℕ) → HoldsAt plan.now place held → (n : ℕ) → is_listed n held ≡ true → (next : ScriptPlace) → result ≡ Some next → HoldsBehind plan.now next (but n held) }
+    ensures held { (held : List ℕ) → HoldsAt plan.now place held → (n : ℕ) → is_listed n held ≡ true
+        → (next : ScriptPlace) → result ≡ Some next → HoldsBehind plan.now next (but n held) }
 {
     match place {
         ScriptPlace::Unsharing => Some(ScriptPlace::Unsharing),
@@ -504,8 +534,11 @@ fn freed(place: ScriptPlace, plan: &ModuleOutline) -> Option<ScriptPlace>
 // Of the own files the first must be published before.
 #[tactic(auto, using(crate::proofs::Dues::own_freed_yes, crate::proofs::Dues::own_freed_none, crate::proofs::Dues::own_freed_no), unfolding(crate::specs::ScriptPlaces::rest_of))]
 fn own_freed(plan: &ModuleOutline, at: usize) -> Option<ScriptPlace>
-    ensures rest { option_map (rest_of plan.now) result ≡ done (rest_of plan.now (Installing at)) Free }
-    ensures held { (held : List ℕ) → HoldsAt plan.now (Installing at) held → (n : ℕ) → is_listed n held ≡ true → (next : ScriptPlace) → result ≡ Some next → HoldsBehind plan.now next (but n held) }
+    ensures rest { option_map (rest_of plan.now) result
+        ≡ done (rest_of plan.now (Installing at)) Free }
+    ensures held { (held : List ℕ) → HoldsAt plan.now (Installing at) held → (n : ℕ)
+        → is_listed n held ≡ true → (next : ScriptPlace) → result ≡ Some next
+        → HoldsBehind plan.now next (but n held) }
 {
     if at == 0 && !plan.own.is_empty() {
         None
@@ -517,8 +550,10 @@ fn own_freed(plan: &ModuleOutline, at: usize) -> Option<ScriptPlace>
 #[tactic(auto, using(crate::proofs::Dues::read_yes, crate::proofs::Dues::read_no), unfolding(crate::specs::ScriptPlaces::rest_of))]
 fn read_here(plan: &ModuleOutline, at: usize, file: u32) -> Option<ScriptPlace>
     requires { at < length plan.now.reads }
-    ensures rest { option_map (rest_of plan.now) result ≡ done (rest_of plan.now (Reading at)) (Read file) }
-    ensures held { (held : List ℕ) → HoldsAt plan.now (Reading at) held → (next : ScriptPlace) → result ≡ Some next → HoldsBehind plan.now next held }
+    ensures rest { option_map (rest_of plan.now) result
+        ≡ done (rest_of plan.now (Reading at)) (Read file) }
+    ensures held { (held : List ℕ) → HoldsAt plan.now (Reading at) held → (next : ScriptPlace)
+        → result ≡ Some next → HoldsBehind plan.now next held }
 {
     if is_at(plan.reads.as_slice(), at, file) {
         Some(ScriptPlace::Reading(at + 1))
@@ -530,8 +565,10 @@ fn read_here(plan: &ModuleOutline, at: usize, file: u32) -> Option<ScriptPlace>
 #[tactic(auto, unfolding(crate::specs::ScriptPlaces::rest_of))]
 fn read(place: ScriptPlace, plan: &ModuleOutline, file: u32) -> Option<ScriptPlace>
     requires { IsPlaced plan.now place }
-    ensures rest { option_map (rest_of plan.now) result ≡ done (rest_of plan.now place) (Read file) }
-    ensures held { (held : List ℕ) → HoldsAt plan.now place held → (next : ScriptPlace) → result ≡ Some next → HoldsBehind plan.now next held }
+    ensures rest { option_map (rest_of plan.now) result
+        ≡ done (rest_of plan.now place) (Read file) }
+    ensures held { (held : List ℕ) → HoldsAt plan.now place held → (next : ScriptPlace)
+        → result ≡ Some next → HoldsBehind plan.now next held }
 {
     match place {
         ScriptPlace::Reading(at) => read_here(plan, at, file),
@@ -542,8 +579,10 @@ fn read(place: ScriptPlace, plan: &ModuleOutline, file: u32) -> Option<ScriptPla
 #[tactic(auto, using(crate::proofs::Dues::fetch_yes, crate::proofs::Dues::fetch_no), unfolding(crate::specs::ScriptPlaces::rest_of))]
 fn fetched(plan: &ModuleOutline, at: usize, file: u32) -> Option<ScriptPlace>
     requires { at < length plan.now.fetch }
-    ensures rest { option_map (rest_of plan.now) result ≡ done (rest_of plan.now (Fetching at)) (Publish file) }
-    ensures held { (held : List ℕ) → HoldsAt plan.now (Fetching at) held → (next : ScriptPlace) → result ≡ Some next → HoldsBehind plan.now next held }
+    ensures rest { option_map (rest_of plan.now) result
+        ≡ done (rest_of plan.now (Fetching at)) (Publish file) }
+    ensures held { (held : List ℕ) → HoldsAt plan.now (Fetching at) held → (next : ScriptPlace)
+        → result ≡ Some next → HoldsBehind plan.now next held }
 {
     if is_at(plan.fetch.as_slice(), at, file) {
         Some(ScriptPlace::Fetching(at + 1))
@@ -554,8 +593,10 @@ fn fetched(plan: &ModuleOutline, at: usize, file: u32) -> Option<ScriptPlace>
 
 #[tactic(auto, using(crate::proofs::Dues::pom_yes, crate::proofs::Dues::pom_no), unfolding(crate::specs::ScriptPlaces::rest_of))]
 fn pom_published(plan: &ModuleOutline, file: u32) -> Option<ScriptPlace>
-    ensures rest { option_map (rest_of plan.now) result ≡ done (rest_of plan.now (Installing 0)) (Publish file) }
-    ensures held { (held : List ℕ) → HoldsAt plan.now (Installing 0) held → (next : ScriptPlace) → result ≡ Some next → HoldsBehind plan.now next held }
+    ensures rest { option_map (rest_of plan.now) result
+        ≡ done (rest_of plan.now (Installing 0)) (Publish file) }
+    ensures held { (held : List ℕ) → HoldsAt plan.now (Installing 0) held → (next : ScriptPlace)
+        → result ≡ Some next → HoldsBehind plan.now next held }
 {
     if is_at(plan.own.as_slice(), 0, file) {
         Some(ScriptPlace::Installing(1))
@@ -568,8 +609,10 @@ fn pom_published(plan: &ModuleOutline, file: u32) -> Option<ScriptPlace>
 #[tactic(auto, using(crate::proofs::Dues::found_own, crate::proofs::Dues::no_own), unfolding(crate::specs::ScriptPlaces::rest_of))]
 fn own_published(plan: &ModuleOutline, at: usize, file: u32) -> Option<ScriptPlace>
     requires { 0 < at }
-    ensures rest { option_map (rest_of plan.now) result ≡ done (rest_of plan.now (Installing at)) (Publish file) }
-    ensures held { (held : List ℕ) → HoldsAt plan.now (Installing at) held → (next : ScriptPlace) → result ≡ Some next → HoldsBehind plan.now next held }
+    ensures rest { option_map (rest_of plan.now) result
+        ≡ done (rest_of plan.now (Installing at)) (Publish file) }
+    ensures held { (held : List ℕ) → HoldsAt plan.now (Installing at) held → (next : ScriptPlace)
+        → result ≡ Some next → HoldsBehind plan.now next held }
 {
     match place_from(plan.own.as_slice(), at, file) {
         Some(place) => Some(ScriptPlace::Installing(place + 1)),
@@ -580,8 +623,10 @@ fn own_published(plan: &ModuleOutline, at: usize, file: u32) -> Option<ScriptPla
 #[tactic(auto, unfolding(crate::specs::ScriptPlaces::rest_of))]
 fn published(place: ScriptPlace, plan: &ModuleOutline, file: u32) -> Option<ScriptPlace>
     requires { IsPlaced plan.now place }
-    ensures rest { option_map (rest_of plan.now) result ≡ done (rest_of plan.now place) (Publish file) }
-    ensures held { (held : List ℕ) → HoldsAt plan.now place held → (next : ScriptPlace) → result ≡ Some next → HoldsBehind plan.now next held }
+    ensures rest { option_map (rest_of plan.now) result
+        ≡ done (rest_of plan.now place) (Publish file) }
+    ensures held { (held : List ℕ) → HoldsAt plan.now place held → (next : ScriptPlace)
+        → result ≡ Some next → HoldsBehind plan.now next held }
 {
     match place {
         ScriptPlace::Fetching(at) => fetched(plan, at, file),
@@ -594,8 +639,10 @@ fn published(place: ScriptPlace, plan: &ModuleOutline, file: u32) -> Option<Scri
 #[tactic(auto, using(crate::proofs::Dues::answer_yes, crate::proofs::Dues::answer_no), unfolding(crate::specs::ScriptPlaces::rest_of))]
 fn answer_at(plan: &ModuleOutline, at: usize, goal: u32) -> Option<ScriptPlace>
     requires { at < plan.now.goals }
-    ensures rest { option_map (rest_of plan.now) result ≡ done (rest_of plan.now (Answering at)) (Answer goal) }
-    ensures held { (held : List ℕ) → HoldsAt plan.now (Answering at) held → (next : ScriptPlace) → result ≡ Some next → HoldsBehind plan.now next held }
+    ensures rest { option_map (rest_of plan.now) result
+        ≡ done (rest_of plan.now (Answering at)) (Answer goal) }
+    ensures held { (held : List ℕ) → HoldsAt plan.now (Answering at) held → (next : ScriptPlace)
+        → result ≡ Some next → HoldsBehind plan.now next held }
 {
     if at < plan.goals && goal as usize == at {
         Some(ScriptPlace::Answering(at + 1))
@@ -607,8 +654,10 @@ fn answer_at(plan: &ModuleOutline, at: usize, goal: u32) -> Option<ScriptPlace>
 #[tactic(auto, unfolding(crate::specs::ScriptPlaces::rest_of))]
 fn answered(place: ScriptPlace, plan: &ModuleOutline, goal: u32) -> Option<ScriptPlace>
     requires { IsPlaced plan.now place }
-    ensures rest { option_map (rest_of plan.now) result ≡ done (rest_of plan.now place) (Answer goal) }
-    ensures held { (held : List ℕ) → HoldsAt plan.now place held → (next : ScriptPlace) → result ≡ Some next → HoldsBehind plan.now next held }
+    ensures rest { option_map (rest_of plan.now) result
+        ≡ done (rest_of plan.now place) (Answer goal) }
+    ensures held { (held : List ℕ) → HoldsAt plan.now place held → (next : ScriptPlace)
+        → result ≡ Some next → HoldsBehind plan.now next held }
 {
     match place {
         ScriptPlace::Answering(at) => answer_at(plan, at, goal),

@@ -27,7 +27,8 @@ impl Standing {
     /// Where nothing has happened.
     pub(crate) fn new(alloc: Global, outline: &Outline) -> Mem<Standing>
         requires { length outline.now.modules < 2 ^ 32 }
-        ensures at { IfOk result (λ standing. standing_in outline.now standing ≡ at_first outline.now) }
+        ensures at { IfOk result (λ standing. standing_in outline.now standing
+            ≡ at_first outline.now) }
         ensures holding { IfOk result (IsHolding outline.now) }
         ensures upstreams { IfOk result (λ standing. standing.modules.0 ≡ upstreams outline.now) }
     {
@@ -44,7 +45,8 @@ impl Standing {
     }
 
     pub(crate) fn course(&self, worker: u32) -> Course
-        ensures at { (outline : Outline) → course_at outline result ≡ course_of (standing_in outline self.now) worker }
+        ensures at { (outline : Outline)
+            → course_at outline result ≡ course_of (standing_in outline self.now) worker }
         ensures item { result ≡ slice_index_or self.now.courses.items worker Idle }
     {
         self.courses
@@ -54,7 +56,8 @@ impl Standing {
     }
 
     pub(crate) fn holds_none(&self, worker: u32) -> bool
-        ensures { (outline : Outline) → result ≡ is_empty (held_by (standing_in outline self.now) worker) }
+        ensures { (outline : Outline)
+            → result ≡ is_empty (held_by (standing_in outline self.now) worker) }
     {
         self.holdings.has_none(worker)
     }

@@ -1,4 +1,4 @@
--- Every complete, quiet, fitting run leaves the repository as the build by one hand does.
+-- Every complete, quiet, fitting run leaves the repository as the sequential build does.
 use Rattle.std.proofs.Common.{◌≡◌, ℕ, zero, suc, ◌<◌, ◌⊎◌, inl, inr, Bool, true, false, ◌&&◌, List, [], ◌∷◌, length, get_or, map, nat_lt, slice_get, Some, None, is_some, unwrap_or, refl, arith, sym, ap, subst, ◌∙◌, if◌then◌else◌}
 use Rattle.std.specs.Option.{option_or}
 use Rattle.std.specs.FinMap as finite
@@ -147,7 +147,7 @@ sound_owns plan sound = record {
       let sized = sound.present in omega (arith, low, sized);
 }
 
--- so of a sound plan: a complete, quiet run of hands that tell all leaves the repository as the build by one hand does
+-- so of a sound plan: a complete, quiet run of hands that tell all leaves the repository as the sequential build does
 pub core_sound : (plan : Plan) (start remote : Files) → IsSoundPlan plan → IsPresent plan start → (hands : ℕ → HandTold) → ((w : ℕ) → ((hands w).area ≡ true) × ((hands w).remote ≡ Some remote)) → (entries : List RunEntry)
     → IsRunOf plan entries → AllFit plan (Some start) hands [] entries → IsComplete plan entries → IsQuiet entries → (said : ℕ → ℕ → GoalAnswer) → Extends (answers_in plan entries) said
     → contents plan start entries ≡ (one_thread plan (supply_by start remote said)).files

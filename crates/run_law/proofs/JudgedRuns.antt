@@ -1,4 +1,4 @@
--- Every complete, quiet, fitting run ends as the build by one hand.
+-- Every complete, quiet, fitting run ends as the sequential build.
 use Rattle.std.proofs.Common.{◌≡◌, ℕ, zero, suc, ◌<◌, ◌⊎◌, inl, inr, Bool, true, false, not, set, List, [], ◌∷◌, ◌++◌, find, length, replicate, slice_get, Option, Some, None, is_some, unwrap_or, refl, arith, sym, ap, subst, ◌∙◌}
 use Rattle.std.specs.List.{list_all}
 use Rattle.std.specs.Option.{option_map_or}
@@ -234,7 +234,7 @@ module _ (plan : Plan) (start remote : Files) (fit : IsFitPlan plan) (present : 
   pub real : (number u : ℕ) (m : PlanModule) → slice_get plan.modules number ≡ Some m → u < number → (n : PlanModule) × (slice_get plan.modules u ≡ Some n)
   real number u m at less = get_in plan.modules u (let low = in_list plan.modules number m at in omega (arith, less, low))
 
-  -- isolation: on modules that P holds of, none of which ended by a fault, P going up to upstreams, the run is the build by one hand
+  -- isolation: on modules that P holds of, none of which ended by a fault, P going up to upstreams, the run is the sequential build
   pub isolation : (P : ℕ → Type 0) (entries : List RunEntry) → IsRunOf plan entries → AllFit plan (Some start) hands [] entries → IsComplete plan entries → (said : ℕ → ℕ → GoalAnswer) → Extends (answers_in plan entries) said
       → ((number : ℕ) → P number → QuietAt entries number) → ((number u : ℕ) (m : PlanModule) → slice_get plan.modules number ≡ Some m → is_listed u m.upstream ≡ true → P number → P u)
       → (number : ℕ) (m : PlanModule) → slice_get plan.modules number ≡ Some m → P number

@@ -375,7 +375,7 @@ module _ (o : Outline) (now : Standing) (s : IsStanding o now) (number v : ℕ) 
   turned w c new = by (same_or_not v w)
     where
       by : (v ≡ w) ⊎ ((v ≡ w) → ⊥) → IsLate (get_or (set now.courses w c) v idle)
-      by (inl e) = subst (λ k. IsLate (get_or (set now.courses w c) k idle)) (sym e) (subst IsLate (sym (get_or-set_same now.courses w c idle (let low = whose.0 in let ways = s.fit.courses in omega (arith, low, ways, e)))) (new e))
+      by (inl e) = subst (λ k. IsLate (get_or (set now.courses w c) k idle)) (sym e) (subst IsLate (sym (get_or-set_same now.courses w c idle (let low = whose.0 in let rows = s.fit.courses in omega (arith, low, rows, e)))) (new e))
       by (inr other) = subst IsLate (sym (get_or-set_other now.courses w v c idle other)) late
 
   -- another module's progress leaves it running
@@ -445,7 +445,7 @@ late_begins o now w f number m s owns is whose at other = by (course_of now w) r
         at_done None d some = absurd (false≢true some)
         at_done (Some rest) d some =
             let left = own_due m.installs script f rest (own m (subst (λ k. slice_get o.modules k ≡ Some m) (sym same) at)) (λ w. other script last (e ∙ ap (λ k. on_course k script last) same) w) d in
-            let low : w < length now.courses = let ways = s.fit.courses in omega (arith, is.0, ways) in (
+            let low : w < length now.courses = let rows = s.fit.courses in omega (arith, is.0, rows) in (
               inl (
                 w,
                 s.tied.busy w number whose,

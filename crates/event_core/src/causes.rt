@@ -4,7 +4,8 @@ ghost use Rattle.name_locks.specs.Locks.{names_of, workers_of};
 ghost use Rattle.event_core.specs.declared.outline.Outline.{Outline};
 ghost use Rattle.event_core.specs.declared.refused.NotEnabled.TheVariants.{Unordered, Upstream, Worker};
 ghost use Rattle.event_core.specs.Fronts.{upstreams};
-ghost use Rattle.event_core.specs.Standing.{Course, course_of, first_not_built, held_by, is_empty, module_of};
+ghost use Rattle.event_core.specs.Standing.{course_of, first_not_built, held_by, is_empty, module_of};
+ghost use Rattle.event_core.specs.Standing as definition;
 ghost use Rattle.event_core.specs.Enabled.{ending_in_range, is_due, may_end_so};
 ghost use Rattle.event_core.specs.Causes.{answer_cause, begin_cause, by_file, cause_now, end_cause, file_cause, free_cause, free_end, hold_cause, last_of, not_below, number_of, skip_cause, stage_at, start_cause, take_cause, unless, where_found, wrong_end};
 ghost use Rattle.event_core.specs.Kept.{course_at, standing_in};
@@ -39,7 +40,7 @@ fn above(greatest: u32, name: u32) -> Option<u32>
 }
 
 fn by_file(due: Option<u32>, stage: u32) -> NotEnabled
-    ensures { (course : Course) → stage ≡ stage_at course → result ≡ by_file due course }
+    ensures { (course : definition.Course) → stage ≡ stage_at course → result ≡ by_file due course }
 {
     match due {
         Some(file) => NotEnabled::File(file),

@@ -40,10 +40,11 @@ impl<'a> Rest<'a> {
 
     // What is left behind a deed that is due.
     pub(crate) fn done(self, deed: Deed) -> Option<Rest<'a>>
-        ensures script { option_map script_left result ≡ done (script_left self) deed }
-        ensures owner { (next : Rest) → result ≡ Some next → module_left next ≡ module_left self }
-        ensures held { (held : List ℕ) → RestHolds self held → (next : Rest) → result ≡ Some next
-            → HoldsThen deed held (RestHoldsBehind next) }
+        ensures script { option_map script_left result ≡ done (script_left self.entry) deed }
+        ensures owner { (next : Rest) → result ≡ Some next
+            → module_left next ≡ module_left self.entry }
+        ensures held { (held : List ℕ) → RestHolds self.entry held → (next : Rest)
+            → result ≡ Some next → HoldsThen deed held (RestHoldsBehind next) }
     {
         match self {
             Rest::Nothing => None,
@@ -56,10 +57,11 @@ impl<'a> Rest<'a> {
 
     // The first place from here on that wants an event.
     pub(crate) fn settled(self, there: &[bool], empty: bool) -> ScriptPlace
-        ensures script { (o : Outline) (number : ℕ) → module_left self ≡ slice_get o.modules number
-            → script_at o number result ≡ settled there.now empty (script_left self) }
-        ensures held { (held : List ℕ) → empty ≡ is_empty held → RestHoldsBehind self held
-            → (m : ModuleOutline) → module_left self ≡ Some m → HoldsAt m result held }
+        ensures script { (o : Outline) (number : ℕ)
+            → module_left self.entry ≡ slice_get o.modules number
+            → script_at o number result ≡ settled there.now empty (script_left self.entry) }
+        ensures held { (held : List ℕ) → empty ≡ is_empty held → RestHoldsBehind self.entry held
+            → (m : ModuleOutline) → module_left self.entry ≡ Some m → HoldsAt m result held }
     {
         match self {
             Rest::Nothing => ScriptPlace::Whole,
@@ -69,7 +71,7 @@ impl<'a> Rest<'a> {
 
     // The number of the stage.
     pub(crate) fn stage(self) -> u32
-        ensures { result ≡ stage_of (script_left self) }
+        ensures { result ≡ stage_of (script_left self.entry) }
     {
         match self {
             Rest::Nothing => 7,
@@ -79,7 +81,7 @@ impl<'a> Rest<'a> {
 
     // The file that is to be fetched next.
     pub(crate) fn wanted(self) -> Option<u32>
-        ensures { result ≡ wanted (script_left self) }
+        ensures { result ≡ wanted (script_left self.entry) }
     {
         match self {
             Rest::Nothing => None,
@@ -89,7 +91,7 @@ impl<'a> Rest<'a> {
 
     // The file that is to be read next.
     pub(crate) fn to_read(self) -> Option<u32>
-        ensures { result ≡ option_and_then read_by (head (script_left self)) }
+        ensures { result ≡ option_and_then read_by (head (script_left self.entry)) }
     {
         match self {
             Rest::Nothing => None,
@@ -99,7 +101,7 @@ impl<'a> Rest<'a> {
 
     // The file that is to be published next.
     pub(crate) fn to_publish(self) -> Option<u32>
-        ensures { result ≡ option_and_then published_by (head (script_left self)) }
+        ensures { result ≡ option_and_then published_by (head (script_left self.entry)) }
     {
         match self {
             Rest::Nothing => None,
@@ -109,7 +111,7 @@ impl<'a> Rest<'a> {
 
     // Whether all files of the fetch list were there, and no goal is answered.
     pub(crate) fn is_gathered(self) -> bool
-        ensures { result ≡ is_gathered (goals_left self) (script_left self) }
+        ensures { result ≡ is_gathered (goals_left self.entry) (script_left self.entry) }
     {
         match self {
             Rest::Nothing => true,
@@ -118,7 +120,7 @@ impl<'a> Rest<'a> {
     }
 
     pub(crate) fn may_end(self) -> bool
-        ensures { result ≡ may_end (script_left self) }
+        ensures { result ≡ may_end (script_left self.entry) }
     {
         match self {
             Rest::Nothing => true,
@@ -128,7 +130,8 @@ impl<'a> Rest<'a> {
 
     // Whether the installing is next, and an artifact is needed for it.
     pub(crate) fn lacks_artifact(self) -> bool
-        ensures { result ≡ (is_to_install (script_left self) && needs_artifact_left self) }
+        ensures { result ≡ (is_to_install (script_left self.entry) && needs_artifact_left
+            self.entry) }
     {
         match self {
             Rest::Nothing => false,

@@ -5,7 +5,9 @@ use Rattle.event_core.proofs.ScriptPlaces.{start_is}
 use Rattle.event_core.proofs.course.Course.begun.Goals as goal
 
 pub returns-clause-at : goal.returns-clause-at
-returns-clause-at c = ap (λ s. on_course c.args.number s None) (c.settled_at-place.ensures.rest ∙ ap (settled c.args.there.now c.args.empty) (start_is c.args.outline.now c.args.number))
+returns-clause-at c =
+    let o = c.args.outline.now in
+    ap (λ s. on_course c.args.number s None) (c.settled.ensures.script o c.args.number c.of-rest.ensures.owner ∙ ap (settled c.args.there.now c.args.empty) (c.of-rest.ensures.script ∙ start_is o c.args.number))
 
 pub returns-clause-held : goal.returns-clause-held
-returns-clause-held c = λ e. λ m at. c.settled_at-place.ensures.held [] m at e refl
+returns-clause-held c = λ e. λ m at. c.settled.ensures.held [] e (c.of-rest.ensures.behind [] (λ m at. refl)) m (c.of-rest.ensures.owner ∙ at)

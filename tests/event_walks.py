@@ -94,7 +94,7 @@ def module_at(plan, m):
     return plan['modules'][m] if m < len(plan['modules']) else None
 
 
-class Now:
+class Standing:
     def __init__(self, plan):
         self.progress = ['waiting'] * len(plan['modules'])
         self.courses = [None] * plan['workers']
@@ -153,8 +153,8 @@ def after(plan, now, e):
         now.courses[e[1]] = None
 
 
-def now_of(plan, events):
-    now = Now(plan)
+def standing_of(plan, events):
+    now = Standing(plan)
     for e in events:
         after(plan, now, e)
     return now
@@ -378,7 +378,7 @@ def walk(seed):
     plan = make_plan(draws)
     events, total = [], 0
     for _ in range(80):
-        now = now_of(plan, events)
+        now = standing_of(plan, events)
         answers = [number(cause(plan, now, event_at(*p))) for p in PLACES]
         enabled = [p for p, a in zip(PLACES, answers) if a == 0]
         if not enabled:

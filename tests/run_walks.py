@@ -474,7 +474,7 @@ def events_near(draws, now, every, event):
 def check_scripts(draws, plan, world, run):
     """At each moment of a run: the next event and some others may come in the one definition exactly where they may in the other."""
     outline, now = as_outline(plan), Moment(plan, world.start)
-    then, every, asked = event_walks.Now(outline), list(events_of(plan)), 0
+    then, every, asked = event_walks.Standing(outline), list(events_of(plan)), 0
     for event, carried in run:
         for e in events_near(draws, now, every, event):
             asked += 1

@@ -23,9 +23,9 @@ use Rattle.event_core.specs.Enabled.{IsEnabled, is_due, may_end_so}
 use Rattle.event_core.specs.Fitting.{IsFit}
 use Rattle.event_core.specs.Outlines.{is_listed}
 use Rattle.event_core.specs.Scripts.{settled, script_of, whole}
-use Rattle.event_core.specs.Standing.{Course, Now, after, after_deed, after_free, at_first, course_of, ended, held_by, idle, is_empty, is_waiting, module_of, now_of, off_course, on_course, progress_of, start_of, turned_to}
+use Rattle.event_core.specs.Standing.{Course, Standing, after, after_deed, after_free, at_first, course_of, ended, held_by, idle, is_empty, is_waiting, module_of, off_course, on_course, progress_of, standing_of, start_of, turned_to}
 use Rattle.event_core.proofs.Climbs.{all_but, all_more, any_default, but_shorter, both, climbs_but, climbs_more, get_map, listed_but, listed_last, listed_more, none_beyond}
-use Rattle.event_core.proofs.Holding.{free_holds, row_in, take_holds}
+use Rattle.event_core.proofs.LockRows.{free_holds, row_in, take_holds}
 use Rattle.event_core.proofs.Weights.{cost, due_lighter, free_lighter, nothing_is, set_total, settled_lighter, waiting_gone, waiting_set}
 
 -- ---- where nothing has happened
@@ -50,7 +50,7 @@ fit_first o = record {
   names = refl;
   workers = refl;
   rows = length-replicate o.workers [];
-  ways = length-replicate o.workers idle;
+  courses = length-replicate o.workers idle;
   modules = length-replicate (length o.modules) Waiting;
   climbing = All-replicate (Climbs 0) o.workers [] tt;
   low = All-replicate (λ held. list_all (λ h. nat_lt h o.names) held ≡ true) o.workers [] refl;
@@ -59,14 +59,14 @@ fit_first o = record {
 
 -- ---- a part that changes
 
-fit_turned : (o : Outline) (now : Now) (w : ℕ) (course : Course) → IsFit o now → IsFit o (turned_to now w course)
-fit_turned o now w course fit = record { names = fit.names; workers = fit.workers; rows = fit.rows; ways = length-set now.courses w course ∙ fit.ways; modules = fit.modules; climbing = fit.climbing; low = fit.low; listed = fit.listed }
+fit_turned : (o : Outline) (now : Standing) (w : ℕ) (course : Course) → IsFit o now → IsFit o (turned_to now w course)
+fit_turned o now w course fit = record { names = fit.names; workers = fit.workers; rows = fit.rows; courses = length-set now.courses w course ∙ fit.courses; modules = fit.modules; climbing = fit.climbing; low = fit.low; listed = fit.listed }
 
-fit_progress : (o : Outline) (now : Now) (progress : List Progress) → length progress ≡ length now.progress → IsFit o now → IsFit o (record now { progress = progress })
-fit_progress o now progress long fit = record { names = fit.names; workers = fit.workers; rows = fit.rows; ways = fit.ways; modules = long ∙ fit.modules; climbing = fit.climbing; low = fit.low; listed = fit.listed }
+fit_progress : (o : Outline) (now : Standing) (progress : List Progress) → length progress ≡ length now.progress → IsFit o now → IsFit o (record now { progress = progress })
+fit_progress o now progress long fit = record { names = fit.names; workers = fit.workers; rows = fit.rows; courses = fit.courses; modules = long ∙ fit.modules; climbing = fit.climbing; low = fit.low; listed = fit.listed }
 
-fit_there : (o : Outline) (now : Now) (there : List Bool) → IsFit o now → IsFit o (record now { there = there })
-fit_there o now there fit = record { names = fit.names; workers = fit.workers; rows = fit.rows; ways = fit.ways; modules = fit.modules; climbing = fit.climbing; low = fit.low; listed = fit.listed }
+fit_there : (o : Outline) (now : Standing) (there : List Bool) → IsFit o now → IsFit o (record now { there = there })
+fit_there o now there fit = record { names = fit.names; workers = fit.workers; rows = fit.rows; courses = fit.courses; modules = fit.modules; climbing = fit.climbing; low = fit.low; listed = fit.listed }
 
 -- two workers are one, or not
 pub same_or_not : (v w : ℕ) → (v ≡ w) ⊎ ((v ≡ w) → ⊥)
@@ -76,19 +76,19 @@ same_or_not v w = by (nat_eq v w) refl
     by true e = inl (eqb-true v w e)
     by false e = inr (λ same. false≢true (sym e ∙ ap (nat_eq v) (sym same) ∙ nat_eq_equiv.refl v))
 
-row_climbs : (o : Outline) (now : Now) (w : ℕ) → IsFit o now → w < o.workers → Climbs 0 (held_by now w)
+row_climbs : (o : Outline) (now : Standing) (w : ℕ) → IsFit o now → w < o.workers → Climbs 0 (held_by now w)
 row_climbs o now w fit low = All-get_or (Climbs 0) now.held w [] (omega (arith, low, fit.rows)) fit.climbing
 
-row_low : (o : Outline) (now : Now) (w : ℕ) → IsFit o now → w < o.workers → list_all (λ h. nat_lt h o.names) (held_by now w) ≡ true
+row_low : (o : Outline) (now : Standing) (w : ℕ) → IsFit o now → w < o.workers → list_all (λ h. nat_lt h o.names) (held_by now w) ≡ true
 row_low o now w fit low = All-get_or (λ held. list_all (λ h. nat_lt h o.names) held ≡ true) now.held w [] (omega (arith, low, fit.rows)) fit.low
 
-pub fit_taken : (o : Outline) (now : Now) (w n : ℕ) (mode : Mode) → IsFit o now → w < o.workers → n < o.names → list_all (λ h. nat_lt h n) (held_by now w) ≡ true
+pub fit_taken : (o : Outline) (now : Standing) (w n : ℕ) (mode : Mode) → IsFit o now → w < o.workers → n < o.names → list_all (λ h. nat_lt h n) (held_by now w) ≡ true
     → IsFit o (record now { held = set now.held w (held_by now w ++ n ∷ []); locks = with_hold now.locks n w (Some mode) })
 fit_taken o now w n mode fit low small above = record {
   names = fit.names;
   workers = fit.workers;
   rows = length-set now.held w more ∙ fit.rows;
-  ways = fit.ways;
+  courses = fit.courses;
   modules = fit.modules;
   climbing = All-set (Climbs 0) now.held w more (climbs_more (held_by now w) 0 n (row_climbs o now w fit low) above (omega arith)) fit.climbing;
   low = All-set (λ held. list_all (λ h. nat_lt h o.names) held ≡ true) now.held w more (all_more (λ h. nat_lt h o.names) (held_by now w) n (row_low o now w fit low) (lt-ltb n o.names small)) fit.low;
@@ -110,12 +110,12 @@ fit_taken o now w n mode fit low small above = record {
         subst (λ u. is_listed k (get_or (set now.held w more) u []) ≡ true) (sym same) (subst (λ t. is_listed k t ≡ true) (sym here) (listed_more (held_by now w) k n (subst (λ u. is_listed k (held_by now u) ≡ true) same (fit.listed v k inside is))))
     by v k inside (inr is) (inr other) = subst (λ t. is_listed k t ≡ true) (sym (get_or-set_other now.held w v more [] other)) (fit.listed v k inside is)
 
-pub fit_freed : (o : Outline) (now : Now) (w n : ℕ) → IsFit o now → w < o.workers → IsFit o (record now { held = set now.held w (but n (held_by now w)); locks = with_hold now.locks n w None })
+pub fit_freed : (o : Outline) (now : Standing) (w n : ℕ) → IsFit o now → w < o.workers → IsFit o (record now { held = set now.held w (but n (held_by now w)); locks = with_hold now.locks n w None })
 fit_freed o now w n fit low = record {
   names = fit.names;
   workers = fit.workers;
   rows = length-set now.held w less ∙ fit.rows;
-  ways = fit.ways;
+  courses = fit.courses;
   modules = fit.modules;
   climbing = All-set (Climbs 0) now.held w less (climbs_but (held_by now w) 0 n (row_climbs o now w fit low)) fit.climbing;
   low = All-set (λ held. list_all (λ h. nat_lt h o.names) held ≡ true) now.held w less (all_but (λ h. nat_lt h o.names) (held_by now w) n (row_low o now w fit low)) fit.low;
@@ -136,7 +136,7 @@ fit_freed o now w n fit low = record {
         subst (λ u. is_listed k (get_or (set now.held w less) u []) ≡ true) (sym same) (subst (λ t. is_listed k t ≡ true) (sym here) (listed_but (held_by now w) k n (subst (λ u. is_listed k (held_by now u) ≡ true) same (fit.listed v k inside h.1)) (λ e. h.0 e same)))
     by v k inside h (inr other) = subst (λ t. is_listed k t ≡ true) (sym (get_or-set_other now.held w v less [] other)) (fit.listed v k inside h.1)
 
-pub fit_after : (o : Outline) (now : Now) (e : Event) → IsFit o now → IsEnabled o now e → IsFit o (after o now e)
+pub fit_after : (o : Outline) (now : Standing) (e : Event) → IsFit o now → IsEnabled o now e → IsFit o (after o now e)
 unfolding after
 fit_after o now (event.Start w m) fit is = fit_turned o (record now { progress = set now.progress m (Running w) }) w (on_course m (settled now.there (is_empty (held_by now w)) (start_of o m)) None) (fit_progress o now (set now.progress m (Running w)) (length-set now.progress m (Running w)) fit)
 fit_after o now (event.Skip m) fit is = fit_progress o now (set now.progress m Skipped) (length-set now.progress m Skipped) fit
@@ -157,9 +157,9 @@ fit_after o now (event.End w e) fit is = fit_turned o (record now { progress = e
 
 -- ---- each event leaves fewer
 
-deed_fewer : (o : Outline) (now : Now) (w : ℕ) (held : List ℕ) (there : List Bool) (d : Deed) (answered : Option ℕ) → IsFit o now → w < o.workers → is_due (course_of now w) d ≡ true → total course_events (set now.courses w (after_deed there held d answered (course_of now w))) + cost d ≤ total course_events now.courses
+deed_fewer : (o : Outline) (now : Standing) (w : ℕ) (held : List ℕ) (there : List Bool) (d : Deed) (answered : Option ℕ) → IsFit o now → w < o.workers → is_due (course_of now w) d ≡ true → total course_events (set now.courses w (after_deed there held d answered (course_of now w))) + cost d ≤ total course_events now.courses
 deed_fewer o now w held there d answered fit low is =
-    let sum = set_total course_events now.courses w (after_deed there held d answered (course_of now w)) idle (omega (arith, low, fit.ways)) in
+    let sum = set_total course_events now.courses w (after_deed there held d answered (course_of now w)) idle (omega (arith, low, fit.courses)) in
     let less = due_lighter there held d answered (course_of now w) is in
     omega (arith, sum, less)
 
@@ -180,23 +180,23 @@ busy_is o (off_course m file gathered) e is = omega arith
 module_is : (o : Outline) (m : ℕ) (x : ModuleOutline) → slice_get o.modules m ≡ Some x → start_of o m ≡ script_of x
 module_is o m x at = ap (λ found. option_map_or script_of found whole) at
 
-waits_at : (o : Outline) (now : Now) (m : ℕ) (d : Progress) → IsFit o now → m < length o.modules → is_waiting (progress_of now.progress m) ≡ true → is_waiting (get_or now.progress m d) ≡ true
+waits_at : (o : Outline) (now : Standing) (m : ℕ) (d : Progress) → IsFit o now → m < length o.modules → is_waiting (progress_of now.progress m) ≡ true → is_waiting (get_or now.progress m d) ≡ true
 waits_at o now m d fit low is = ap is_waiting (any_default now.progress m d Waiting (omega (arith, low, fit.modules))) ∙ is
 
-start_fewer : (o : Outline) (now : Now) (w m : ℕ) → IsFit o now → IsEnabled o now (event.Start w m) → (found : Option ModuleOutline) → slice_get o.modules m ≡ found
+start_fewer : (o : Outline) (now : Standing) (w m : ℕ) → IsFit o now → IsEnabled o now (event.Start w m) → (found : Option ModuleOutline) → slice_get o.modules m ≡ found
     → suc (events_left o (after o now (event.Start w m))) ≤ events_left o now
 unfolding after
 start_fewer o now w m fit is None at = let far = none_beyond o.modules m at in absurd (omega (arith, far, is.1))
 start_fewer o now w m fit is (Some x) at =
     let course = on_course m (settled now.there (is_empty (held_by now w)) (start_of o m)) None in
-    let sum = set_total course_events now.courses w course idle (omega (arith, is.0, fit.ways)) in
+    let sum = set_total course_events now.courses w course idle (omega (arith, is.0, fit.courses)) in
     let none = idle_is (course_of now w) is.4 in
     let light = settled_lighter now.there (is_empty (held_by now w)) (start_of o m) in
     let same = ap script_events (module_is o m x at) in
     let gone = waiting_gone now.progress o.modules m (Running w) x refl (waits_at o now m (Running w) fit is.1 is.2) at in
     omega (arith, sum, none, light, same, gone)
 
-skip_fewer : (o : Outline) (now : Now) (m : ℕ) → IsFit o now → IsEnabled o now (event.Skip m) → (found : Option ModuleOutline) → slice_get o.modules m ≡ found
+skip_fewer : (o : Outline) (now : Standing) (m : ℕ) → IsFit o now → IsEnabled o now (event.Skip m) → (found : Option ModuleOutline) → slice_get o.modules m ≡ found
     → suc (events_left o (after o now (event.Skip m))) ≤ events_left o now
 unfolding after
 skip_fewer o now m fit is None at = let far = none_beyond o.modules m at in absurd (omega (arith, far, is.0))
@@ -204,7 +204,7 @@ skip_fewer o now m fit is (Some x) at =
     let gone = waiting_gone now.progress o.modules m Skipped x refl (waits_at o now m Skipped fit is.0 is.1) at in
     omega (arith, gone)
 
-pub fewer_after : (o : Outline) (now : Now) (e : Event) → IsFit o now → IsEnabled o now e → suc (events_left o (after o now e)) ≤ events_left o now
+pub fewer_after : (o : Outline) (now : Standing) (e : Event) → IsFit o now → IsEnabled o now e → suc (events_left o (after o now e)) ≤ events_left o now
 unfolding after
 fewer_after o now (event.Start w m) fit is = start_fewer o now w m fit is (slice_get o.modules m) refl
 fewer_after o now (event.Skip m) fit is = skip_fewer o now m fit is (slice_get o.modules m) refl
@@ -218,7 +218,7 @@ fewer_after o now (event.Take w n mode) fit is =
 fewer_after o now (event.Free w n) fit is =
     let few = but n (held_by now w) in
     let mid = record now { held = set now.held w few; locks = with_hold now.locks n w None } in
-    let turned = set_total course_events now.courses w (after_free o now.there (held_by mid w) (course_of now w)) idle (omega (arith, is.0, fit.ways)) in
+    let turned = set_total course_events now.courses w (after_free o now.there (held_by mid w) (course_of now w)) idle (omega (arith, is.0, fit.courses)) in
     let light = free_lighter o now.there (held_by mid w) (course_of now w) in
     let sum = set_total (λ held. length held) now.held w few [] (omega (arith, is.0, fit.rows)) in
     let short = but_shorter (held_by now w) n (fit.listed w n is.0 is.2) in
@@ -227,7 +227,7 @@ fewer_after o now (event.Read w f) fit is = let less = deed_fewer o now w (held_
 fewer_after o now (event.Publish w f) fit is = let less = deed_fewer o now w (held_by now w) (set now.there f true) (deed.Publish f) None fit is.0 is.2 in omega (arith, less)
 fewer_after o now (event.Answer w g) fit is = let less = deed_fewer o now w (held_by now w) now.there (deed.Answer g) (Some g) fit is.0 is.2 in omega (arith, less)
 fewer_after o now (event.End w e) fit is =
-    let sum = set_total course_events now.courses w idle idle (omega (arith, is.0, fit.ways)) in
+    let sum = set_total course_events now.courses w idle idle (omega (arith, is.0, fit.courses)) in
     let busy = busy_is o (course_of now w) e is.3 in
     let less = ends (module_of (course_of now w)) in
     omega (arith, sum, busy, less)
@@ -265,7 +265,7 @@ none_listed (x ∷ xs) n all is =
     by true e h again less = let same = eqb-true x n e in omega (arith, same, less)
     by false e h again less = again h
 
-pub hold_none : (o : Outline) (now : Now) (w n : ℕ) → IsFit o now → w < o.workers → list_all (λ h. nat_lt h n) (held_by now w) ≡ true → hold now.locks n w ≡ None
+pub hold_none : (o : Outline) (now : Standing) (w n : ℕ) → IsFit o now → w < o.workers → list_all (λ h. nat_lt h n) (held_by now w) ≡ true → hold now.locks n w ≡ None
 hold_none o now w n fit low all = by (hold now.locks n w) refl
   where
     by : (held : Option Mode) → hold now.locks n w ≡ held → hold now.locks n w ≡ None
@@ -283,7 +283,7 @@ pub fold_more : {A B : Type 0} (f : B → A → B) (xs : List A) (s : B) (x : A)
 fold_more f [] s x = refl
 fold_more f (y ∷ xs) s x = fold_more f xs (f s y) x
 
-pub one_more : (o : Outline) (events : List Event) (e : Event) → now_of o (events ++ e ∷ []) ≡ after o (now_of o events) e
+pub one_more : (o : Outline) (events : List Event) (e : Event) → standing_of o (events ++ e ∷ []) ≡ after o (standing_of o events) e
 one_more o events e = fold_more (after o) events (at_first o) e
 
 pub longer_by_one : (events : List Event) (e : Event) → length (events ++ e ∷ []) ≡ suc (length events)

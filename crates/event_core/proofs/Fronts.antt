@@ -12,7 +12,7 @@ use Rattle.name_locks.specs.Locks.{below}
 use Rattle.event_core.specs.declared.edges.Edge.{Edge}
 use Rattle.event_core.specs.Enabled.{is_this}
 use Rattle.event_core.specs.Fronts.{AreEdges, IsBefore, IsFirst, has_edge, is_marked, is_touched}
-use Rattle.event_core.proofs.Places.{found_at, not_yet}
+use Rattle.event_core.proofs.ScriptPlaces.{found_at, not_yet}
 
 -- ---- marks
 

@@ -14,7 +14,7 @@ use Rattle.event_core.specs.Climbing.{Climbs}
 use Rattle.event_core.specs.Enabled.{IsEnabled, ending_in_range, goal_in_range, is_due, may_end_so}
 use Rattle.event_core.specs.Causes.{begin_cause, by_file, cause_now, hold_cause, last_of, not_below, number_of, publish_due, read_due, stage_at, unless, where_found, wrong_end}
 use Rattle.event_core.specs.Fitting.{IsFit}
-use Rattle.event_core.specs.Standing.{Now, course_of, first_lost, first_not_built, held_by, is_empty, is_waiting, module_of, progress_of, state_of}
+use Rattle.event_core.specs.Standing.{Standing, course_of, first_lost, first_not_built, held_by, is_empty, is_waiting, module_of, progress_of, state_of}
 use Rattle.event_core.proofs.Climbs.{both}
 use Rattle.event_core.proofs.Weights.{nothing_is}
 
@@ -67,7 +67,7 @@ none_above (x ∷ y ∷ ys) n all =
     let first = both (nat_lt x n) (list_all (λ h. nat_lt h n) (y ∷ ys)) all in
     ap (option_and_then (λ h. if nat_lt h n then None else Some h)) (last_more x y ys) ∙ none_above (y ∷ ys) n first.1
 
-climbs_at : (o : Outline) (now : Now) (w : ℕ) → IsFit o now → w < o.workers → Climbs 0 (held_by now w)
+climbs_at : (o : Outline) (now : Standing) (w : ℕ) → IsFit o now → w < o.workers → Climbs 0 (held_by now w)
 climbs_at o now w fit low = All-get_or (Climbs 0) now.held w [] (omega (arith, low, fit.rows)) fit.climbing
 
 empty_is : (xs : List ℕ) → is_empty xs ≡ true → xs ≡ []
@@ -76,7 +76,7 @@ empty_is (x ∷ xs) e = absurd (false≢true e)
 
 -- ---- no cause, so it may come
 
-pub no_cause : (o : Outline) (now : Now) (e : Event) → IsFit o now → cause_now o now e ≡ None → IsEnabled o now e
+pub no_cause : (o : Outline) (now : Standing) (e : Event) → IsFit o now → cause_now o now e ≡ None → IsEnabled o now e
 unfolding cause_now
 no_cause o now (event.Start w m) fit e =
     let a = holds_of (nat_lt w o.workers) (Range w) (unless (nat_lt m (length o.modules)) (Range m) (unless (is_waiting (progress_of now.progress m)) (Module (state_of o now.progress m)) (begin_cause o now w m))) e in
@@ -133,7 +133,7 @@ no_cause o now (event.End w x) fit e =
 
 -- ---- it may come, so there is no cause
 
-pub cause_none : (o : Outline) (now : Now) (e : Event) → IsEnabled o now e → cause_now o now e ≡ None
+pub cause_none : (o : Outline) (now : Standing) (e : Event) → IsEnabled o now e → cause_now o now e ≡ None
 unfolding cause_now
 cause_none o now (event.Start w m) is =
     rw (is_below w o.workers is.0) (rw (is_below m (length o.modules) is.1) (rw is.2 (where_none (first_not_built o now.progress m) (λ u. Upstream u) (where_found (module_of (course_of now w)) (λ at. Worker at) None) is.3 (where_none (module_of (course_of now w)) (λ at. Worker at) None is.4 refl))))

@@ -5,14 +5,14 @@ mod Firsts
 pub mod Fits
 mod Follows
 mod Fronts
-mod Goings
-pub mod Holding
-pub mod Keeping
+mod Going
+pub mod HeldAt
 pub mod Law
+pub mod LockRows
 mod Most
-pub mod Places
 mod Readings
 pub mod Runs
+pub mod ScriptPlaces
 mod Stuck
 mod Taken
 pub mod Ties

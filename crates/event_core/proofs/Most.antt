@@ -6,7 +6,7 @@ use Rattle.name_locks.specs.declared.mode.Mode.TheVariants.{Shared, Exclusive}
 use Rattle.event_core.specs.declared.outline.ModuleOutline.{ModuleOutline}
 use Rattle.event_core.specs.Bounds.{install_events, module_events, script_events, step_events, total}
 use Rattle.event_core.specs.Scripts.{Script, Step, answer_script, answers, choice_script, fetches, frees, install_script, lock_script, may_publish, own_script, read_script, reads, step, steps, takes, whole}
-use Rattle.event_core.proofs.Places.{length_below}
+use Rattle.event_core.proofs.ScriptPlaces.{length_below}
 
 ones : (stage : ℕ) (f : ℕ → Step) → ((x : ℕ) → step_events (f x) ≡ 1) → (xs : List ℕ) (rest : Script) → script_events (steps stage f xs rest) ≡ length xs + script_events rest
 ones stage f one [] rest = omega arith

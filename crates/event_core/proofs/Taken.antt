@@ -12,7 +12,7 @@ use Rattle.event_core.specs.Climbing.{Climbs, but}
 use Rattle.event_core.specs.Standing.{is_empty}
 use Rattle.event_core.specs.Taken.{AreStacks, IsStack, ends_freed, held_from, is_held}
 use Rattle.event_core.proofs.Climbs.{all_more, both, climbs_length, climbs_more}
-use Rattle.event_core.proofs.Holding.{row_in}
+use Rattle.event_core.proofs.LockRows.{row_in}
 use Rattle.event_core.proofs.Law.{all_below, last_more, none_above}
 use Rattle.event_core.proofs.Ties.{row_length, rows_other, rows_same}
 

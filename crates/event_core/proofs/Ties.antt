@@ -19,10 +19,10 @@ use Rattle.event_core.specs.Enabled.{IsEnabled}
 use Rattle.event_core.specs.Fitting.{IsFit, IsTied}
 use Rattle.event_core.specs.Outlines.{is_listed}
 use Rattle.event_core.specs.Scripts.{Script, done, is_gathered, settled, wanted}
-use Rattle.event_core.specs.Standing.{Course, Now, after, after_deed, after_free, at_first, course_of, ended, goals_of, held_by, idle, is_empty, is_over, is_waiting, module_of, off_course, on_course, progress_of, start_of}
+use Rattle.event_core.specs.Standing.{Course, Standing, after, after_deed, after_free, at_first, course_of, ended, goals_of, held_by, idle, is_empty, is_over, is_waiting, module_of, off_course, on_course, progress_of, start_of}
 use Rattle.event_core.proofs.Dues.{below_or_not}
 use Rattle.event_core.proofs.Fits.{same_or_not}
-use Rattle.event_core.proofs.Holding.{row_in}
+use Rattle.event_core.proofs.LockRows.{row_in}
 use Rattle.event_core.proofs.Weights.{nothing_is}
 
 -- ---- holds after one is changed
@@ -113,7 +113,7 @@ free_module o there held (on_course m script last) = by (done script deed.Free)
     by (Some rest) = refl
 
 -- a course that is put at a worker's place: its module, or that of the course that stands there
-turned_real : (o : Outline) (now : Now) (w : ℕ) (course : Course) → IsFit o now → ((m : ℕ) → module_of course ≡ Some m → m < length o.modules) → ((v m : ℕ) → module_of (course_of now v) ≡ Some m → m < length o.modules) → (v m : ℕ) → module_of (get_or (set now.courses w course) v idle) ≡ Some m → m < length o.modules
+turned_real : (o : Outline) (now : Standing) (w : ℕ) (course : Course) → IsFit o now → ((m : ℕ) → module_of course ≡ Some m → m < length o.modules) → ((v m : ℕ) → module_of (course_of now v) ≡ Some m → m < length o.modules) → (v m : ℕ) → module_of (get_or (set now.courses w course) v idle) ≡ Some m → m < length o.modules
 turned_real o now w course fit new old v m is = by (below_or_not w (length now.courses)) (same_or_not v w)
   where
     by : (w < length now.courses) ⊎ (length now.courses ≤ w) → (v ≡ w) ⊎ ((v ≡ w) → ⊥) → m < length o.modules
@@ -122,17 +122,17 @@ turned_real o now w course fit new old v m is = by (below_or_not w (length now.c
     by any (inr other) = old v m (sym (ap module_of (get_or-set_other now.courses w v course idle other)) ∙ is)
 
 -- a worker whose module stays
-turned_runs : (o : Outline) (now : Now) (w : ℕ) (course : Course) → IsFit o now → IsTied o now → module_of course ≡ module_of (course_of now w) → (m v : ℕ) → progress_of now.progress m ≡ Running v → (v < o.workers) × (module_of (get_or (set now.courses w course) v idle) ≡ Some m)
+turned_runs : (o : Outline) (now : Standing) (w : ℕ) (course : Course) → IsFit o now → IsTied o now → module_of course ≡ module_of (course_of now w) → (m v : ℕ) → progress_of now.progress m ≡ Running v → (v < o.workers) × (module_of (get_or (set now.courses w course) v idle) ≡ Some m)
 turned_runs o now w course fit tied same m v is = by (same_or_not v w) (tied.running m v is)
   where
     by : (v ≡ w) ⊎ ((v ≡ w) → ⊥) → (v < o.workers) × (module_of (course_of now v) ≡ Some m) → (v < o.workers) × (module_of (get_or (set now.courses w course) v idle) ≡ Some m)
     by (inl e) run =
-        let low : w < length now.courses = omega (arith, run.0, e, fit.ways) in
+        let low : w < length now.courses = omega (arith, run.0, e, fit.courses) in
         (run.0, subst (λ u. module_of (get_or (set now.courses w course) u idle) ≡ Some m) (sym e) (ap module_of (get_or-set_same now.courses w course idle low) ∙ same ∙ subst (λ u. module_of (course_of now u) ≡ Some m) e run.1))
     by (inr other) run = (run.0, ap module_of (get_or-set_other now.courses w v course idle other) ∙ run.1)
 
 -- a course that is put at a worker's place with the module that its own has
-pub turned_module : (now : Now) (w v : ℕ) (course : Course) → module_of course ≡ module_of (course_of now w) → module_of (get_or (set now.courses w course) v idle) ≡ module_of (course_of now v)
+pub turned_module : (now : Standing) (w v : ℕ) (course : Course) → module_of course ≡ module_of (course_of now w) → module_of (get_or (set now.courses w course) v idle) ≡ module_of (course_of now v)
 turned_module now w v course same = by (below_or_not w (length now.courses)) (same_or_not v w)
   where
     by : (w < length now.courses) ⊎ (length now.courses ≤ w) → (v ≡ w) ⊎ ((v ≡ w) → ⊥) → module_of (get_or (set now.courses w course) v idle) ≡ module_of (course_of now v)
@@ -140,7 +140,7 @@ turned_module now w v course same = by (below_or_not w (length now.courses)) (sa
     by (inr far) (inl e) = ap (λ t. module_of (get_or t v idle)) (set_far now.courses w course far)
     by any (inr other) = ap module_of (get_or-set_other now.courses w v course idle other)
 
-turned_busy : (o : Outline) (now : Now) (w : ℕ) (course : Course) → IsTied o now → module_of course ≡ module_of (course_of now w) → (v m : ℕ) → module_of (get_or (set now.courses w course) v idle) ≡ Some m → progress_of now.progress m ≡ Running v
+turned_busy : (o : Outline) (now : Standing) (w : ℕ) (course : Course) → IsTied o now → module_of course ≡ module_of (course_of now w) → (v m : ℕ) → module_of (get_or (set now.courses w course) v idle) ≡ Some m → progress_of now.progress m ≡ Running v
 turned_busy o now w course tied same v m is = tied.busy v m (sym (turned_module now w v course same) ∙ is)
 
 pub waits_still : (p : Progress) → is_waiting p ≡ true → is_over p ≡ false
@@ -153,7 +153,7 @@ runs_not : (p : Progress) (w : ℕ) → is_waiting p ≡ true → p ≡ Running 
 runs_not p w waits runs = false≢true (sym (ap is_waiting runs) ∙ waits)
 
 -- a module that waits is no worker's
-pub waits_alone : (o : Outline) (now : Now) (m v k : ℕ) → IsTied o now → is_waiting (progress_of now.progress m) ≡ true → module_of (course_of now v) ≡ Some k → k ≡ m → ⊥
+pub waits_alone : (o : Outline) (now : Standing) (m v k : ℕ) → IsTied o now → is_waiting (progress_of now.progress m) ≡ true → module_of (course_of now v) ≡ Some k → k ≡ m → ⊥
 waits_alone o now m v k tied waits at same = runs_not (progress_of now.progress m) v waits (ap (progress_of now.progress) (sym same) ∙ tied.busy v k at)
 
 abbrev runs_of : Progress → Bool
@@ -179,7 +179,7 @@ ended_rests : (e : Ending) (w : ℕ) → Ended e ≡ Running w → ⊥
 ended_rests x w e = false≢true (ap runs_of e)
 
 -- a progress that is put at a place and isn't running: what runs elsewhere ran before
-still_runs : (now : Now) (k : ℕ) (p : Progress) → ((w : ℕ) → p ≡ Running w → ⊥) → (m w : ℕ) → progress_of (set now.progress k p) m ≡ Running w → ((m ≡ k) → ⊥) × (progress_of now.progress m ≡ Running w)
+still_runs : (now : Standing) (k : ℕ) (p : Progress) → ((w : ℕ) → p ≡ Running w → ⊥) → (m w : ℕ) → progress_of (set now.progress k p) m ≡ Running w → ((m ≡ k) → ⊥) × (progress_of now.progress m ≡ Running w)
 still_runs now k p isnt m w is = by (same_or_not m k)
   where
     by : (m ≡ k) ⊎ ((m ≡ k) → ⊥) → ((m ≡ k) → ⊥) × (progress_of now.progress m ≡ Running w)
@@ -215,7 +215,7 @@ tied_first o = record {
 
 -- ---- a name more and a name less
 
-tied_taken : (o : Outline) (now : Now) (w n : ℕ) (mode : Mode) → IsFit o now → IsTied o now → w < o.workers → n < o.names
+tied_taken : (o : Outline) (now : Standing) (w n : ℕ) (mode : Mode) → IsFit o now → IsTied o now → w < o.workers → n < o.names
     → (v k : ℕ) → v < o.workers → is_listed k (get_or (set now.held w (held_by now w ++ n ∷ [])) v []) ≡ true → is_some (hold (with_hold now.locks n w (Some mode)) k v) ≡ true
 tied_taken o now w n mode fit tied low small v k inside is = by (same_or_not v w) (same_or_not k n)
   where
@@ -240,7 +240,7 @@ tied_taken o now w n mode fit tied low small v k inside is = by (same_or_not v w
         last (inr listed) = subst (λ u. is_listed k (held_by now u) ≡ true) (sym a) listed
     by (inr other) any = old (λ e f. other e) (subst (λ t. is_listed k t ≡ true) (get_or-set_other now.held w v more [] other) is)
 
-tied_freed : (o : Outline) (now : Now) (w n : ℕ) → IsFit o now → IsTied o now → w < o.workers
+tied_freed : (o : Outline) (now : Standing) (w n : ℕ) → IsFit o now → IsTied o now → w < o.workers
     → (v k : ℕ) → v < o.workers → is_listed k (get_or (set now.held w (but n (held_by now w))) v []) ≡ true → is_some (hold (with_hold now.locks n w None) k v) ≡ true
 tied_freed o now w n fit tied low v k inside is = by (same_or_not v w)
   where
@@ -259,10 +259,10 @@ tied_freed o now w n fit tied low v k inside is = by (same_or_not v w)
         old (λ e f. left.0 e) (subst (λ u. is_listed k (held_by now u) ≡ true) (sym a) left.1)
     by (inr other) = old (λ e f. other f) (subst (λ t. is_listed k t ≡ true) (get_or-set_other now.held w v less [] other) is)
 
-wide_after : (o : Outline) (now : Now) (n w : ℕ) (x : Option Mode) → IsTied o now → n < o.names → All (λ row. length row ≡ o.workers) (set now.locks.2 n (set (row_in now.locks.2 n) w x))
+wide_after : (o : Outline) (now : Standing) (n w : ℕ) (x : Option Mode) → IsTied o now → n < o.names → All (λ row. length row ≡ o.workers) (set now.locks.2 n (set (row_in now.locks.2 n) w x))
 wide_after o now n w x tied small = All-set (λ row. length row ≡ o.workers) now.locks.2 n (set (row_in now.locks.2 n) w x) (row_length now.locks.2 n w x o.workers (omega (arith, small, tied.depth)) tied.width) tied.width
 
-pub tied_after : (o : Outline) (now : Now) (e : Event) → IsFit o now → IsTied o now → IsEnabled o now e → IsTied o (after o now e)
+pub tied_after : (o : Outline) (now : Standing) (e : Event) → IsFit o now → IsTied o now → IsEnabled o now e → IsTied o (after o now e)
 unfolding after
 tied_after o now (event.Start w m) fit tied is = record {
   depth = tied.depth;
@@ -277,7 +277,7 @@ tied_after o now (event.Start w m) fit tied is = record {
     course = on_course m (settled now.there (is_empty (held_by now w)) (start_of o m)) None
 
     at_w : get_or (set now.courses w course) w idle ≡ course
-    at_w = get_or-set_same now.courses w course idle (omega (arith, is.0, fit.ways))
+    at_w = get_or-set_same now.courses w course idle (omega (arith, is.0, fit.courses))
 
     begun : (v k : ℕ) → module_of (get_or (set now.courses w course) v idle) ≡ Some k → (v ≡ w) ⊎ ((v ≡ w) → ⊥) → progress_of (set now.progress m (Running w)) k ≡ Running v
     begun v k at (inl e) =
@@ -328,7 +328,7 @@ tied_after o now (event.End w e) fit tied is = record { depth = tied.depth; widt
     kept (Some m) at v k other before = get_or-set_other now.progress m k (Ended e) Waiting (λ same. other (ap worker_of (sym (tied.busy v k before) ∙ ap (progress_of now.progress) same ∙ tied.busy w m at)))
 
     rests : (v k : ℕ) → module_of (get_or (set now.courses w idle) v idle) ≡ Some k → (v ≡ w) ⊎ ((v ≡ w) → ⊥) → progress_of (ended (module_of (course_of now w)) e now.progress) k ≡ Running v
-    rests v k at (inl same) = absurd (nothing_is k (sym (ap module_of (get_or-set_same now.courses w idle idle (omega (arith, is.0, fit.ways)))) ∙ subst (λ u. module_of (get_or (set now.courses w idle) u idle) ≡ Some k) same at))
+    rests v k at (inl same) = absurd (nothing_is k (sym (ap module_of (get_or-set_same now.courses w idle idle (omega (arith, is.0, fit.courses)))) ∙ subst (λ u. module_of (get_or (set now.courses w idle) u idle) ≡ Some k) same at))
     rests v k at (inr other) =
         let before = sym (ap module_of (get_or-set_other now.courses w v idle idle other)) ∙ at in
         kept (module_of (course_of now w)) refl v k other before ∙ tied.busy v k before

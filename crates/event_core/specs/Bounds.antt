@@ -4,7 +4,7 @@ use Rattle.event_core.specs.declared.outline.Outline.{Outline}
 use Rattle.event_core.specs.declared.outline.ModuleOutline.{ModuleOutline}
 use Rattle.event_core.specs.declared.progress.Progress.{Progress}
 use Rattle.event_core.specs.Scripts.{Script, Step, absent, frees, script_of, step, takes, whole}
-use Rattle.event_core.specs.Standing.{Course, Now, idle, is_waiting, off_course, on_course}
+use Rattle.event_core.specs.Standing.{Course, Standing, idle, is_waiting, off_course, on_course}
 
 abbrev pub total : {A : Type 0} → (A → ℕ) → List A → ℕ
 total f [] = 0
@@ -38,7 +38,7 @@ waiting_events (p ∷ progress) [] = 0
 waiting_events (p ∷ progress) (m ∷ modules) = (if is_waiting p then module_events m else 0) + waiting_events progress modules
 
 -- what is left: of the modules that wait, of the courses, and the names that are to be freed
-abbrev pub events_left : Outline → Now → ℕ
+abbrev pub events_left : Outline → Standing → ℕ
 events_left o now = waiting_events now.progress o.modules + total course_events now.courses + total (λ (held : List ℕ). length held) now.held
 
 -- the most events of a build

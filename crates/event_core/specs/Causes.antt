@@ -13,7 +13,7 @@ use Rattle.event_core.specs.declared.outline.Outline.{Outline}
 use Rattle.event_core.specs.declared.refused.NotEnabled.{NotEnabled}
 use Rattle.event_core.specs.declared.refused.NotEnabled.TheVariants.{Range, Module, Upstream, Worker, Lock, Unordered, Stage, File}
 use Rattle.event_core.specs.Scripts.{Script, head, published_by, read_by, stage_of, wanted}
-use Rattle.event_core.specs.Standing.{Course, Now, course_of, first_lost, first_not_built, held_by, idle, is_empty, is_waiting, module_of, off_course, on_course, progress_of, state_of}
+use Rattle.event_core.specs.Standing.{Course, Standing, course_of, first_lost, first_not_built, held_by, idle, is_empty, is_waiting, module_of, off_course, on_course, progress_of, state_of}
 use Rattle.event_core.specs.Enabled.{ending_in_range, goal_in_range, is_due, may_end_so}
 
 -- a cause unless this holds, and else the rest; a cause of what was found, and else the rest
@@ -72,55 +72,55 @@ wrong_end course held e = if is_empty held then free_end course e else Stage (st
 
 -- ---- the causes of each event, in their order
 
-abbrev pub begin_cause : Outline → Now → ℕ → ℕ → Option NotEnabled
+abbrev pub begin_cause : Outline → Standing → ℕ → ℕ → Option NotEnabled
 begin_cause o now w m = where_found (first_not_built o now.progress m) (λ u. Upstream u) (where_found (module_of (course_of now w)) (λ at. Worker at) None)
 
-abbrev pub start_cause : Outline → Now → ℕ → ℕ → Option NotEnabled
+abbrev pub start_cause : Outline → Standing → ℕ → ℕ → Option NotEnabled
 start_cause o now w m =
     unless (nat_lt w o.workers) (Range w) (
     unless (nat_lt m (length o.modules)) (Range m) (
     unless (is_waiting (progress_of now.progress m)) (Module (state_of o now.progress m)) (begin_cause o now w m)))
 
-abbrev pub skip_cause : Outline → Now → ℕ → Option NotEnabled
+abbrev pub skip_cause : Outline → Standing → ℕ → Option NotEnabled
 skip_cause o now m =
     unless (nat_lt m (length o.modules)) (Range m) (
     unless (is_waiting (progress_of now.progress m) && is_some (first_lost o now.progress m)) (Module (state_of o now.progress m)) None)
 
-abbrev pub hold_cause : Now → ℕ → ℕ → Mode → Option NotEnabled
+abbrev pub hold_cause : Standing → ℕ → ℕ → Mode → Option NotEnabled
 hold_cause now w n mode = where_found (not_below n (held_by now w)) (λ h. Unordered h) (unless (is_due (course_of now w) (deed.Take mode n)) (Stage (stage_at (course_of now w))) None)
 
-abbrev pub take_cause : Outline → Now → ℕ → ℕ → Mode → Option NotEnabled
+abbrev pub take_cause : Outline → Standing → ℕ → ℕ → Mode → Option NotEnabled
 take_cause o now w n mode =
     unless (nat_lt w o.workers) (Range w) (
     unless (nat_lt n o.names) (Range n) (
     where_found (blocker now.locks n w mode) (λ h. Lock h) (hold_cause now w n mode)))
 
-abbrev pub free_cause : Outline → Now → ℕ → ℕ → Option NotEnabled
+abbrev pub free_cause : Outline → Standing → ℕ → ℕ → Option NotEnabled
 free_cause o now w n =
     unless (nat_lt w o.workers) (Range w) (
     unless (nat_lt n o.names) (Range n) (
     unless (is_some (hold now.locks n w)) (Stage (stage_at (course_of now w))) None))
 
 -- a deed of a file, where another file may be due
-abbrev pub file_cause : Outline → Now → ℕ → ℕ → Deed → Option ℕ → Option NotEnabled
+abbrev pub file_cause : Outline → Standing → ℕ → ℕ → Deed → Option ℕ → Option NotEnabled
 file_cause o now w f d due =
     unless (nat_lt w o.workers) (Range w) (
     unless (nat_lt f (length o.present)) (Range f) (
     unless (is_due (course_of now w) d) (by_file due (course_of now w)) None))
 
-abbrev pub answer_cause : Outline → Now → ℕ → ℕ → Option NotEnabled
+abbrev pub answer_cause : Outline → Standing → ℕ → ℕ → Option NotEnabled
 answer_cause o now w g =
     unless (nat_lt w o.workers) (Range w) (
     unless (goal_in_range o (course_of now w) g) (Range g) (
     unless (is_due (course_of now w) (deed.Answer g)) (Stage (stage_at (course_of now w))) None))
 
-abbrev pub end_cause : Outline → Now → ℕ → Ending → Option NotEnabled
+abbrev pub end_cause : Outline → Standing → ℕ → Ending → Option NotEnabled
 end_cause o now w e =
     unless (nat_lt w o.workers) (Range w) (
     unless (ending_in_range o (course_of now w) e) (Range (number_of e)) (
     unless (is_empty (held_by now w) && may_end_so o (course_of now w) e) (wrong_end (course_of now w) (held_by now w) e) None))
 
-unfoldable pub cause_now : Outline → Now → Event → Option NotEnabled
+unfoldable pub cause_now : Outline → Standing → Event → Option NotEnabled
 cause_now o now (event.Start w m) = start_cause o now w m
 cause_now o now (event.Skip m) = skip_cause o now m
 cause_now o now (event.Take w n mode) = take_cause o now w n mode

@@ -13,7 +13,7 @@ use Rattle.event_core.specs.declared.deed.Deed.TheVariants as deed
 use Rattle.event_core.specs.declared.outline.Outline.{Outline}
 use Rattle.event_core.specs.declared.outline.ModuleOutline.{ModuleOutline}
 use Rattle.event_core.specs.Scripts.{Script, done, is_gathered, is_to_install, may_end, wanted}
-use Rattle.event_core.specs.Standing.{CanSkip, CanStart, Course, Now, course_of, fail_at_end, goals_of, held_by, idle, is_waiting, module_of, now_of, off_course, on_course, progress_of}
+use Rattle.event_core.specs.Standing.{CanSkip, CanStart, Course, Standing, course_of, fail_at_end, goals_of, held_by, idle, is_waiting, module_of, off_course, on_course, progress_of, standing_of}
 
 -- whether a deed is the next one of a worker's script
 abbrev pub is_due : Course → Deed → Bool
@@ -60,7 +60,7 @@ ending_in_range o course (ending.Missing file) = nat_lt file (length o.present)
 ending_in_range o course other = true
 
 -- the event may come now
-abbrev pub IsEnabled : Outline → Now → Event → Type 0
+abbrev pub IsEnabled : Outline → Standing → Event → Type 0
 IsEnabled o now (event.Start w m) = (w < o.workers) × (m < length o.modules) × (is_waiting (progress_of now.progress m) ≡ true) × CanStart fail_at_end o now.progress m × (module_of (course_of now w) ≡ None)
 IsEnabled o now (event.Skip m) = (m < length o.modules) × (is_waiting (progress_of now.progress m) ≡ true) × CanSkip fail_at_end o now.progress m
 IsEnabled o now (event.Take w n mode) = (w < o.workers) × (n < o.names) × (blocker now.locks n w mode ≡ None) × (list_all (λ h. nat_lt h n) (held_by now w) ≡ true) × (is_due (course_of now w) (deed.Take mode n) ≡ true)
@@ -72,7 +72,7 @@ IsEnabled o now (event.End w e) = (w < o.workers) × (ending_in_range o (course_
 
 -- the event may follow these
 unfoldable pub Enabled : Outline → List Event → Event → Type 0
-Enabled o events e = IsEnabled o (now_of o events) e
+Enabled o events e = IsEnabled o (standing_of o events) e
 
 -- each event may follow those before it
 abbrev pub IsRun : Outline → List Event → List Event → Type 0

@@ -6,20 +6,20 @@ use Rattle.event_core.specs.declared.outline.Outline.{Outline}
 use Rattle.event_core.specs.Climbing.{Climbs}
 use Rattle.event_core.specs.Outlines.{is_listed}
 use Rattle.event_core.specs.declared.progress.Progress.TheVariants.{Running}
-use Rattle.event_core.specs.Standing.{Now, course_of, held_by, module_of, progress_of}
+use Rattle.event_core.specs.Standing.{Standing, course_of, held_by, module_of, progress_of}
 
-pub record IsFit (o : Outline) (now : Now) : Type 0 where
+pub record IsFit (o : Outline) (now : Standing) : Type 0 where
   pub names : names_of now.locks ≡ o.names
   pub workers : workers_of now.locks ≡ o.workers
   pub rows : length now.held ≡ o.workers
-  pub ways : length now.courses ≡ o.workers
+  pub courses : length now.courses ≡ o.workers
   pub modules : length now.progress ≡ length o.modules
   pub climbing : All (Climbs 0) now.held
   pub low : All (λ held. list_all (λ h. nat_lt h o.names) held ≡ true) now.held
   pub listed : (w n : ℕ) → w < o.workers → is_some (hold now.locks n w) ≡ true → is_listed n (held_by now w) ≡ true
 
 -- names that are listed are held, and a module that runs is what its worker is at
-pub record IsTied (o : Outline) (now : Now) : Type 0 where
+pub record IsTied (o : Outline) (now : Standing) : Type 0 where
   pub depth : length now.locks.2 ≡ o.names
   pub width : All (λ row. length row ≡ o.workers) now.locks.2
   pub held : (w n : ℕ) → w < o.workers → is_listed n (held_by now w) ≡ true → is_some (hold now.locks n w) ≡ true

@@ -18,7 +18,7 @@ use Rattle.event_core.specs.declared.entry.Carried.TheVariants as carried
 use Rattle.event_core.specs.declared.entry.RunEntry.{RunEntry}
 use Rattle.event_core.specs.Enabled.{IsRun}
 use Rattle.event_core.specs.Outlines.{outline_of}
-use Rattle.event_core.specs.Standing.{Now, course_of, is_complete, module_of, now_of}
+use Rattle.event_core.specs.Standing.{Standing, course_of, is_complete, module_of, standing_of}
 
 abbrev pub events_of : List RunEntry → List Event
 events_of entries = map (λ (e : RunEntry). e.event) entries
@@ -28,12 +28,12 @@ abbrev pub IsRunOf : Plan → List RunEntry → Type 0
 IsRunOf plan entries = IsRun (outline_of plan) [] (events_of entries)
 
 -- where the build stands after a run
-abbrev pub now_after : Plan → List RunEntry → Now
-now_after plan entries = now_of (outline_of plan) (events_of entries)
+abbrev pub standing_of_run : Plan → List RunEntry → Standing
+standing_of_run plan entries = standing_of (outline_of plan) (events_of entries)
 
 -- each module has ended or was skipped
 abbrev pub IsComplete : Plan → List RunEntry → Type 0
-IsComplete plan entries = is_complete (now_after plan entries) ≡ true
+IsComplete plan entries = is_complete (standing_of_run plan entries) ≡ true
 
 -- no module ended by a fault or for want of memory
 abbrev pub is_quiet_event : Event → Bool
@@ -67,7 +67,7 @@ contents plan start entries = fold (λ files (e : RunEntry). put_carried plan fi
 
 -- the module that a worker builds
 abbrev pub module_by : Plan → List RunEntry → ℕ → Option ℕ
-module_by plan past w = module_of (course_of (now_after plan past) w)
+module_by plan past w = module_of (course_of (standing_of_run plan past) w)
 
 -- what an entry keeps: the answer to a goal of its worker's module
 abbrev pub kept_by : Plan → List RunEntry → Event → Carried → List Answered

@@ -28,7 +28,7 @@ pub data Course : Type 0 where
 
 -- how far each module is, what each worker is at, the names that each worker holds, as it took them, how they are held, and which files
 -- are there
-pub record Now : Type 0 where
+pub record Standing : Type 0 where
   pub progress : List Progress
   pub courses : List Course
   pub held : List (List ℕ)
@@ -38,10 +38,10 @@ pub record Now : Type 0 where
 abbrev pub progress_of : List Progress → ℕ → Progress
 progress_of progress m = slice_index_or progress m Waiting
 
-abbrev pub course_of : Now → ℕ → Course
+abbrev pub course_of : Standing → ℕ → Course
 course_of now w = slice_index_or now.courses w idle
 
-abbrev pub held_by : Now → ℕ → List ℕ
+abbrev pub held_by : Standing → ℕ → List ℕ
 held_by now w = slice_index_or now.held w []
 
 abbrev pub upstream_of : Outline → ℕ → List ℕ
@@ -54,7 +54,7 @@ abbrev pub goals_of : Outline → ℕ → ℕ
 goals_of o m = option_map_or (λ (x : ModuleOutline). x.goals) (slice_get o.modules m) 0
 
 -- where nothing has happened
-abbrev pub at_first : Outline → Now
+abbrev pub at_first : Outline → Standing
 at_first o = record {
   progress = replicate (length o.modules) Waiting;
   courses = replicate o.workers idle;
@@ -89,40 +89,40 @@ ended None e progress = progress
 ended (Some m) e progress = slice_set progress m (Ended e)
 
 -- where a worker is at something else
-abbrev pub turned_to : Now → ℕ → Course → Now
+abbrev pub turned_to : Standing → ℕ → Course → Standing
 turned_to now w course = record now { courses = slice_set now.courses w course }
 
 -- a worker behind a deed, and behind a free
-abbrev pub deed_done : Now → ℕ → Deed → Option ℕ → Now
+abbrev pub deed_done : Standing → ℕ → Deed → Option ℕ → Standing
 deed_done now w d answered = turned_to now w (after_deed now.there (held_by now w) d answered (course_of now w))
 
-abbrev pub free_done : Outline → Now → ℕ → Now
+abbrev pub free_done : Outline → Standing → ℕ → Standing
 free_done o now w = turned_to now w (after_free o now.there (held_by now w) (course_of now w))
 
-abbrev pub after_start : Outline → Now → ℕ → ℕ → Now
+abbrev pub after_start : Outline → Standing → ℕ → ℕ → Standing
 after_start o now w m = turned_to (record now { progress = slice_set now.progress m (Running w) }) w (on_course m (settled now.there (is_empty (held_by now w)) (start_of o m)) None)
 
-abbrev pub after_skip : Now → ℕ → Now
+abbrev pub after_skip : Standing → ℕ → Standing
 after_skip now m = record now { progress = slice_set now.progress m Skipped }
 
 -- a name is held, or no longer, and with that the deed is done
-abbrev pub after_take : Now → ℕ → ℕ → Mode → Now
+abbrev pub after_take : Standing → ℕ → ℕ → Mode → Standing
 after_take now w n mode = deed_done (record now { held = slice_set now.held w (held_by now w ++ n ∷ []); locks = with_hold now.locks n w (Some mode) }) w (deed.Take mode n) None
 
-abbrev pub after_freed : Outline → Now → ℕ → ℕ → Now
+abbrev pub after_freed : Outline → Standing → ℕ → ℕ → Standing
 after_freed o now w n = free_done o (record now { held = slice_set now.held w (but n (held_by now w)); locks = with_hold now.locks n w None }) w
 
-abbrev pub after_publish : Now → ℕ → ℕ → Now
+abbrev pub after_publish : Standing → ℕ → ℕ → Standing
 after_publish now w f = deed_done (record now { there = slice_set now.there f true }) w (deed.Publish f) None
 
 -- a worker's module has ended
-abbrev pub closed : Now → ℕ → Ending → Now
+abbrev pub closed : Standing → ℕ → Ending → Standing
 closed now w e = record now { progress = ended (module_of (course_of now w)) e now.progress }
 
-abbrev pub after_end : Now → ℕ → Ending → Now
+abbrev pub after_end : Standing → ℕ → Ending → Standing
 after_end now w e = turned_to (closed now w e) w idle
 
-unfoldable pub after : Outline → Now → Event → Now
+unfoldable pub after : Outline → Standing → Event → Standing
 after o now (event.Start w m) = after_start o now w m
 after o now (event.Skip m) = after_skip now m
 after o now (event.Take w n mode) = after_take now w n mode
@@ -133,8 +133,8 @@ after o now (event.Answer w g) = deed_done now w (deed.Answer g) (Some g)
 after o now (event.End w e) = after_end now w e
 
 -- all events, in turn
-abbrev pub now_of : Outline → List Event → Now
-now_of o events = fold (after o) (at_first o) events
+abbrev pub standing_of : Outline → List Event → Standing
+standing_of o events = fold (after o) (at_first o) events
 
 -- ---- how a module stands
 
@@ -193,5 +193,5 @@ state_of o progress m = by (progress_of progress m)
     by Skipped = state.Skipped (unwrap_or (first_lost o progress m) 0)
     by (Ended e) = state.Ended e
 
-abbrev pub is_complete : Now → Bool
+abbrev pub is_complete : Standing → Bool
 is_complete now = list_all is_over now.progress

@@ -20,7 +20,7 @@ use Rattle.event_core.specs.declared.entry.Carried.TheVariants as carried
 use Rattle.event_core.specs.declared.entry.RunEntry.{RunEntry}
 use Rattle.event_core.specs.Causes.{stage_at}
 use Rattle.event_core.specs.Outlines.{is_listed}
-use Rattle.event_core.specs.Runs.{answers_in, contents, goals_in, module_by, now_after, outputs_in}
+use Rattle.event_core.specs.Runs.{answers_in, contents, goals_in, module_by, outputs_in, standing_of_run}
 use Rattle.event_core.specs.Standing.{course_of}
 
 -- what the hand of a worker tells: its remote's files, whether its staging area tells the bytes of a piece, and a test for its gate's
@@ -197,7 +197,7 @@ is_told_by start hands e = is_some start && option_map_or (λ w. (hands w).area)
 abbrev pub FitsBehind : Plan → Option Files → (ℕ → HandTold) → (past : List RunEntry) → RunEntry → Option ℕ → Type 0
 FitsBehind plan start hands past e worker =
     IfSome worker (λ w. IfSome (module_by plan past w) (λ number. IfSome (slice_get plan.modules number) (λ m.
-    FitsModule (stood plan start past number m) (hands w) (stage_at (course_of (now_after plan past) w)) e.event e.carried)))
+    FitsModule (stood plan start past number m) (hands w) (stage_at (course_of (standing_of_run plan past) w)) e.event e.carried)))
 
 -- an entry fits behind others, where the repository told these files at the start, or none, and its worker's hand tells this: it carries
 -- what it has to, and its row holds

@@ -4,18 +4,18 @@ ghost use Rattle.name_locks.specs.Locks.{names_of, workers_of};
 ghost use Rattle.event_core.specs.declared.outline.Outline.{Outline};
 ghost use Rattle.event_core.specs.declared.refused.NotEnabled.TheVariants.{Unordered, Upstream, Worker};
 ghost use Rattle.event_core.specs.Fronts.{upstreams};
-ghost use Rattle.event_core.specs.Standing.{Course, course_of, first_not_built, held_by, is_empty, module_of};
+ghost use Rattle.event_core.specs.Standing.{course_of, first_not_built, held_by, is_empty, module_of};
+ghost use Rattle.event_core.specs.Standing as definition;
 ghost use Rattle.event_core.specs.Enabled.{ending_in_range, is_due, may_end_so};
 ghost use Rattle.event_core.specs.Causes.{answer_cause, begin_cause, by_file, cause_now, end_cause, file_cause, free_cause, free_end, hold_cause, last_of, not_below, number_of, skip_cause, stage_at, start_cause, take_cause, unless, where_found, wrong_end};
-ghost use Rattle.event_core.specs.Spots.{course_at};
-ghost use Rattle.event_core.specs.Stands.{now_in};
+ghost use Rattle.event_core.specs.Kept.{course_at, standing_in};
 
+use crate::course::Course;
 use crate::deed::Deed;
 use crate::outline::Outline;
 use crate::progress::is_waiting;
 use crate::refused::NotEnabled;
-use crate::stand::Stand;
-use crate::way::Way;
+use crate::standing::Standing;
 use build_core::{Ending, Event};
 use name_locks::Mode;
 
@@ -40,7 +40,7 @@ fn above(greatest: u32, name: u32) -> Option<u32>
 }
 
 fn by_file(due: Option<u32>, stage: u32) -> NotEnabled
-    ensures { (course : Course) → stage ≡ stage_at course → result ≡ by_file due course }
+    ensures { (course : definition.Course) → stage ≡ stage_at course → result ≡ by_file due course }
 {
     match due {
         Some(file) => NotEnabled::File(file),
@@ -61,16 +61,16 @@ fn number_of(ending: Ending) -> u32
 }
 
 // Why a worker that holds no name may not end so.
-fn free_end(outline: &Outline, way: Way, ending: Ending) -> NotEnabled
-    ensures { result ≡ free_end (course_at outline.now way) ending }
+fn free_end(outline: &Outline, course: Course, ending: Ending) -> NotEnabled
+    ensures { result ≡ free_end (course_at outline.now course) ending }
 {
     match ending {
-        Ending::Missing(_) => by_file(way.missing(outline), way.stage(outline)),
-        _ => NotEnabled::Stage(way.stage(outline)),
+        Ending::Missing(_) => by_file(course.missing(outline), course.stage(outline)),
+        _ => NotEnabled::Stage(course.stage(outline)),
     }
 }
 
-impl Stand {
+impl Standing {
     pub(crate) fn start_cause(
         &self,
         outline: &Outline,
@@ -78,7 +78,8 @@ impl Stand {
         number: u32,
     ) -> Option<NotEnabled>
         requires upstreams { self.now.modules.0 ≡ upstreams outline.now }
-        ensures { result ≡ start_cause outline.now (now_in outline.now self.now) worker number }
+        ensures { result ≡ start_cause outline.now (standing_in outline.now self.now) worker
+            number }
     {
         if worker >= outline.workers {
             return Some(NotEnabled::Range(worker));
@@ -94,7 +95,8 @@ impl Stand {
 
     fn begin_cause(&self, outline: &Outline, worker: u32, number: u32) -> Option<NotEnabled>
         requires upstreams { self.now.modules.0 ≡ upstreams outline.now }
-        ensures { result ≡ begin_cause outline.now (now_in outline.now self.now) worker number }
+        ensures { result ≡ begin_cause outline.now (standing_in outline.now self.now) worker
+            number }
     {
         match self.upstream_cause(outline, number) {
             Some(cause) => Some(cause),
@@ -104,7 +106,9 @@ impl Stand {
 
     fn upstream_cause(&self, outline: &Outline, number: u32) -> Option<NotEnabled>
         requires upstreams { self.now.modules.0 ≡ upstreams outline.now }
-        ensures { result ≡ where_found (first_not_built outline.now (now_in outline.now self.now).progress number) (λ u. Upstream u) None }
+        ensures { result ≡ where_found
+            (first_not_built outline.now (standing_in outline.now self.now).progress number)
+            (λ u. Upstream u) None }
     {
         match self.modules.first_unbuilt(number) {
             Some(upstream) => Some(NotEnabled::Upstream(upstream)),
@@ -113,9 +117,11 @@ impl Stand {
     }
 
     fn busy_cause(&self, worker: u32) -> Option<NotEnabled>
-        ensures { (outline : Outline) → result ≡ where_found (module_of (course_of (now_in outline self.now) worker)) (λ at. Worker at) None }
+        ensures { (outline : Outline)
+            → result ≡ where_found (module_of (course_of (standing_in outline self.now) worker))
+            (λ at. Worker at) None }
     {
-        match self.way(worker).module() {
+        match self.course(worker).module() {
             Some(number) => Some(NotEnabled::Worker(number)),
             None => None,
         }
@@ -123,7 +129,7 @@ impl Stand {
 
     pub(crate) fn skip_cause(&self, outline: &Outline, number: u32) -> Option<NotEnabled>
         requires upstreams { self.now.modules.0 ≡ upstreams outline.now }
-        ensures { result ≡ skip_cause outline.now (now_in outline.now self.now) number }
+        ensures { result ≡ skip_cause outline.now (standing_in outline.now self.now) number }
     {
         if number as usize >= outline.modules.len() {
             return Some(NotEnabled::Range(number));
@@ -142,17 +148,20 @@ impl Stand {
         deed: Deed,
         due: Option<u32>,
     ) -> Option<NotEnabled>
-        ensures { result ≡ unless (is_due (course_of (now_in outline.now self.now) worker) deed) (by_file due (course_of (now_in outline.now self.now) worker)) None }
+        ensures { result ≡ unless (is_due (course_of (standing_in outline.now self.now) worker)
+            deed) (by_file due (course_of (standing_in outline.now self.now) worker)) None }
     {
-        let way = self.way(worker);
-        if way.is_due(outline, deed) {
+        let course = self.course(worker);
+        if course.is_due(outline, deed) {
             return None;
         }
-        Some(by_file(due, way.stage(outline)))
+        Some(by_file(due, course.stage(outline)))
     }
 
     fn order_cause(&self, worker: u32, name: u32) -> Option<NotEnabled>
-        ensures { (outline : Outline) → result ≡ where_found (not_below name (held_by (now_in outline self.now) worker)) (λ h. Unordered h) None }
+        ensures { (outline : Outline)
+            → result ≡ where_found (not_below name (held_by (standing_in outline self.now) worker))
+            (λ h. Unordered h) None }
     {
         match not_below(self.holdings.greatest(worker), name) {
             Some(greatest) => Some(NotEnabled::Unordered(greatest)),
@@ -167,8 +176,10 @@ impl Stand {
         name: u32,
         mode: Mode,
     ) -> Option<NotEnabled>
-        requires seats { (names_of self.now.holdings.0 ≡ outline.now.names) × (workers_of self.now.holdings.0 ≡ outline.now.workers) }
-        ensures cause { result ≡ take_cause outline.now (now_in outline.now self.now) worker name mode }
+        requires seats { (names_of self.now.holdings.0 ≡ outline.now.names)
+            × (workers_of self.now.holdings.0 ≡ outline.now.workers) }
+        ensures cause { result ≡ take_cause outline.now (standing_in outline.now self.now) worker
+            name mode }
     {
         if worker >= outline.workers {
             return Some(NotEnabled::Range(worker));
@@ -189,7 +200,7 @@ impl Stand {
         name: u32,
         mode: Mode,
     ) -> Option<NotEnabled>
-        ensures { result ≡ hold_cause (now_in outline.now self.now) worker name mode }
+        ensures { result ≡ hold_cause (standing_in outline.now self.now) worker name mode }
     {
         match self.order_cause(worker, name) {
             Some(cause) => Some(cause),
@@ -198,7 +209,7 @@ impl Stand {
     }
 
     pub(crate) fn free_cause(&self, outline: &Outline, worker: u32, name: u32) -> Option<NotEnabled>
-        ensures { result ≡ free_cause outline.now (now_in outline.now self.now) worker name }
+        ensures { result ≡ free_cause outline.now (standing_in outline.now self.now) worker name }
     {
         if worker >= outline.workers {
             return Some(NotEnabled::Range(worker));
@@ -209,7 +220,7 @@ impl Stand {
         if self.holdings.holds(name, worker).is_some() {
             return None;
         }
-        Some(NotEnabled::Stage(self.way(worker).stage(outline)))
+        Some(NotEnabled::Stage(self.course(worker).stage(outline)))
     }
 
     pub(crate) fn file_cause(
@@ -220,7 +231,8 @@ impl Stand {
         deed: Deed,
         due: Option<u32>,
     ) -> Option<NotEnabled>
-        ensures { result ≡ file_cause outline.now (now_in outline.now self.now) worker file deed due }
+        ensures { result ≡ file_cause outline.now (standing_in outline.now self.now) worker file
+            deed due }
     {
         if worker >= outline.workers {
             return Some(NotEnabled::Range(worker));
@@ -237,43 +249,46 @@ impl Stand {
         worker: u32,
         goal: u32,
     ) -> Option<NotEnabled>
-        ensures { result ≡ answer_cause outline.now (now_in outline.now self.now) worker goal }
+        ensures { result ≡ answer_cause outline.now (standing_in outline.now self.now) worker goal }
     {
         if worker >= outline.workers {
             return Some(NotEnabled::Range(worker));
         }
-        if !self.way(worker).has_goal(outline, goal) {
+        if !self.course(worker).has_goal(outline, goal) {
             return Some(NotEnabled::Range(goal));
         }
         self.deed_cause(outline, worker, Deed::Answer(goal), None)
     }
 
     fn is_in_range(&self, outline: &Outline, worker: u32, ending: Ending) -> bool
-        ensures { result ≡ ending_in_range outline.now (course_of (now_in outline.now self.now) worker) ending }
+        ensures { result ≡ ending_in_range outline.now
+            (course_of (standing_in outline.now self.now) worker) ending }
     {
         match ending {
-            Ending::Goal(goal) => self.way(worker).has_goal(outline, goal),
-            Ending::OutputTooLarge(goal) => self.way(worker).has_goal(outline, goal),
+            Ending::Goal(goal) => self.course(worker).has_goal(outline, goal),
+            Ending::OutputTooLarge(goal) => self.course(worker).has_goal(outline, goal),
             Ending::Missing(file) => (file as usize) < outline.present.len(),
             _ => true,
         }
     }
 
     fn wrong_end(&self, outline: &Outline, worker: u32, ending: Ending) -> NotEnabled
-        ensures { result ≡ wrong_end (course_of (now_in outline.now self.now) worker) (held_by (now_in outline.now self.now) worker) ending }
+        ensures { result ≡ wrong_end (course_of (standing_in outline.now self.now) worker)
+            (held_by (standing_in outline.now self.now) worker) ending }
     {
-        let way = self.way(worker);
+        let course = self.course(worker);
         if self.holds_none(worker) {
-            free_end(outline, way, ending)
+            free_end(outline, course, ending)
         } else {
-            NotEnabled::Stage(way.stage(outline))
+            NotEnabled::Stage(course.stage(outline))
         }
     }
 
     fn may_end(&self, outline: &Outline, worker: u32, ending: Ending) -> bool
-        ensures { result ≡ (is_empty (held_by (now_in outline.now self.now) worker) && may_end_so outline.now (course_of (now_in outline.now self.now) worker) ending) }
+        ensures { result ≡ (is_empty (held_by (standing_in outline.now self.now) worker) &&
+            may_end_so outline.now (course_of (standing_in outline.now self.now) worker) ending) }
     {
-        self.holds_none(worker) && self.way(worker).may_end(outline, ending)
+        self.holds_none(worker) && self.course(worker).may_end(outline, ending)
     }
 
     pub(crate) fn end_cause(
@@ -282,7 +297,7 @@ impl Stand {
         worker: u32,
         ending: Ending,
     ) -> Option<NotEnabled>
-        ensures { result ≡ end_cause outline.now (now_in outline.now self.now) worker ending }
+        ensures { result ≡ end_cause outline.now (standing_in outline.now self.now) worker ending }
     {
         if worker >= outline.workers {
             return Some(NotEnabled::Range(worker));
@@ -299,9 +314,10 @@ impl Stand {
     /// The first cause for which an event may not come.
     #[tactic(auto, unfolding(crate::specs::Causes::cause_now))]
     pub(crate) fn cause(&self, outline: &Outline, event: Event) -> Option<NotEnabled>
-        requires seats { (names_of self.now.holdings.0 ≡ outline.now.names) × (workers_of self.now.holdings.0 ≡ outline.now.workers) }
+        requires seats { (names_of self.now.holdings.0 ≡ outline.now.names)
+            × (workers_of self.now.holdings.0 ≡ outline.now.workers) }
         requires upstreams { self.now.modules.0 ≡ upstreams outline.now }
-        ensures cause { result ≡ cause_now outline.now (now_in outline.now self.now) event }
+        ensures cause { result ≡ cause_now outline.now (standing_in outline.now self.now) event }
     {
         match event {
             Event::Start { worker, module } => self.start_cause(outline, worker, module),
@@ -309,11 +325,11 @@ impl Stand {
             Event::Take { worker, name, mode } => self.take_cause(outline, worker, name, mode),
             Event::Free { worker, name } => self.free_cause(outline, worker, name),
             Event::Read { worker, file } => {
-                let due = self.way(worker).to_read(outline);
+                let due = self.course(worker).to_read(outline);
                 self.file_cause(outline, worker, file, Deed::Read(file), due)
             }
             Event::Publish { worker, file } => {
-                let due = self.way(worker).to_publish(outline);
+                let due = self.course(worker).to_publish(outline);
                 self.file_cause(outline, worker, file, Deed::Publish(file), due)
             }
             Event::Answer { worker, goal } => self.answer_cause(outline, worker, goal),

@@ -24,7 +24,8 @@ fn upstream_of(module: &ModuleOutline) -> Mem<List<u32>>
 
 /// The upstreams of each module.
 pub(crate) fn upstreams(alloc: Global, modules: &[ModuleOutline]) -> Mem<Vec<List<u32>>>
-    ensures { IfOk result (λ lists. lists.items ≡ map (λ (m : ModuleOutline). m.upstream) modules.now) }
+    ensures { IfOk result (λ lists. lists.items
+        ≡ map (λ (m : ModuleOutline). m.upstream) modules.now) }
 {
     let mut lists = Vec::with_capacity(alloc, modules.len())?;
     for at in 0..modules.len() {
@@ -45,7 +46,8 @@ fn no_edges(alloc: Global, count: usize) -> Mem<Vec<List<Edge>>>
 
 // An edge more of this module, if there is one of this number.
 fn add_edge(edges: &mut Vec<List<Edge>>, to: u32, edge: Edge) -> Mem<()>
-    ensures { OnOk result (edges.new.items ≡ slice_set edges.old.items to (slice_index_or edges.old.items to [] ++ edge ∷ [])) }
+    ensures { OnOk result (edges.new.items
+        ≡ slice_set edges.old.items to (slice_index_or edges.old.items to [] ++ edge ∷ [])) }
 {
     if (to as usize) < edges.len() {
         edges[to as usize].push(edge)?;
@@ -56,7 +58,10 @@ fn add_edge(edges: &mut Vec<List<Edge>>, to: u32, edge: Edge) -> Mem<()>
 // The edges of one module's upstreams more.
 fn add_edges(edges: &mut Vec<List<Edge>>, module: usize, upstream: &[u32]) -> Mem<()>
     ensures length { OnOk result (length edges.new.items ≡ length edges.old.items) }
-    ensures more { OnOk result ((m k place : ℕ) → m < length edges.old.items → has_edge k place (get_or edges.new.items m []) ≡ (has_edge k place (get_or edges.old.items m []) || (nat_eq «module» k && is_this (slice_get upstream.now place) m))) }
+    ensures more { OnOk result ((m k place : ℕ) → m < length edges.old.items
+        → has_edge k place (get_or edges.new.items m [])
+        ≡ (has_edge k place (get_or edges.old.items m []) ||
+        (nat_eq «module» k && is_this (slice_get upstream.now place) m))) }
 {
     for place in 0..upstream.len() {
         add_edge(edges, upstream[place], Edge { module, place })?;

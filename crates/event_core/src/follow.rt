@@ -10,7 +10,8 @@ use mvn_shared::List;
 
 // The place from this one on of the first module of a list that isn't built.
 fn next_unbuilt(progress: &[Progress], modules: &[u32], from: usize) -> usize
-    ensures { IsBefore (is_unbuilt progress.now) modules.now from → IsFirst (is_unbuilt progress.now) modules.now result }
+    ensures { IsBefore (is_unbuilt progress.now) modules.now from
+        → IsFirst (is_unbuilt progress.now) modules.now result }
 {
     for at in from..modules.len() {
         if !is_built(progress_at(progress, modules[at] as usize)) {
@@ -24,8 +25,13 @@ fn next_unbuilt(progress: &[Progress], modules: &[u32], from: usize) -> usize
 fn advance(unbuilt: &mut Vec<usize>, progress: &[Progress], upstream: &[List<u32>], module: usize)
     requires { length unbuilt.old.items ≡ length upstream.now }
     ensures length { length unbuilt.new.items ≡ length unbuilt.old.items }
-    ensures others { (k : ℕ) → k ≢ «module» → get_or unbuilt.new.items k 0 ≡ get_or unbuilt.old.items k 0 }
-    ensures first { «module» < length upstream.now → IsBefore (is_unbuilt progress.now) (get_or upstream.now «module» []) (get_or unbuilt.old.items «module» 0) → IsFirst (is_unbuilt progress.now) (get_or upstream.now «module» []) (get_or unbuilt.new.items «module» 0) }
+    ensures others { (k : ℕ) → k ≢ «module»
+        → get_or unbuilt.new.items k 0 ≡ get_or unbuilt.old.items k 0 }
+    ensures first { «module» < length upstream.now
+        → IsBefore (is_unbuilt progress.now) (get_or upstream.now «module» [])
+        (get_or unbuilt.old.items «module» 0)
+        → IsFirst (is_unbuilt progress.now) (get_or upstream.now «module» [])
+        (get_or unbuilt.new.items «module» 0) }
 {
     if module < upstream.len() {
         unbuilt[module] = next_unbuilt(progress, upstream[module].as_slice(), unbuilt[module]);
@@ -41,7 +47,12 @@ pub(crate) fn advance_all(
 )
     requires { length unbuilt.old.items ≡ length upstream.now }
     ensures length { length unbuilt.new.items ≡ length unbuilt.old.items }
-    ensures first { (k : ℕ) → k < length upstream.now → IsBefore (is_unbuilt progress.now) (get_or upstream.now k []) (get_or unbuilt.old.items k 0) → (is_touched k edges.now ≡ true) ⊎ IsFirst (is_unbuilt progress.now) (get_or upstream.now k []) (get_or unbuilt.old.items k 0) → IsFirst (is_unbuilt progress.now) (get_or upstream.now k []) (get_or unbuilt.new.items k 0) }
+    ensures first { (k : ℕ) → k < length upstream.now
+        → IsBefore (is_unbuilt progress.now) (get_or upstream.now k [])
+        (get_or unbuilt.old.items k 0) → (is_touched k edges.now ≡ true)
+        ⊎ IsFirst (is_unbuilt progress.now) (get_or upstream.now k [])
+        (get_or unbuilt.old.items k 0) → IsFirst (is_unbuilt progress.now)
+        (get_or upstream.now k []) (get_or unbuilt.new.items k 0) }
 {
     for at in 0..edges.len() {
         advance(unbuilt, progress, upstream, edges[at].module);
@@ -51,10 +62,14 @@ pub(crate) fn advance_all(
 // A place that isn't behind this one.
 fn lower(places: &mut Vec<usize>, edge: Edge)
     ensures length { length places.new.items ≡ length places.old.items }
-    ensures others { (k : ℕ) → k ≢ edge.«module» → get_or places.new.items k 0 ≡ get_or places.old.items k 0 }
-    ensures less { get_or places.new.items edge.«module» 0 ≤ get_or places.old.items edge.«module» 0 }
+    ensures others { (k : ℕ) → k ≢ edge.«module»
+        → get_or places.new.items k 0 ≡ get_or places.old.items k 0 }
+    ensures less { get_or places.new.items edge.«module» 0 ≤ get_or places.old.items edge.«module»
+        0 }
     ensures here { get_or places.new.items edge.«module» 0 ≤ edge.place }
-    ensures either { (get_or places.new.items edge.«module» 0 ≡ get_or places.old.items edge.«module» 0) ⊎ (get_or places.new.items edge.«module» 0 ≡ edge.place) }
+    ensures either { (get_or places.new.items edge.«module» 0
+        ≡ get_or places.old.items edge.«module» 0)
+        ⊎ (get_or places.new.items edge.«module» 0 ≡ edge.place) }
 {
     let module = edge.module;
     if module < places.len() && edge.place < places[module] {
@@ -66,8 +81,10 @@ fn lower(places: &mut Vec<usize>, edge: Edge)
 fn lower_all(places: &mut Vec<usize>, edges: &[Edge])
     ensures length { length places.new.items ≡ length places.old.items }
     ensures less { (k : ℕ) → get_or places.new.items k 0 ≤ get_or places.old.items k 0 }
-    ensures here { (k place : ℕ) → has_edge k place edges.now ≡ true → get_or places.new.items k 0 ≤ place }
-    ensures either { (k : ℕ) → (get_or places.new.items k 0 ≡ get_or places.old.items k 0) ⊎ (has_edge k (get_or places.new.items k 0) edges.now ≡ true) }
+    ensures here { (k place : ℕ) → has_edge k place edges.now ≡ true
+        → get_or places.new.items k 0 ≤ place }
+    ensures either { (k : ℕ) → (get_or places.new.items k 0 ≡ get_or places.old.items k 0)
+        ⊎ (has_edge k (get_or places.new.items k 0) edges.now ≡ true) }
 {
     for at in 0..edges.len() {
         lower(places, edges[at]);
@@ -78,8 +95,10 @@ fn lower_all(places: &mut Vec<usize>, edges: &[Edge])
 pub(crate) fn lower_lost(places: &mut Vec<usize>, edges: &[Edge], value: Progress)
     ensures length { length places.new.items ≡ length places.old.items }
     ensures less { (k : ℕ) → get_or places.new.items k 0 ≤ get_or places.old.items k 0 }
-    ensures here { is_lost value ≡ true → (k place : ℕ) → has_edge k place edges.now ≡ true → get_or places.new.items k 0 ≤ place }
-    ensures either { (k : ℕ) → (get_or places.new.items k 0 ≡ get_or places.old.items k 0) ⊎ ((is_lost value ≡ true) × (has_edge k (get_or places.new.items k 0) edges.now ≡ true)) }
+    ensures here { is_lost value ≡ true → (k place : ℕ) → has_edge k place edges.now ≡ true
+        → get_or places.new.items k 0 ≤ place }
+    ensures either { (k : ℕ) → (get_or places.new.items k 0 ≡ get_or places.old.items k 0)
+        ⊎ ((is_lost value ≡ true) × (has_edge k (get_or places.new.items k 0) edges.now ≡ true)) }
 {
     if is_lost(value) {
         lower_all(places, edges);
@@ -98,8 +117,11 @@ pub(crate) fn mark(
     requires room { length upstream.now < 64 * length marks.old.words.items }
     requires places { length places.now ≡ length upstream.now }
     ensures length { length marks.new.words.items ≡ length marks.old.words.items }
-    ensures same { «module» < length upstream.now → is_marked marks.new.words.items «module» ≡ mark_of progress.now upstream.now places.now beyond «module» }
-    ensures others { (k : ℕ) → k ≢ «module» → is_marked marks.new.words.items k ≡ is_marked marks.old.words.items k }
+    ensures same { «module» < length upstream.now
+        → is_marked marks.new.words.items «module»
+        ≡ mark_of progress.now upstream.now places.now beyond «module» }
+    ensures others { (k : ℕ) → k ≢ «module»
+        → is_marked marks.new.words.items k ≡ is_marked marks.old.words.items k }
 {
     if module < upstream.len() {
         let ended = upstream[module].len() <= places[module];
@@ -120,7 +142,12 @@ pub(crate) fn mark_all(
     requires room { length upstream.now < 64 * length marks.old.words.items }
     requires places { length places.now ≡ length upstream.now }
     ensures length { length marks.new.words.items ≡ length marks.old.words.items }
-    ensures same { (k : ℕ) → k < length upstream.now → (is_touched k edges.now ≡ true) ⊎ (is_marked marks.old.words.items k ≡ mark_of progress.now upstream.now places.now beyond k) → is_marked marks.new.words.items k ≡ mark_of progress.now upstream.now places.now beyond k }
+    ensures same { (k : ℕ) → k < length upstream.now
+        → (is_touched k edges.now ≡ true)
+        ⊎ (is_marked marks.old.words.items k
+        ≡ mark_of progress.now upstream.now places.now beyond k)
+        → is_marked marks.new.words.items k
+        ≡ mark_of progress.now upstream.now places.now beyond k }
 {
     for at in 0..edges.len() {
         mark(marks, progress, upstream, places, beyond, edges[at].module);

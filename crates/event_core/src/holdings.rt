@@ -33,7 +33,8 @@ impl Model for Holdings {
 
 // Lists of names for so many workers, each with room for more than so many.
 fn no_names(alloc: Global, workers: u32, names: u32) -> Mem<Vec<Vec<u32>>>
-    ensures items { IfOk result (λ held. map (λ names. names.items) held.items ≡ replicate workers []) }
+    ensures items { IfOk result (λ held. map (λ names. names.items) held.items
+        ≡ replicate workers []) }
     ensures room { IfOk result (λ held. All (λ list. names < vec_capacity list) held.items) }
 {
     let mut held = Vec::with_capacity(alloc, workers as usize)?;
@@ -56,8 +57,11 @@ fn push_in(names: &mut Vec<u32>, name: u32)
 fn push_name(held: &mut Vec<Vec<u32>>, worker: u32, name: u32)
     requires low { worker < length held.old.items }
     requires room { All (λ names. length names.items < vec_capacity names) held.old.items }
-    ensures items { map (λ names. names.items) held.new.items ≡ slice_set (map (λ names. names.items) held.old.items) worker (slice_index_or (map (λ names. names.items) held.old.items) worker [] ++ name ∷ []) }
-    ensures capacity { (n : ℕ) → All (λ names. n < vec_capacity names) held.old.items → All (λ names. n < vec_capacity names) held.new.items }
+    ensures items { map (λ names. names.items) held.new.items
+        ≡ slice_set (map (λ names. names.items) held.old.items) worker
+        (slice_index_or (map (λ names. names.items) held.old.items) worker [] ++ name ∷ []) }
+    ensures capacity { (n : ℕ) → All (λ names. n < vec_capacity names) held.old.items
+        → All (λ names. n < vec_capacity names) held.new.items }
 {
     push_in(&mut held[worker as usize], name);
 }
@@ -74,10 +78,12 @@ fn ends_freed(names: &[u32], locks: &LockTable, worker: u32) -> bool
 
 // The freed names at the end go.
 fn drop_freed(names: &mut Vec<u32>, locks: &LockTable, worker: u32)
-    ensures held { filter (is_held locks.now worker) names.new.items ≡ filter (is_held locks.now worker) names.old.items }
+    ensures held { filter (is_held locks.now worker) names.new.items
+        ≡ filter (is_held locks.now worker) names.old.items }
     ensures top { ends_freed locks.now worker names.new.items ≡ false }
     ensures climbs { Climbs 0 names.old.items → Climbs 0 names.new.items }
-    ensures low { (n : ℕ) → list_all (λ h. nat_lt h n) names.old.items ≡ true → list_all (λ h. nat_lt h n) names.new.items ≡ true }
+    ensures low { (n : ℕ) → list_all (λ h. nat_lt h n) names.old.items ≡ true
+        → list_all (λ h. nat_lt h n) names.new.items ≡ true }
     ensures capacity { vec_capacity names.new ≡ vec_capacity names.old }
 {
     while ends_freed(names.as_slice(), locks, worker) {
@@ -114,12 +120,18 @@ fn none_in(taken: &[Vec<u32>], worker: u32) -> bool
 // The freed names at the end of a worker's list go.
 fn drop_names(taken: &mut Vec<Vec<u32>>, locks: &LockTable, worker: u32)
     requires { worker < length taken.old.items }
-    ensures { (left : List ℕ) × (map (λ names. names.items) taken.new.items ≡ slice_set (map (λ names. names.items) taken.old.items) worker left)
-        × (filter (is_held locks.now worker) left ≡ filter (is_held locks.now worker) (slice_index_or (map (λ names. names.items) taken.old.items) worker []))
+    ensures { (left : List ℕ) × (map (λ names. names.items) taken.new.items
+        ≡ slice_set (map (λ names. names.items) taken.old.items) worker left)
+        × (filter (is_held locks.now worker) left
+        ≡ filter (is_held locks.now worker)
+        (slice_index_or (map (λ names. names.items) taken.old.items) worker []))
         × (ends_freed locks.now worker left ≡ false)
-        × (Climbs 0 (slice_index_or (map (λ names. names.items) taken.old.items) worker []) → Climbs 0 left)
-        × ((n : ℕ) → list_all (λ h. nat_lt h n) (slice_index_or (map (λ names. names.items) taken.old.items) worker []) ≡ true → list_all (λ h. nat_lt h n) left ≡ true)
-        × ((n : ℕ) → All (λ names. n < vec_capacity names) taken.old.items → All (λ names. n < vec_capacity names) taken.new.items) }
+        × (Climbs 0 (slice_index_or (map (λ names. names.items) taken.old.items) worker [])
+        → Climbs 0 left) × ((n : ℕ) → list_all (λ h. nat_lt h n)
+        (slice_index_or (map (λ names. names.items) taken.old.items) worker []) ≡ true
+        → list_all (λ h. nat_lt h n) left ≡ true)
+        × ((n : ℕ) → All (λ names. n < vec_capacity names) taken.old.items
+        → All (λ names. n < vec_capacity names) taken.new.items) }
 {
     drop_freed(&mut taken[worker as usize], locks, worker);
 }
@@ -178,8 +190,13 @@ impl Holdings {
         requires seat { IsSeat self.old.0 name worker }
         requires free { hold self.old.0 name worker ≡ None }
         requires allowed { blocker self.old.0 name worker mode ≡ None }
-        requires above { list_all (λ h. nat_lt h name) (slice_index_or self.old.1 worker []) ≡ true }
-        ensures { self.new ≡ (with_hold self.old.0 name worker (Some mode), slice_set self.old.1 worker (slice_index_or self.old.1 worker [] ++ name ∷ [])) }
+        requires above { list_all (λ h. nat_lt h name) (slice_index_or self.old.1 worker [])
+            ≡ true }
+        ensures { self.new ≡ (
+          with_hold self.old.0 name worker (Some mode),
+          slice_set self.old.1
+              worker (slice_index_or self.old.1 worker [] ++ name ∷ []),
+        ) }
     {
         hold_so(&mut self.locks, name, worker, mode);
         push_name(&mut self.taken, worker, name);
@@ -189,7 +206,11 @@ impl Holdings {
     pub(crate) fn free(&mut self, name: u32, worker: u32)
         requires seat { IsSeat self.old.0 name worker }
         requires held { is_some (hold self.old.0 name worker) ≡ true }
-        ensures { self.new ≡ (with_hold self.old.0 name worker None, slice_set self.old.1 worker (but name (slice_index_or self.old.1 worker []))) }
+        ensures { self.new ≡ (
+          with_hold self.old.0 name worker None,
+          slice_set self.old.1 worker
+              (but name (slice_index_or self.old.1 worker [])),
+        ) }
     {
         self.locks.free(name, worker);
         drop_names(&mut self.taken, &self.locks, worker);

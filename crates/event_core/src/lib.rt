@@ -3,6 +3,7 @@
 
 mod bound;
 mod causes;
+pub mod course;
 pub mod deed;
 pub mod edges;
 pub mod entry;
@@ -14,10 +15,10 @@ mod moves;
 pub mod outline;
 pub mod progress;
 pub mod refused;
+pub mod rest;
 mod run;
-pub mod spot;
-mod stand;
-pub mod way;
+pub mod script_place;
+mod standing;
 
 pub use entry::{Carried, RunEntry};
 pub use outline::{ModuleOutline, Outline};

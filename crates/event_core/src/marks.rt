@@ -38,7 +38,8 @@ fn with_bit(word: u64, place: u32, mark: bool) -> u64
 // The lowest bit of a word.
 fn lowest(word: u64) -> Option<u32>
     ensures none { result ≡ None → word ≡ 0 }
-    ensures some { (k : ℕ) → result ≡ Some k → (k < 64) × (bit_at word k ≡ 1) × ((i : ℕ) → i < k → bit_at word i ≡ 0) }
+    ensures some { (k : ℕ) → result ≡ Some k
+        → (k < 64) × (bit_at word k ≡ 1) × ((i : ℕ) → i < k → bit_at word i ≡ 0) }
 {
     if word == 0 {
         None
@@ -63,7 +64,8 @@ impl Bits {
         requires { at < 64 * length self.old.words.items }
         ensures length { length self.new.words.items ≡ length self.old.words.items }
         ensures same { is_marked self.new.words.items at ≡ mark }
-        ensures others { (k : ℕ) → k ≢ at → is_marked self.new.words.items k ≡ is_marked self.old.words.items k }
+        ensures others { (k : ℕ) → k ≢ at
+            → is_marked self.new.words.items k ≡ is_marked self.old.words.items k }
     {
         let word = self.words[at / 64];
         self.words[at / 64] = with_bit(word, (at % 64) as u32, mark);
@@ -73,7 +75,9 @@ impl Bits {
     fn first(&self) -> Option<usize>
         requires { length self.now.words.items < 2 ^ 32 }
         ensures none { result ≡ None → (k : ℕ) → is_marked self.now.words.items k ≡ false }
-        ensures some { (k : ℕ) → result ≡ Some k → (is_marked self.now.words.items k ≡ true) × ((j : ℕ) → j < k → is_marked self.now.words.items j ≡ false) }
+        ensures some { (k : ℕ) → result ≡ Some k
+            → (is_marked self.now.words.items k ≡ true)
+            × ((j : ℕ) → j < k → is_marked self.now.words.items j ≡ false) }
     {
         for word in 0..self.words.len() {
             if let Some(place) = lowest(self.words[word]) {
@@ -102,7 +106,8 @@ impl Marks {
         requires { at < 64 * length self.old.words.items }
         ensures length { length self.new.words.items ≡ length self.old.words.items }
         ensures same { is_marked self.new.words.items at ≡ mark }
-        ensures others { (k : ℕ) → k ≢ at → is_marked self.new.words.items k ≡ is_marked self.old.words.items k }
+        ensures others { (k : ℕ) → k ≢ at
+            → is_marked self.new.words.items k ≡ is_marked self.old.words.items k }
     {
         let word = with_bit(self.words[at / 64], (at % 64) as u32, mark);
         self.words[at / 64] = word;
@@ -113,7 +118,9 @@ impl Marks {
     pub(crate) fn first(&self) -> Option<usize>
         requires { length self.now.words.items < 2 ^ 32 }
         ensures none { result ≡ None → (k : ℕ) → is_marked self.now.words.items k ≡ false }
-        ensures some { (k : ℕ) → result ≡ Some k → (is_marked self.now.words.items k ≡ true) × ((j : ℕ) → j < k → is_marked self.now.words.items j ≡ false) }
+        ensures some { (k : ℕ) → result ≡ Some k
+            → (is_marked self.now.words.items k ≡ true)
+            × ((j : ℕ) → j < k → is_marked self.now.words.items j ≡ false) }
     {
         let Some(word) = self.groups.first() else {
             return None;

@@ -65,7 +65,8 @@ fn first_ready(
     requires places { length unbuilt.now ≡ length upstream.now }
     ensures room { IfOk result (λ marks. length upstream.now < 64 * length marks.words.items) }
     ensures small { IfOk result (λ marks. length marks.words.items < 2 ^ 32) }
-    ensures same { IfOk result (λ marks. (k : ℕ) → k < length upstream.now → is_marked marks.words.items k ≡ mark_of progress.now upstream.now unbuilt.now true k) }
+    ensures same { IfOk result (λ marks. (k : ℕ) → k < length upstream.now
+        → is_marked marks.words.items k ≡ mark_of progress.now upstream.now unbuilt.now true k) }
 {
     let mut marks = Marks::none(alloc, upstream.len() as u32)?;
     for at in 0..upstream.len() {
@@ -117,7 +118,8 @@ impl Modules {
     /// All modules wait. Costs the lists of upstreams.
     pub(crate) fn new(alloc: Global, outline: &Outline) -> Mem<Modules>
         requires { length outline.now.modules < 2 ^ 32 }
-        ensures { IfOk result (λ it. it ≡ (upstreams outline.now, replicate (length outline.now.modules) Waiting)) }
+        ensures { IfOk result (λ it. it
+            ≡ (upstreams outline.now, replicate (length outline.now.modules) Waiting)) }
     {
         let upstream = upstreams(alloc, outline.modules.as_slice())?;
         let progress = vec![in alloc; Progress::Waiting; upstream.len()]?;
@@ -153,14 +155,16 @@ impl Modules {
 
     /// The first upstream of a module that isn't built. Constant time.
     pub(crate) fn first_unbuilt(&self, number: u32) -> Option<u32>
-        ensures { (o : Outline) → upstreams o ≡ self.now.0 → result ≡ first_not_built o self.now.1 number }
+        ensures { (o : Outline) → upstreams o ≡ self.now.0
+            → result ≡ first_not_built o self.now.1 number }
     {
         upstream_at(self.upstream.as_slice(), self.unbuilt.as_slice(), number)
     }
 
     /// The first upstream of a module that is lost. Constant time.
     pub(crate) fn first_lost(&self, number: u32) -> Option<u32>
-        ensures { (o : Outline) → upstreams o ≡ self.now.0 → result ≡ first_lost o self.now.1 number }
+        ensures { (o : Outline) → upstreams o ≡ self.now.0
+            → result ≡ first_lost o self.now.1 number }
     {
         upstream_at(self.upstream.as_slice(), self.lost.as_slice(), number)
     }
@@ -179,14 +183,16 @@ impl Modules {
 
     /// The first module that may begin. Costs a look at words of bits, one for 4,096 modules.
     pub(crate) fn ready(&self) -> Option<u32>
-        ensures { (o : Outline) → upstreams o ≡ self.now.0 → result ≡ find (is_ready o self.now.1) (below (length o.modules)) }
+        ensures { (o : Outline) → upstreams o ≡ self.now.0
+            → result ≡ find (is_ready o self.now.1) (below (length o.modules)) }
     {
         first_of(&self.ready, self.upstream.len())
     }
 
     /// The first module that is to be skipped. Costs a look at words of bits, one for 4,096 modules.
     pub(crate) fn skippable(&self) -> Option<u32>
-        ensures { (o : Outline) → upstreams o ≡ self.now.0 → result ≡ find (is_skippable o self.now.1) (below (length o.modules)) }
+        ensures { (o : Outline) → upstreams o ≡ self.now.0
+            → result ≡ find (is_skippable o self.now.1) (below (length o.modules)) }
     {
         first_of(&self.skippable, self.upstream.len())
     }

@@ -62,7 +62,8 @@ fn files_of(alloc: Global, entries: &[Entry]) -> Mem<List<u32>>
 // A number behind others, unless it is one of them.
 fn add_once(kept: &mut List<u32>, met: &mut HashSet<u32>, file: u32) -> Mem<()>
     requires { (q : ℕ) → contains nat_eq met.old q ≡ is_listed q kept.old }
-    ensures { OnOk result ((kept.new ≡ once_more kept.old file) × ((q : ℕ) → contains nat_eq met.new q ≡ is_listed q kept.new)) }
+    ensures { OnOk result ((kept.new ≡ once_more kept.old file)
+        × ((q : ℕ) → contains nat_eq met.new q ≡ is_listed q kept.new)) }
 {
     if met.insert(file)? {
         kept.push(file)?;

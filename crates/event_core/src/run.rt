@@ -8,11 +8,11 @@ ghost use Rattle.event_core.specs.Fitting.{IsFit};
 ghost use Rattle.event_core.specs.Going.{NeverLocked, NeverWaits};
 ghost use Rattle.event_core.specs.Outlines.{outline_of};
 ghost use Rattle.event_core.specs.Scripts.{is_there};
-ghost use Rattle.event_core.specs.Standing.{is_complete, is_ready, is_skippable, now_of, state_of};
+ghost use Rattle.event_core.specs.Standing.{is_complete, is_ready, is_skippable, standing_of, state_of};
 
 use crate::outline::Outline;
 use crate::refused::NotEnabled;
-use crate::stand::Stand;
+use crate::standing::Standing;
 use build_core::{Event, Plan, State};
 use mvn_shared::Mem;
 use std::alloc::Global;
@@ -23,7 +23,7 @@ use std::marker::Model;
 pub struct Core {
     outline: Outline,
     history: Vec<Event>,
-    stand: Stand,
+    standing: Standing,
 }
 
 // An event more, where there is room.
@@ -39,13 +39,13 @@ impl Model for Core {
     ghost use Rattle.std.specs.Prelude.{List, vec_capacity};
     ghost use Rattle.build_core.specs.declared.event.Event.{Event};
     ghost use Rattle.event_core.specs.declared.outline.Outline.{Outline};
-    ghost use Rattle.event_core.specs.Stands.{IsCore};
+    ghost use Rattle.event_core.specs.Kept.{IsCore};
 
     ghost Value = { Outline × List Event };
 
     ghost view = { λ core. (core.outline, core.history.items) };
 
-    ghost invariant = { λ core. IsCore core.outline core.history.items core.stand (vec_capacity core.history) };
+    ghost invariant = { λ core. IsCore core.outline core.history.items core.standing (vec_capacity core.history) };
 }
 
 impl Core {
@@ -65,11 +65,11 @@ impl Core {
         ensures { IfOk result (λ core. core ≡ (outline, [])) }
     {
         let history = Vec::with_capacity(alloc, outline.events as usize)?;
-        let stand = Stand::new(alloc, &outline)?;
+        let standing = Standing::new(alloc, &outline)?;
         Ok(Core {
             outline,
             history,
-            stand,
+            standing,
         })
     }
 
@@ -78,22 +78,22 @@ impl Core {
         requires { Enabled self.old.0 self.old.1 event }
         ensures { self.new ≡ (self.old.0, self.old.1 ++ event ∷ []) }
     {
-        self.stand.go(&self.outline, event);
+        self.standing.go(&self.outline, event);
         note(&mut self.history, event);
     }
 
     // The first cause for which an event may not come.
     fn first_cause(&self, event: Event) -> Option<NotEnabled>
-        ensures first { result ≡ cause_now self.now.0 (now_of self.now.0 self.now.1) event }
-        ensures fit { IsFit self.now.0 (now_of self.now.0 self.now.1) }
+        ensures first { result ≡ cause_now self.now.0 (standing_of self.now.0 self.now.1) event }
+        ensures fit { IsFit self.now.0 (standing_of self.now.0 self.now.1) }
     {
-        self.stand.cause(&self.outline, event)
+        self.standing.cause(&self.outline, event)
     }
 
     /// The first cause for which an event may not come now: none exactly where `step` takes it. Costs what `step` does; takes no
     /// memory. Own.
     pub fn cause(&self, event: Event) -> Option<NotEnabled>
-        ensures first { result ≡ cause_now self.now.0 (now_of self.now.0 self.now.1) event }
+        ensures first { result ≡ cause_now self.now.0 (standing_of self.now.0 self.now.1) event }
         ensures none { (result ≡ None) ↔ Enabled self.now.0 self.now.1 event }
     {
         self.first_cause(event)
@@ -104,8 +104,11 @@ impl Core {
     /// those that it is an upstream of are looked at, each once, and with the last name of a batch, a fetched file and a start the files
     /// of the fetch list that are there are passed over, each once or twice. Nothing grows with the events so far. Own.
     pub fn step(&mut self, event: Event) -> Result<(), NotEnabled>
-        ensures ok { OnOk result (Enabled self.old.0 self.old.1 event × (self.new ≡ (self.old.0, self.old.1 ++ event ∷ []))) }
-        ensures err { IfErr result (λ why. (cause_now self.old.0 (now_of self.old.0 self.old.1) event ≡ Some why) × (self.new ≡ self.old)) }
+        ensures ok { OnOk result (Enabled self.old.0 self.old.1 event
+            × (self.new ≡ (self.old.0, self.old.1 ++ event ∷ []))) }
+        ensures err { IfErr result (λ why.
+            (cause_now self.old.0 (standing_of self.old.0 self.old.1) event ≡ Some why)
+            × (self.new ≡ self.old)) }
     {
         match self.first_cause(event) {
             Some(cause) => Err(cause),
@@ -121,8 +124,8 @@ impl Core {
     /// some, worker has an event that is due and may come. It rests on names being taken in ascending order. Does nothing. Resolver,
     /// "Named Locks"; own as a law.
     pub fn never_stuck(&self)
-        ensures lock { NeverLocked self.now.0 (now_of self.now.0 self.now.1) }
-        ensures wait { NeverWaits self.now.0 (now_of self.now.0 self.now.1) }
+        ensures lock { NeverLocked self.now.0 (standing_of self.now.0 self.now.1) }
+        ensures wait { NeverWaits self.now.0 (standing_of self.now.0 self.now.1) }
     {
         let _events = self.history.len();
     }
@@ -145,31 +148,33 @@ impl Core {
 
     /// The first waiting module whose upstreams are all built. Takes no memory; costs a look at words of bits, one for 4,096 modules.
     pub fn ready(&self) -> Option<u32>
-        ensures { result ≡ find (is_ready self.now.0 (now_of self.now.0 self.now.1).progress) (below (length self.now.0.modules)) }
+        ensures { result ≡ find (is_ready self.now.0 (standing_of self.now.0 self.now.1).progress)
+            (below (length self.now.0.modules)) }
     {
-        self.stand.modules.ready()
+        self.standing.modules.ready()
     }
 
     /// The first waiting module of which an upstream was skipped, or ended otherwise than built. Takes no memory; costs a look at words
     /// of bits, one for 4,096 modules.
     pub fn skippable(&self) -> Option<u32>
-        ensures { result ≡ find (is_skippable self.now.0 (now_of self.now.0 self.now.1).progress) (below (length self.now.0.modules)) }
+        ensures { result ≡ find (is_skippable self.now.0
+            (standing_of self.now.0 self.now.1).progress) (below (length self.now.0.modules)) }
     {
-        self.stand.modules.skippable()
+        self.standing.modules.skippable()
     }
 
     /// How a module stands. Constant time.
     pub fn state(&self, number: u32) -> State
-        ensures { result ≡ state_of self.now.0 (now_of self.now.0 self.now.1).progress number }
+        ensures { result ≡ state_of self.now.0 (standing_of self.now.0 self.now.1).progress number }
     {
-        self.stand.modules.state(number)
+        self.standing.modules.state(number)
     }
 
     /// Whether a file is there by now. Constant time.
     pub fn has(&self, file: u32) -> bool
-        ensures { result ≡ is_there (now_of self.now.0 self.now.1).there file }
+        ensures { result ≡ is_there (standing_of self.now.0 self.now.1).there file }
     {
-        self.stand
+        self.standing
             .there
             .get(file as usize)
             .copied()
@@ -178,8 +183,8 @@ impl Core {
 
     /// Whether each module has ended or was skipped. Constant time.
     pub fn is_complete(&self) -> bool
-        ensures { result ≡ is_complete (now_of self.now.0 self.now.1) }
+        ensures { result ≡ is_complete (standing_of self.now.0 self.now.1) }
     {
-        self.stand.modules.is_complete()
+        self.standing.modules.is_complete()
     }
 }

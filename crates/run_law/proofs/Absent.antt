@@ -18,10 +18,10 @@ use Rattle.event_core.specs.Enabled.{IsEnabled, IsRun, is_due}
 use Rattle.run_law.proofs.Invariants.{AreCoursesFit, IsCourseFit, files_fit}
 use Rattle.name_locks.specs.Locks.{hold}
 use Rattle.event_core.specs.Outlines.{is_listed, module_outline, outline_of}
-use Rattle.event_core.specs.Runs.{IsRunOf, events_of, now_after}
+use Rattle.event_core.specs.Runs.{IsRunOf, events_of, standing_of_run}
 use Rattle.event_core.specs.Scripts.{Script, absent, answers, done, fetches, frees, is_gathered, is_there, may_publish, publishes, reads, settled, step, takes, wanted, whole}
 use Rattle.event_core.specs.SoundPlans.{IsSoundPlan}
-use Rattle.event_core.specs.Standing.{Course, Now, after, after_deed, after_free, at_first, course_of, goals_of, held_by, idle, is_empty, module_of, now_of, off_course, on_course, start_of}
+use Rattle.event_core.specs.Standing.{Course, Standing, after, after_deed, after_free, at_first, course_of, goals_of, held_by, idle, is_empty, module_of, off_course, on_course, standing_of, start_of}
 use Rattle.run_law.proofs.Alone.{AreGuarded, guarded, guarded_after, guarded_first, holds_now}
 use Rattle.run_law.proofs.Complete.{IsStanding, by_events, standing_after, standing_first}
 use Rattle.run_law.proofs.Courses.{at_place, courses_after, courses_first, due_file, settled_wants}
@@ -34,9 +34,9 @@ use Rattle.event_core.proofs.Weights.{nothing_is}
 
 -- HoldsAlone of the statements
 pub holds_alone : (plan : Plan) (past : List RunEntry) (w number f n : ℕ) (m : PlanModule) (script : Script) (last : Option ℕ) → IsRunOf plan past → slice_get plan.modules number ≡ Some m
-    → course_of (now_after plan past) w ≡ on_course number script last → wanted script ≡ Some f → is_listed n m.batch ≡ true → hold (now_after plan past).locks n w ≡ Some Exclusive
+    → course_of (standing_of_run plan past) w ≡ on_course number script last → wanted script ≡ Some f → is_listed n m.batch ≡ true → hold (standing_of_run plan past).locks n w ≡ Some Exclusive
 holds_alone plan past w number f n m script last run at on wants l =
-    holds_now (outline_of plan) (now_after plan past) (guarded (outline_of plan) (events_of past) run) w number f n (module_outline m) script last (get_map module_outline plan.modules number m at) on wants l
+    holds_now (outline_of plan) (standing_of_run plan past) (guarded (outline_of plan) (events_of past) run) w number f n (module_outline m) script last (get_map module_outline plan.modules number m at) on wants l
 
 -- ---- courses
 
@@ -45,7 +45,7 @@ IsAbsentAt there idle = Unit {0}
 IsAbsentAt there (off_course number file gathered) = Unit {0}
 IsAbsentAt there (on_course number script last) = (f : ℕ) → wanted script ≡ Some f → is_there there f ≡ false
 
-abbrev pub AreAbsent : Now → Type 0
+abbrev pub AreAbsent : Standing → Type 0
 AreAbsent now = (w : ℕ) → IsAbsentAt now.there (course_of now w)
 
 -- behind a deed that was due, what a course is to fetch next isn't there
@@ -84,14 +84,14 @@ module _ (plan : Plan) (sound : IsSoundPlan plan) where
   abbrev o : Outline
   o = outline_of plan
 
-  pub record Stands (now : Now) : Type 0 where
+  pub record Stands (now : Standing) : Type 0 where
     pub standing : IsStanding o now
     pub guarded : AreGuarded o now
     pub excluding : IsExcluding o now
     pub courses : AreCoursesFit o now
     pub absent : AreAbsent now
 
-  module _ (now : Now) (s : Stands now) where
+  module _ (now : Standing) (s : Stands now) where
     -- the module that a worker is at, with the files of its script
     pub found : (v number : ℕ) (script : Script) (last : Option ℕ) → course_of now v ≡ on_course number script last → (m : PlanModule) × (slice_get plan.modules number ≡ Some m) × (files_fit m.fetch (map (λ (x : OwnFile). x.file) m.own) script ≡ true)
     found v number script last on =
@@ -148,11 +148,11 @@ module _ (plan : Plan) (sound : IsSoundPlan plan) where
             is g wants (inr apart) = get_or-set_other now.there f g true false apart ∙ old g wants
 
         by : (v ≡ w) ⊎ ((v ≡ w) → ⊥) → IsAbsentAt (set now.there f true) (get_or (set now.courses w course) v idle)
-        by (inl e) = subst (λ u. IsAbsentAt (set now.there f true) (get_or (set now.courses w course) u idle)) (sym e) (subst (IsAbsentAt (set now.there f true)) (sym (get_or-set_same now.courses w course idle (omega (arith, low, s.standing.fit.ways)))) (absent_deed (set now.there f true) (held_by now w) (deed.Publish f) None (course_of now w) due))
+        by (inl e) = subst (λ u. IsAbsentAt (set now.there f true) (get_or (set now.courses w course) u idle)) (sym e) (subst (IsAbsentAt (set now.there f true)) (sym (get_or-set_same now.courses w course idle (omega (arith, low, s.standing.fit.courses)))) (absent_deed (set now.there f true) (held_by now w) (deed.Publish f) None (course_of now w) due))
         by (inr other) = subst (IsAbsentAt (set now.there f true)) (sym (get_or-set_other now.courses w v course idle other)) (kept other (course_of now v) refl (s.absent v))
 
   -- nor behind any event
-  absent_after : (now : Now) (e : Event) → Stands now → IsEnabled o now e → AreAbsent (after o now e)
+  absent_after : (now : Standing) (e : Event) → Stands now → IsEnabled o now e → AreAbsent (after o now e)
   unfolding after
   absent_after now (event.Start w m) s is = at_place (IsAbsentAt now.there) now.courses w (on_course m (settled now.there (is_empty (held_by now w)) (start_of o m)) None) idle (λ f e. settled_wants now.there (is_empty (held_by now w)) (start_of o m) f e) s.absent
   absent_after now (event.Skip m) s is = s.absent
@@ -172,7 +172,7 @@ module _ (plan : Plan) (sound : IsSoundPlan plan) where
   stands_first = record { standing = standing_first o; guarded = guarded_first o; excluding = excluding_first o; courses = courses_first o; absent = λ w. subst (IsAbsentAt (at_first o).there) (sym (any_idle o.workers w)) tt }
 
   -- and stays behind each event
-  pub stands_after : (now : Now) (e : Event) → Stands now → IsEnabled o now e → Stands (after o now e)
+  pub stands_after : (now : Standing) (e : Event) → Stands now → IsEnabled o now e → Stands (after o now e)
   stands_after now e s is = record {
     standing = standing_after o now e s.standing is;
     guarded = guarded_after o now e s.standing s.guarded is;
@@ -182,9 +182,9 @@ module _ (plan : Plan) (sound : IsSoundPlan plan) where
   }
 
   -- so it holds behind every run
-  pub stands : (events : List Event) → IsRun o [] events → Stands (now_of o events)
+  pub stands : (events : List Event) → IsRun o [] events → Stands (standing_of o events)
   stands events run = by_events o Stands stands_after [] events stands_first run
 
   -- what is to be fetched next isn't there
-  pub stays_absent : (past : List RunEntry) (w number f : ℕ) (script : Script) (last : Option ℕ) → IsRunOf plan past → course_of (now_after plan past) w ≡ on_course number script last → wanted script ≡ Some f → is_there (now_after plan past).there f ≡ false
-  stays_absent past w number f script last run on wants = subst (IsAbsentAt (now_after plan past).there) on ((stands (events_of past) run).absent w) f wants
+  pub stays_absent : (past : List RunEntry) (w number f : ℕ) (script : Script) (last : Option ℕ) → IsRunOf plan past → course_of (standing_of_run plan past) w ≡ on_course number script last → wanted script ≡ Some f → is_there (standing_of_run plan past).there f ≡ false
+  stays_absent past w number f script last run on wants = subst (IsAbsentAt (standing_of_run plan past).there) on ((stands (events_of past) run).absent w) f wants

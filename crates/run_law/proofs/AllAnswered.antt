@@ -15,8 +15,8 @@ use Rattle.event_core.specs.declared.progress.Progress.TheVariants.{Ended}
 use Rattle.event_core.specs.declared.entry.RunEntry.{RunEntry}
 use Rattle.event_core.specs.Enabled.{Enabled}
 use Rattle.event_core.specs.Outlines.{module_outline, outline_of}
-use Rattle.event_core.specs.Runs.{IsRunOf, answers_in, events_of, kept_by, module_by, now_after}
-use Rattle.event_core.specs.Standing.{now_of, progress_of}
+use Rattle.event_core.specs.Runs.{IsRunOf, answers_in, events_of, kept_by, module_by, standing_of_run}
+use Rattle.event_core.specs.Standing.{progress_of, standing_of}
 use Rattle.event_core.specs.Worlds.{AllFit, Fits, HandTold, is_told, is_told_by}
 use Rattle.run_law.proofs.Complete.{by_entries, events_more}
 use Rattle.event_core.proofs.Fits.{one_more}
@@ -59,14 +59,14 @@ kept_new plan past area w goal number carried.Nothing whose told = absurd (false
 kept_new plan past area w goal number (carried.Published bytes) whose told = absurd (false≢true told)
 
 abbrev pub Paid : Plan → List RunEntry → Type 0
-Paid plan past = ArePaid (outline_of plan) (is_kept (answers_in plan past)) (now_after plan past)
+Paid plan past = ArePaid (outline_of plan) (is_kept (answers_in plan past)) (standing_of_run plan past)
 
 -- that answers are kept goes on behind each entry that fits
 pub step_paid : (plan : Plan) (start : Files) (hands : ℕ → HandTold) (past : List RunEntry) (e : RunEntry) → Paid plan past → Enabled (outline_of plan) (events_of past) e.event → Fits plan (Some start) hands past e → Paid plan (past ++ e ∷ [])
 unfolding Enabled
 step_paid plan start hands past e paid is fits =
-    subst (ArePaid (outline_of plan) (is_kept (answers_in plan (past ++ e ∷ [])))) (sym (ap (now_of (outline_of plan)) (events_more past e) ∙ one_more (outline_of plan) (events_of past) e.event))
-    (paid_after (outline_of plan) (is_kept (answers_in plan past)) (is_kept (answers_in plan (past ++ e ∷ []))) grows (now_after plan past) paid e.event is new)
+    subst (ArePaid (outline_of plan) (is_kept (answers_in plan (past ++ e ∷ [])))) (sym (ap (standing_of (outline_of plan)) (events_more past e) ∙ one_more (outline_of plan) (events_of past) e.event))
+    (paid_after (outline_of plan) (is_kept (answers_in plan past)) (is_kept (answers_in plan (past ++ e ∷ []))) grows (standing_of_run plan past) paid e.event is new)
   where
     more : answers_in plan (past ++ e ∷ []) ≡ answers_in plan past ++ kept_by plan past e.event e.carried
     more = answers_more plan past e
@@ -83,6 +83,6 @@ step_paid plan start hands past e paid is fits =
 
 -- each goal that a module's ending stands for is answered in the run
 pub all_answered_in : (plan : Plan) (start : Files) (hands : ℕ → HandTold) (entries : List RunEntry) → IsRunOf plan entries → AllFit plan (Some start) hands [] entries → (number goal : ℕ) (m : PlanModule) (e : Ending) → slice_get plan.modules number ≡ Some m
-    → progress_of (now_after plan entries).progress number ≡ Ended e → goal < length m.goals → reaches e goal ≡ true → is_kept (answers_in plan entries) number goal ≡ true
+    → progress_of (standing_of_run plan entries).progress number ≡ Ended e → goal < length m.goals → reaches e goal ≡ true → is_kept (answers_in plan entries) number goal ≡ true
 all_answered_in plan start hands entries run fits number goal m e at ends less for =
     (by_entries plan start hands (Paid plan) (step_paid plan start hands) [] entries (paid_first (outline_of plan) (is_kept [])) run fits).over number (module_outline m) e (get_map module_outline plan.modules number m at) ends goal less for

@@ -17,7 +17,7 @@ use Rattle.event_core.specs.Enabled.{IsEnabled, IsRun, is_due}
 use Rattle.name_locks.specs.Locks.{Holds, below, hold, with_hold}
 use Rattle.event_core.specs.Outlines.{is_listed}
 use Rattle.event_core.specs.Scripts.{Script, Step, absent, answers, choice_script, done, fetches, frees, install_script, is_there, is_gathered, is_wanted, may_publish, own_script, publishes, read_script, reads, release_script, script_of, settled, step, steps, takes, wanted, whole}
-use Rattle.event_core.specs.Standing.{Course, Now, after, after_deed, after_free, at_first, course_of, goals_of, held_by, idle, is_empty, now_of, off_course, on_course, start_of}
+use Rattle.event_core.specs.Standing.{Course, Standing, after, after_deed, after_free, at_first, course_of, goals_of, held_by, idle, is_empty, off_course, on_course, standing_of, start_of}
 use Rattle.run_law.proofs.Complete.{IsStanding, by_events, standing_after, standing_first}
 use Rattle.event_core.proofs.Fits.{same_or_not}
 use Rattle.run_law.proofs.Once.{listed_first, listed_later}
@@ -209,7 +209,7 @@ IsCourseGuarded o locks w idle = Unit {0}
 IsCourseGuarded o locks w (off_course number file gathered) = Unit {0}
 IsCourseGuarded o locks w (on_course number script last) = (m : ModuleOutline) → slice_get o.modules number ≡ Some m → IsGuarded locks w m.batch script
 
-abbrev pub AreGuarded : Outline → Now → Type 0
+abbrev pub AreGuarded : Outline → Standing → Type 0
 AreGuarded o now = (w : ℕ) → IsCourseGuarded o now.locks w (course_of now w)
 
 -- a worker's guards depend on its own holds alone
@@ -247,13 +247,13 @@ guard_free o locks later w there held (on_course number script last) g = by (don
 guard_start : (o : Outline) (locks : Holds) (w : ℕ) (there : List Bool) (held : List ℕ) (number : ℕ) → IsCourseGuarded o locks w (on_course number (settled there (is_empty held) (start_of o number)) None)
 guard_start o locks w there held number = λ m at. settle locks w m.batch [] there (is_empty held) (start_of o number) (subst (λ found. Guards m.batch [] (option_map_or script_of found whole)) (sym at) (start_guards m)) (λ n l. absurd (false≢true l))
 
-module _ (o : Outline) (now : Now) (s : IsStanding o now) (old : AreGuarded o now) (w : ℕ) (low : w < o.workers) where
+module _ (o : Outline) (now : Standing) (s : IsStanding o now) (old : AreGuarded o now) (w : ℕ) (low : w < o.workers) where
   -- where one worker turns, the others' guards stay
   turned : (later : Holds) (course : Course) → ((v : ℕ) → (v ≡ w → ⊥) → (n : ℕ) → hold later n v ≡ hold now.locks n v) → IsCourseGuarded o later w course → (v : ℕ) → IsCourseGuarded o later v (get_or (set now.courses w course) v idle)
   turned later course same new v = by (same_or_not v w)
     where
       by : (v ≡ w) ⊎ ((v ≡ w) → ⊥) → IsCourseGuarded o later v (get_or (set now.courses w course) v idle)
-      by (inl e) = subst (λ u. IsCourseGuarded o later u (get_or (set now.courses w course) u idle)) (sym e) (subst (IsCourseGuarded o later w) (sym (get_or-set_same now.courses w course idle (omega (arith, low, s.fit.ways)))) new)
+      by (inl e) = subst (λ u. IsCourseGuarded o later u (get_or (set now.courses w course) u idle)) (sym e) (subst (IsCourseGuarded o later w) (sym (get_or-set_same now.courses w course idle (omega (arith, low, s.fit.courses)))) new)
       by (inr other) = subst (IsCourseGuarded o later v) (sym (get_or-set_other now.courses w v course idle other)) (guard_moved o now.locks later v (same v other) (course_of now v) (old v))
 
   -- a change of one hold leaves the others
@@ -280,7 +280,7 @@ module _ (o : Outline) (now : Now) (s : IsStanding o now) (old : AreGuarded o no
           new k false e l = still Exclusive k l
 
 -- all courses stay guarded behind each event
-pub guarded_after : (o : Outline) (now : Now) (e : Event) → IsStanding o now → AreGuarded o now → IsEnabled o now e → AreGuarded o (after o now e)
+pub guarded_after : (o : Outline) (now : Standing) (e : Event) → IsStanding o now → AreGuarded o now → IsEnabled o now e → AreGuarded o (after o now e)
 unfolding after
 guarded_after o now (event.Start w m) s old is = turned o now s old w is.0 now.locks (on_course m (settled now.there (is_empty (held_by now w)) (start_of o m)) None) (λ v other n. refl) (guard_start o now.locks w now.there (held_by now w) m)
 guarded_after o now (event.Skip m) s old is = old
@@ -309,7 +309,7 @@ pub guarded_first : (o : Outline) → AreGuarded o (at_first o)
 guarded_first o w = subst (IsCourseGuarded o (at_first o).locks w) (sym (any_idle o.workers w)) tt
 
 -- so they are behind every run
-pub guarded : (o : Outline) (events : List Event) → IsRun o [] events → AreGuarded o (now_of o events)
+pub guarded : (o : Outline) (events : List Event) → IsRun o [] events → AreGuarded o (standing_of o events)
 guarded o events run =
     (by_events o (λ now. IsStanding o now × AreGuarded o now) (λ now e both is. (standing_after o now e both.0 is, guarded_after o now e both.0 both.1 is)) [] events (standing_first o, guarded_first o) run).1
 
@@ -328,7 +328,7 @@ guards_wanted batch taken (step stage (may_publish k) rest) f e g n l = absurd (
 guards_wanted batch taken (step stage (answers k) rest) f e g n l = absurd (nothing_is f e)
 
 -- so it holds each name of its batch alone
-pub holds_now : (o : Outline) (now : Now) → AreGuarded o now → (w number f n : ℕ) (m : ModuleOutline) (script : Script) (last : Option ℕ) → slice_get o.modules number ≡ Some m → course_of now w ≡ on_course number script last → wanted script ≡ Some f → is_listed n m.batch ≡ true → hold now.locks n w ≡ Some Exclusive
+pub holds_now : (o : Outline) (now : Standing) → AreGuarded o now → (w number f n : ℕ) (m : ModuleOutline) (script : Script) (last : Option ℕ) → slice_get o.modules number ≡ Some m → course_of now w ≡ on_course number script last → wanted script ≡ Some f → is_listed n m.batch ≡ true → hold now.locks n w ≡ Some Exclusive
 holds_now o now all w number f n m script last at on wants l =
     let is = subst (IsCourseGuarded o now.locks w) on (all w) m at in
     is.alone n (guards_wanted m.batch is.taken script f wants is.guards n l)

@@ -1,4 +1,4 @@
--- The files behind any fitting run lie between the start and the end of the build by one hand.
+-- The files behind any fitting run lie between the start and the end of the sequential build.
 use Rattle.std.proofs.Common.{◌≡◌, ℕ, ◌<◌, ◌⊎◌, inl, inr, Bool, true, false, not, ◌&&◌, nat_lt, List, [], find, length, map, slice_get, Option, Some, None, is_some, refl, sym, ap, subst, ◌∙◌, if◌then◌else◌}
 use Rattle.std.specs.Option.{option_map_or, option_or}
 use Rattle.std.specs.Ordering.{eq_by_cmp, nat_cmp}
@@ -24,10 +24,10 @@ use Rattle.run_law.proofs.Invariants.{IsFetchFile, IsOwnFile, is_begun, is_quiet
 use Rattle.run_law.specs.Given.{Extends, IsPresent, supply_by}
 use Rattle.build_core.specs.OneThread.{Supply, is_built, lacks_artifact, most_classpath, name_of, one_thread, remote_bytes}
 use Rattle.event_core.specs.Outlines.{is_listed, module_outline, outline_of}
-use Rattle.event_core.specs.Runs.{IsRunOf, answers_in, contents, goals_in, now_after}
+use Rattle.event_core.specs.Runs.{IsRunOf, answers_in, contents, goals_in, standing_of_run}
 use Rattle.event_core.specs.Scripts.{is_there}
 use Rattle.build_core.specs.Slots.{GoalsEnd, all_answered, goal_failed, kept_of, output_too_large, run_goals}
-use Rattle.event_core.specs.Standing.{Now, is_done, progress_of, state_of, upstream_of}
+use Rattle.event_core.specs.Standing.{Standing, is_done, progress_of, state_of, upstream_of}
 use Rattle.event_core.specs.Worlds.{AllFit, HandTold, is_good}
 use Rattle.run_law.proofs.AllAnswered.{all_answered_in}
 use Rattle.run_law.proofs.Carried.{same_name}
@@ -122,8 +122,8 @@ module _ (plan : Plan) (start remote : Files) (fit : IsFitPlan plan) (present : 
   abbrev kept : List Answered
   kept = answers_in plan entries
 
-  abbrev now : Now
-  now = now_after plan entries
+  abbrev now : Standing
+  now = standing_of_run plan entries
 
   abbrev files : Files
   files = contents plan start entries
@@ -141,7 +141,7 @@ module _ (plan : Plan) (start remote : Files) (fit : IsFitPlan plan) (present : 
   behind : Behind plan start remote fit.apart present fit.backed entries
   behind = (fetched_so plan start remote fit present hands tell entries run fits).0
 
-  -- how the files of the build by one hand stand
+  -- how the files of the sequential build stand
   hand : IsLeft plan supply states outputs final
   hand = hand_left plan supply fit owns
 
@@ -159,7 +159,7 @@ module _ (plan : Plan) (start remote : Files) (fit : IsFitPlan plan) (present : 
       let none = ap (find (λ u. not (is_done (progress_of now.progress u)))) (sym (ups number m at)) ∙ behind.ordered.begun number begun in
       not_not (is_done (progress_of now.progress u)) (find_gone (λ u. not (is_done (progress_of now.progress u))) m.upstream none u l)
 
-  -- a built module stands as by one hand, and keeps the same
+  -- a built module stands as in the sequential build, and keeps the same
   once : (number : ℕ) (m : PlanModule) → slice_get plan.modules number ≡ Some m → is_done (progress_of now.progress number) ≡ true → (state_of o now.progress number ≡ states number) × (outs plan kept number ≡ outputs number)
   once = judged_once plan supply (λ number. is_done (progress_of now.progress number) ≡ true) (λ number. state_of o now.progress number) states (outs plan kept) outputs
       (λ k u n here l. (fit.low k u n here l, λ done. all_done k n here (ap is_begun (done_is (progress_of now.progress k) done)) u l)) (real plan start remote fit present hands tell) fit.backed
@@ -170,7 +170,7 @@ module _ (plan : Plan) (start remote : Files) (fit : IsFitPlan plan) (present : 
   up_in : (number u : ℕ) (m : PlanModule) → slice_get plan.modules number ≡ Some m → is_listed u m.upstream ≡ true → (n : PlanModule) × (slice_get plan.modules u ≡ Some n)
   up_in number u m at l = real plan start remote fit present hands tell number u m at (fit.low number u m at l)
 
-  -- so by one hand no module that has begun is skipped
+  -- so in the sequential build no module that has begun is skipped
   hand_verdict : (number : ℕ) (m : PlanModule) → slice_get plan.modules number ≡ Some m → is_begun (progress_of now.progress number) ≡ true
       → ◌≡◌ {A = Verdict} (record { state = states number; outputs = outputs number }) (verdict_of_fetch plan supply number m outputs (missing_of plan supply m.fetch))
   unfolding judge
@@ -184,11 +184,11 @@ module _ (plan : Plan) (start remote : Files) (fit : IsFitPlan plan) (present : 
           let done = all_done number m at begun u l in
           ap (λ s. not (is_built s)) (sym (once u n.0 n.1 done).0) ∙ ap not (state_built plan start remote fit present hands tell now.progress u ∙ done)
 
-  -- what has begun in the run isn't skipped by one hand
+  -- what has begun in the run isn't skipped in the sequential build
   hand_begun : (number : ℕ) (m : PlanModule) → slice_get plan.modules number ≡ Some m → is_begun (progress_of now.progress number) ≡ true → is_skipped_state (states number) ≡ false
   hand_begun number m at begun = ap (λ (v : Verdict). is_skipped_state v.state) (hand_verdict number m at begun) ∙ not_skipped plan supply number m outputs (missing_of plan supply m.fetch)
 
-  -- a module that has ended, but not by a fault or for want of memory, stands as by one hand and keeps the same
+  -- a module that has ended, but not by a fault or for want of memory, stands as in the sequential build and keeps the same
   pub ended_alike : (number : ℕ) (m : PlanModule) (x : Ending) → slice_get plan.modules number ≡ Some m → progress_of now.progress number ≡ Ended x → is_quiet_end x ≡ true
       → (state_of o now.progress number ≡ states number) × (outs plan kept number ≡ outputs number)
   ended_alike number m x at e quiet =
@@ -241,7 +241,7 @@ module _ (plan : Plan) (start remote : Files) (fit : IsFitPlan plan) (present : 
 
   -- ---- an own file
 
-  -- an own file that was published is as by one hand
+  -- an own file that was published is as in the sequential build
   pub own_put : (number f : ℕ) (m : PlanModule) → slice_get plan.modules number ≡ Some m → is_listed f (map (λ (x : OwnFile). x.file) m.own) ≡ true → published entries f ≡ true → file_at files (name_of plan f) ≡ file_at final (name_of plan f)
   own_put number f m at mine done =
       let so = own.settled number f m at mine done in

@@ -1,4 +1,4 @@
--- What the build by one hand carries answers a fetched name as the start and the remote do.
+-- What the sequential build carries answers a fetched name as the start and the remote do.
 use Rattle.std.proofs.Common.{◌≡◌, ℕ, Bool, true, false, not, ◌||◌, nat_eq, cond, List, [], ◌∷◌, find, Option, Some, None, is_some, option_map, refl, sym, ap, subst, ◌∙◌, if◌then◌else◌}
 use Rattle.std.specs.Option.{option_or}
 use Rattle.std.specs.FinMap as finite

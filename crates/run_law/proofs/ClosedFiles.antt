@@ -23,7 +23,7 @@ use Rattle.run_law.specs.Given.{Extends, IsPresent, is_kept, supply_by}
 use Rattle.name_locks.specs.Locks.{hold}
 use Rattle.build_core.specs.OneThread.{Supply, is_built, lacks_artifact, most_classpath, name_of, one_thread, own_bytes}
 use Rattle.event_core.specs.Outlines.{is_listed, outline_of}
-use Rattle.event_core.specs.Runs.{IsComplete, IsQuiet, IsRunOf, answers_in, contents, events_of, goals_in, now_after}
+use Rattle.event_core.specs.Runs.{IsComplete, IsQuiet, IsRunOf, answers_in, contents, events_of, goals_in, standing_of_run}
 use Rattle.event_core.specs.Scripts.{Script, wanted}
 use Rattle.event_core.specs.SoundPlans.{IsSoundPlan}
 use Rattle.event_core.specs.Standing.{course_of, on_course}
@@ -86,7 +86,7 @@ pub record IsSettled (plan : Plan) (supply : Supply) (kept : List Answered) (num
 
 pub record IsOwnSo (plan : Plan) (start remote : Files) (past : List RunEntry) : Type 0 where
   pub settled : (number f : ℕ) (m : PlanModule) → slice_get plan.modules number ≡ Some m → is_listed f (map (λ (x : OwnFile). x.file) m.own) ≡ true → published past f ≡ true → IsSettled plan (supply_of start remote []) (answers_in plan past) number m
-  pub late : (number f : ℕ) (m : PlanModule) → slice_get plan.modules number ≡ Some m → is_listed f (map (λ (o : OwnFile). o.file) m.own) ≡ true → published past f ≡ true → IsLateAt (now_after plan past) number × (m.installs ≡ true)
+  pub late : (number f : ℕ) (m : PlanModule) → slice_get plan.modules number ≡ Some m → is_listed f (map (λ (o : OwnFile). o.file) m.own) ≡ true → published past f ≡ true → IsLateAt (standing_of_run plan past) number × (m.installs ≡ true)
   pub within : (number f : ℕ) (m : PlanModule) → slice_get plan.modules number ≡ Some m → is_listed f (map (λ (o : OwnFile). o.file) m.own) ≡ true → published past f ≡ true → nat_lt most_classpath (total_len plan (supply_of start remote []) (outs plan (answers_in plan past)) m.entries) ≡ false
   pub bytes : (number f : ℕ) (m : PlanModule) → slice_get plan.modules number ≡ Some m → is_listed f (map (λ (o : OwnFile). o.file) m.own) ≡ true → published past f ≡ true
       → (file_at (contents plan start past) (name_of plan f) ≡ own_at m (outs plan (answers_in plan past) number) f) × (is_some (file_at (contents plan start past) (name_of plan f)) ≡ true)
@@ -112,5 +112,5 @@ Once = (plan : Plan) → IsSoundPlan plan → (past rest : List RunEntry) (w f :
 -- who is to fetch a file holds its module's batch alone; so what it found absent stays absent
 abbrev HoldsAlone : Type 0
 HoldsAlone = (plan : Plan) (past : List RunEntry) (w number f n : ℕ) (m : PlanModule) (script : Script) (last : Option ℕ) → IsRunOf plan past → slice_get plan.modules number ≡ Some m
-    → course_of (now_after plan past) w ≡ on_course number script last → wanted script ≡ Some f
-    → is_listed n m.batch ≡ true → hold (now_after plan past).locks n w ≡ Some Exclusive
+    → course_of (standing_of_run plan past) w ≡ on_course number script last → wanted script ≡ Some f
+    → is_listed n m.batch ≡ true → hold (standing_of_run plan past).locks n w ≡ Some Exclusive

@@ -19,7 +19,7 @@ use Rattle.event_core.specs.Fitting.{IsFit, IsTied}
 use Rattle.event_core.specs.Outlines.{is_listed, outline_of}
 use Rattle.event_core.specs.Runs.{events_of}
 use Rattle.event_core.specs.Scripts.{settled}
-use Rattle.event_core.specs.Standing.{Course, Now, after, after_deed, after_free, at_first, course_of, held_by, idle, is_complete, is_empty, is_over, is_waiting, module_of, now_of, off_course, on_course, progress_of, start_of}
+use Rattle.event_core.specs.Standing.{Course, Standing, after, after_deed, after_free, at_first, course_of, held_by, idle, is_complete, is_empty, is_over, is_waiting, module_of, off_course, on_course, progress_of, standing_of, start_of}
 use Rattle.event_core.specs.Worlds.{AllFit, Fits, HandTold}
 use Rattle.name_locks.specs.Locks.{hold}
 use Rattle.event_core.proofs.Climbs.{both}
@@ -30,12 +30,12 @@ use Rattle.event_core.proofs.Weights.{nothing_is}
 -- ---- by one more
 
 -- what holds at first and stays by each event that is allowed, holds after every run
-pub by_events : (o : Outline) (P : Now → Type 0) → ((now : Now) (e : Event) → P now → IsEnabled o now e → P (after o now e)) → (past events : List Event) → P (now_of o past) → IsRun o past events → P (now_of o (past ++ events))
+pub by_events : (o : Outline) (P : Standing → Type 0) → ((now : Standing) (e : Event) → P now → IsEnabled o now e → P (after o now e)) → (past events : List Event) → P (standing_of o past) → IsRun o past events → P (standing_of o (past ++ events))
 unfolding Enabled
-by_events o P step past [] holds run = subst (λ es. P (now_of o es)) (sym (append-nil past)) holds
+by_events o P step past [] holds run = subst (λ es. P (standing_of o es)) (sym (append-nil past)) holds
 by_events o P step past (e ∷ events) holds run =
-    subst (λ es. P (now_of o es)) (append_assoc past (e ∷ []) events)
-    (by_events o P step (past ++ e ∷ []) events (subst P (sym (one_more o past e)) (step (now_of o past) e holds run.0)) run.1)
+    subst (λ es. P (standing_of o es)) (append_assoc past (e ∷ []) events)
+    (by_events o P step (past ++ e ∷ []) events (subst P (sym (one_more o past e)) (step (standing_of o past) e holds run.0)) run.1)
 
 -- the events of one entry more
 pub events_more : (past : List RunEntry) (e : RunEntry) → events_of (past ++ e ∷ []) ≡ events_of past ++ e.event ∷ []
@@ -53,10 +53,10 @@ by_entries plan start hands Q step past (e ∷ rest) holds run fits =
 
 -- ---- idle workers hold nothing
 
-abbrev pub AreIdleFree : Now → Type 0
+abbrev pub AreIdleFree : Standing → Type 0
 AreIdleFree now = (w : ℕ) → module_of (course_of now w) ≡ None → held_by now w ≡ []
 
-pub record IsStanding (o : Outline) (now : Now) : Type 0 where
+pub record IsStanding (o : Outline) (now : Standing) : Type 0 where
   pub fit : IsFit o now
   pub tied : IsTied o now
   pub free : AreIdleFree now
@@ -77,10 +77,10 @@ none_free (suc n) (suc w) = none_free n w
 free_first : (o : Outline) → AreIdleFree (at_first o)
 free_first o w none = none_free o.workers w
 
-abbrev begun : Outline → Now → ℕ → ℕ → Course
+abbrev begun : Outline → Standing → ℕ → ℕ → Course
 begun o now w m = on_course m (settled now.there (is_empty (held_by now w)) (start_of o m)) None
 
-module _ (o : Outline) (now : Now) (w : ℕ) (free : AreIdleFree now) where
+module _ (o : Outline) (now : Standing) (w : ℕ) (free : AreIdleFree now) where
   -- where the worker's module stays, and the names of the others
   kept_free : (course : Course) → module_of course ≡ module_of (course_of now w) → (v : ℕ) → module_of (get_or (set now.courses w course) v idle) ≡ None → held_by now v ≡ []
   kept_free course same v none = free v (sym (turned_module now w v course same) ∙ none)
@@ -97,16 +97,16 @@ module _ (o : Outline) (now : Now) (w : ℕ) (free : AreIdleFree now) where
       by (inr other) = get_or-set_other now.held w v names [] other ∙ free v before
 
 -- a worker without a module holds no name
-not_held : (now : Now) (o : Outline) (w n : ℕ) → IsFit o now → AreIdleFree now → w < o.workers → is_some (hold now.locks n w) ≡ true → module_of (course_of now w) ≡ None → ⊥
+not_held : (now : Standing) (o : Outline) (w n : ℕ) → IsFit o now → AreIdleFree now → w < o.workers → is_some (hold now.locks n w) ≡ true → module_of (course_of now w) ≡ None → ⊥
 not_held now o w n fit free low some none = false≢true (ap (is_listed n) (sym (free w none)) ∙ fit.listed w n low some)
 
 -- idle workers hold none behind each event
-free_after : (o : Outline) (now : Now) (e : Event) → IsFit o now → AreIdleFree now → IsEnabled o now e → AreIdleFree (after o now e)
+free_after : (o : Outline) (now : Standing) (e : Event) → IsFit o now → AreIdleFree now → IsEnabled o now e → AreIdleFree (after o now e)
 unfolding after
 free_after o now (event.Start w m) fit free is = λ v none. by v none (same_or_not v w)
   where
     by : (v : ℕ) → module_of (get_or (set now.courses w (begun o now w m)) v idle) ≡ None → (v ≡ w) ⊎ ((v ≡ w) → ⊥) → held_by now v ≡ []
-    by v none (inl e) = absurd (nothing_is m (sym none ∙ ap (λ u. module_of (get_or (set now.courses w (begun o now w m)) u idle)) e ∙ ap module_of (get_or-set_same now.courses w (begun o now w m) idle (omega (arith, is.0, fit.ways)))))
+    by v none (inl e) = absurd (nothing_is m (sym none ∙ ap (λ u. module_of (get_or (set now.courses w (begun o now w m)) u idle)) e ∙ ap module_of (get_or-set_same now.courses w (begun o now w m) idle (omega (arith, is.0, fit.courses)))))
     by v none (inr other) = free v (sym (ap module_of (get_or-set_other now.courses w v (begun o now w m) idle other)) ∙ none)
 free_after o now (event.Skip m) fit free is = free
 free_after o now (event.Take w n mode) fit free is =
@@ -129,11 +129,11 @@ pub standing_first : (o : Outline) → IsStanding o (at_first o)
 standing_first o = record { fit = fit_first o; tied = tied_first o; free = free_first o }
 
 -- and stays behind each event
-pub standing_after : (o : Outline) (now : Now) (e : Event) → IsStanding o now → IsEnabled o now e → IsStanding o (after o now e)
+pub standing_after : (o : Outline) (now : Standing) (e : Event) → IsStanding o now → IsEnabled o now e → IsStanding o (after o now e)
 standing_after o now e s is = record { fit = fit_after o now e s.fit is; tied = tied_after o now e s.fit s.tied is; free = free_after o now e s.fit s.free is }
 
 -- so it holds behind every run
-pub standing : (o : Outline) (events : List Event) → IsRun o [] events → IsStanding o (now_of o events)
+pub standing : (o : Outline) (events : List Event) → IsRun o [] events → IsStanding o (standing_of o events)
 standing o events run = by_events o (IsStanding o) (λ now e s is. standing_after o now e s is) [] events (standing_first o) run
 
 -- ---- complete runs
@@ -144,7 +144,7 @@ all_over [] m over low = absurd (omega (arith, low))
 all_over (p ∷ ps) zero over low = (both (is_over p) (list_all is_over ps) over).0
 all_over (p ∷ ps) (suc m) over low = all_over ps m (both (is_over p) (list_all is_over ps) over).1 (omega (arith, low))
 
-module _ (o : Outline) (now : Now) (s : IsStanding o now) (over : is_complete now ≡ true) where
+module _ (o : Outline) (now : Standing) (s : IsStanding o now) (over : is_complete now ≡ true) where
   -- where all is over no worker is at a module
   none_runs : (w m : ℕ) → module_of (course_of now w) ≡ Some m → ⊥
   none_runs w m at =
@@ -181,7 +181,7 @@ module _ (o : Outline) (now : Now) (s : IsStanding o now) (over : is_complete no
   no_further (event.End w e) is = ends_idle (course_of now w) e (all_idle w) is.3
 
 -- a run that is complete is all of any run that it begins
-pub complete_is_all : (o : Outline) (past events : List Event) → IsRun o [] past → is_complete (now_of o past) ≡ true → IsRun o past events → events ≡ []
+pub complete_is_all : (o : Outline) (past events : List Event) → IsRun o [] past → is_complete (standing_of o past) ≡ true → IsRun o past events → events ≡ []
 unfolding Enabled
 complete_is_all o past [] run over more = refl
-complete_is_all o past (e ∷ events) run over more = absurd (no_further o (now_of o past) (standing o past run) over e more.0)
+complete_is_all o past (e ∷ events) run over more = absurd (no_further o (standing_of o past) (standing o past run) over e more.0)

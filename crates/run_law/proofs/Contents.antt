@@ -1,4 +1,4 @@
--- Every complete, quiet, fitting run leaves the repository as the build by one hand does.
+-- Every complete, quiet, fitting run leaves the repository as the sequential build does.
 use Rattle.std.proofs.Common.{◌≡◌, ℕ, zero, suc, ◌<◌, ◌⊎◌, inl, inr, Bool, true, false, ◌&&◌, List, [], ◌∷◌, length, get_or, map, nat_lt, slice_get, Some, None, is_some, unwrap_or, refl, arith, sym, ap, subst, ◌∙◌, if◌then◌else◌}
 use Rattle.std.specs.Option.{option_or}
 use Rattle.std.specs.FinMap as finite
@@ -17,7 +17,7 @@ use Rattle.run_law.proofs.Invariants.{IsFetchFile, IsOwnFile, outs, supply_of}
 use Rattle.run_law.specs.Given.{Extends, IsPresent, supply_by}
 use Rattle.build_core.specs.OneThread.{Supply, is_built, name_of, one_thread}
 use Rattle.event_core.specs.Outlines.{is_listed, module_outline, outline_of}
-use Rattle.event_core.specs.Runs.{IsComplete, IsQuiet, IsRunOf, answers_in, contents, now_after}
+use Rattle.event_core.specs.Runs.{IsComplete, IsQuiet, IsRunOf, answers_in, contents, standing_of_run}
 use Rattle.event_core.specs.SoundPlans.{IsSoundPlan}
 use Rattle.event_core.specs.Standing.{state_of}
 use Rattle.event_core.specs.Worlds.{AllFit, HandTold}
@@ -128,8 +128,8 @@ left_by plan start remote kept said s o files left = record { other = left.other
 pub core : Core
 core plan start remote fit present owns hands tell entries run fits complete quiet said extends =
     let supply = supply_by start remote said in
-    left_once plan supply (λ number. state_of (outline_of plan) (now_after plan entries).progress number) (state_at (one_thread plan supply)) (outs plan (answers_in plan entries)) (outputs_at (one_thread plan supply)) (contents plan start entries) (one_thread plan supply).files
-    (left_by plan start remote (answers_in plan entries) said (λ number. state_of (outline_of plan) (now_after plan entries).progress number) (outs plan (answers_in plan entries)) (contents plan start entries) (left_so plan start remote fit present owns hands tell entries run fits complete quiet))
+    left_once plan supply (λ number. state_of (outline_of plan) (standing_of_run plan entries).progress number) (state_at (one_thread plan supply)) (outs plan (answers_in plan entries)) (outputs_at (one_thread plan supply)) (contents plan start entries) (one_thread plan supply).files
+    (left_by plan start remote (answers_in plan entries) said (λ number. state_of (outline_of plan) (standing_of_run plan entries).progress number) (outs plan (answers_in plan entries)) (contents plan start entries) (left_so plan start remote fit present owns hands tell entries run fits complete quiet))
     (hand_left plan supply fit owns) (core_ends plan start remote fit present hands tell entries run fits complete quiet said extends)
 
 -- and a sound plan is as it asks
@@ -147,7 +147,7 @@ sound_owns plan sound = record {
       let sized = sound.present in omega (arith, low, sized);
 }
 
--- so of a sound plan: a complete, quiet run of hands that tell all leaves the repository as the build by one hand does
+-- so of a sound plan: a complete, quiet run of hands that tell all leaves the repository as the sequential build does
 pub core_sound : (plan : Plan) (start remote : Files) → IsSoundPlan plan → IsPresent plan start → (hands : ℕ → HandTold) → ((w : ℕ) → ((hands w).area ≡ true) × ((hands w).remote ≡ Some remote)) → (entries : List RunEntry)
     → IsRunOf plan entries → AllFit plan (Some start) hands [] entries → IsComplete plan entries → IsQuiet entries → (said : ℕ → ℕ → GoalAnswer) → Extends (answers_in plan entries) said
     → contents plan start entries ≡ (one_thread plan (supply_by start remote said)).files

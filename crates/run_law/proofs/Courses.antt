@@ -16,7 +16,7 @@ use Rattle.run_law.proofs.Invariants.{AreCoursesFit, IsCourseFit, files_fit}
 use Rattle.name_locks.specs.Locks.{below}
 use Rattle.event_core.specs.Outlines.{is_listed}
 use Rattle.event_core.specs.Scripts.{Script, Step, absent, answers, choice_script, done, fetches, frees, install_script, is_gathered, is_there, is_wanted, lock_script, may_publish, own_script, publishes, read_script, reads, release_script, script_of, settled, step, steps, takes, wanted, whole}
-use Rattle.event_core.specs.Standing.{Course, Now, after, after_deed, after_free, at_first, course_of, goals_of, held_by, idle, is_empty, now_of, off_course, on_course, start_of}
+use Rattle.event_core.specs.Standing.{Course, Standing, after, after_deed, after_free, at_first, course_of, goals_of, held_by, idle, is_empty, off_course, on_course, standing_of, start_of}
 use Rattle.run_law.proofs.Complete.{by_events}
 use Rattle.run_law.proofs.Once.{both, listed_first, listed_later}
 use Rattle.event_core.proofs.Ties.{any_idle}
@@ -224,7 +224,7 @@ there_grows (b ∷ there) (suc f) zero is = is
 there_grows (b ∷ there) (suc f) (suc g) is = there_grows there f g is
 
 -- all courses stay fit behind each event
-pub courses_after : (o : Outline) (now : Now) (e : Event) → AreCoursesFit o now → AreCoursesFit o (after o now e)
+pub courses_after : (o : Outline) (now : Standing) (e : Event) → AreCoursesFit o now → AreCoursesFit o (after o now e)
 unfolding after
 courses_after o now (event.Start w m) fit = record { courses = at_place (IsCourseFit o) now.courses w (on_course m (settled now.there (is_empty (held_by now w)) (start_of o m)) None) idle (begun_fit o now.there (held_by now w) m fit.grows) fit.courses; grows = fit.grows }
 courses_after o now (event.Skip m) fit = record { courses = fit.courses; grows = fit.grows }
@@ -242,5 +242,5 @@ pub courses_first : (o : Outline) → AreCoursesFit o (at_first o)
 courses_first o = record { courses = λ w. subst (IsCourseFit o) (sym (any_idle o.workers w)) tt; grows = λ f is. is }
 
 -- so they are behind every run
-pub courses_fit : (o : Outline) (events : List Event) → IsRun o [] events → AreCoursesFit o (now_of o events)
+pub courses_fit : (o : Outline) (events : List Event) → IsRun o [] events → AreCoursesFit o (standing_of o events)
 courses_fit o events run = by_events o (AreCoursesFit o) (λ now e fit is. courses_after o now e fit) [] events (courses_first o) run

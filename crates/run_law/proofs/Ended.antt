@@ -26,12 +26,12 @@ use Rattle.run_law.proofs.Invariants.{AreCoursesFit, AreEnded, AreGathering, Are
 use Rattle.run_law.specs.Given.{IsPresent}
 use Rattle.build_core.specs.OneThread.{Supply, answer_at, lacks_artifact, most_classpath, name_of, remote_bytes}
 use Rattle.event_core.specs.Outlines.{is_listed, module_outline, outline_of}
-use Rattle.event_core.specs.Runs.{answers_in, contents, goals_in, now_after}
+use Rattle.event_core.specs.Runs.{answers_in, contents, goals_in, standing_of_run}
 use Rattle.event_core.specs.Scripts.{Script, absent, answers, answers_left, fetches, frees, is_there, is_to_install, may_end, may_publish, publishes, reads, stage_of, step, takes, wanted, whole}
 use Rattle.name_locks.specs.declared.mode.Mode.TheVariants.{Shared, Exclusive}
 use Rattle.build_core.specs.Slots.{GoalsEnd, all_answered, goal_failed, kept_of, output_too_large, run_goals}
 use Rattle.event_core.specs.SoundPlans.{is_backed}
-use Rattle.event_core.specs.Standing.{Course, Now, after, course_of, ended, goals_of, idle, is_done, is_over, is_waiting, module_of, off_course, on_course, progress_of, upstream_of}
+use Rattle.event_core.specs.Standing.{Course, Standing, after, course_of, ended, goals_of, idle, is_done, is_over, is_waiting, module_of, off_course, on_course, progress_of, upstream_of}
 use Rattle.event_core.specs.Worlds.{FitsEnd, HandTold, IsBeyond, IsWithin, has_failed_at, is_good, is_too_large_at, stood}
 use Rattle.run_law.proofs.Complete.{IsStanding}
 use Rattle.run_law.proofs.Gathering.{all_here, late_none, wanted_head}
@@ -88,7 +88,7 @@ waits_begun Skipped w b = false≢true b
 waits_begun (Ended e) w b = false≢true w
 
 -- what has begun stays begun behind each event
-pub begun_stays : (o : Outline) (now : Now) (e : Event) → IsEnabled o now e → (u : ℕ) → is_begun (progress_of now.progress u) ≡ true → is_begun (progress_of (after o now e).progress u) ≡ true
+pub begun_stays : (o : Outline) (now : Standing) (e : Event) → IsEnabled o now e → (u : ℕ) → is_begun (progress_of now.progress u) ≡ true → is_begun (progress_of (after o now e).progress u) ≡ true
 unfolding after
 begun_stays o now (event.Start w m) is u b = set_begun now.progress m (Running w) (λ x. refl) u b
 begun_stays o now (event.Skip m) is u b = set_begun now.progress m Skipped (λ x. absurd (waits_begun (progress_of now.progress m) is.1 x)) u b
@@ -152,14 +152,14 @@ module _ (plan : Plan) (start remote : Files) (apart : AreApart plan) (present :
   base = supply_of start remote []
 
   -- a module that has begun looks at upstreams that are over
-  upstream_over : (now : Now) (number : ℕ) (m : PlanModule) → IsOrdered o now → slice_get plan.modules number ≡ Some m → is_begun (progress_of now.progress number) ≡ true → (u : ℕ) → is_listed u m.upstream ≡ true → is_over (progress_of now.progress u) ≡ true
+  upstream_over : (now : Standing) (number : ℕ) (m : PlanModule) → IsOrdered o now → slice_get plan.modules number ≡ Some m → is_begun (progress_of now.progress number) ≡ true → (u : ℕ) → is_listed u m.upstream ≡ true → is_over (progress_of now.progress u) ≡ true
   upstream_over now number m ordered at begun u l =
       let ups : upstream_of o number ≡ m.upstream = ap (λ found. option_map_or (λ (x : ModuleOutline). x.upstream) found []) (get_map module_outline plan.modules number m at) in
       let none = subst (λ xs. find (λ u. not (is_done (progress_of now.progress u))) xs ≡ None) ups (ordered.begun number begun) in
       done_over (progress_of now.progress u) (not_not (is_done (progress_of now.progress u)) (find_gone (λ u. not (is_done (progress_of now.progress u))) m.upstream none u l))
 
   -- where the answers of what is over stay
-  module _ (now : Now) (kept later : List Answered) (ordered : IsOrdered o now) (same : (u : ℕ) → is_over (progress_of now.progress u) ≡ true → answer_at later u ≡ answer_at kept u) where
+  module _ (now : Standing) (kept later : List Answered) (ordered : IsOrdered o now) (same : (u : ℕ) → is_over (progress_of now.progress u) ≡ true → answer_at later u ≡ answer_at kept u) where
     -- the length of a begun module's classpath stays as it is
     pub len_stays : (number : ℕ) (m : PlanModule) → slice_get plan.modules number ≡ Some m → is_begun (progress_of now.progress number) ≡ true → total_len plan base (outs plan later) m.entries ≡ total_len plan base (outs plan kept) m.entries
     len_stays number m at begun = len_same plan base m (outs plan later) (outs plan kept) (λ u l. outs_same plan kept later u (same u (upstream_over now number m ordered at begun u l))) m.entries (backed number m at)
@@ -173,7 +173,7 @@ module _ (plan : Plan) (start remote : Files) (apart : AreApart plan) (present :
         ∙ ap (λ answers. if nat_lt most_classpath (total_len plan base (outs plan kept) m.entries) then record { state = state.Ended ending.ClasspathTooLarge; outputs = [] } else verdict_of_goals m (run_goals m.budget answers 0 m.goals [])) mine
 
     -- so what has ended stays as it is judged
-    pub ended_stays : (next : Now) → ((number : ℕ) (e : Ending) → progress_of next.progress number ≡ Ended e → progress_of now.progress number ≡ Ended e) → AreEnded plan start remote now kept → AreEnded plan start remote next later
+    pub ended_stays : (next : Standing) → ((number : ℕ) (e : Ending) → progress_of next.progress number ≡ Ended e → progress_of now.progress number ≡ Ended e) → AreEnded plan start remote now kept → AreEnded plan start remote next later
     ended_stays next back are number m e at is quiet =
         let before = back number e is in
         let mine = same number (ap is_over before) in
@@ -220,13 +220,13 @@ module _ (plan : Plan) (start remote : Files) (apart : AreApart plan) (present :
 
   -- all that holds behind a run
   pub record Behind (past : List RunEntry) : Type 0 where
-    pub standing : IsStanding o (now_after plan past)
-    pub courses : AreCoursesFit o (now_after plan past)
-    pub stored : IsStored plan base (now_after plan past) (contents plan start past)
-    pub ordered : IsOrdered o (now_after plan past)
-    pub gathering : AreGathering o (now_after plan past)
-    pub kept : AreKept plan start remote (now_after plan past) (answers_in plan past)
-    pub ended : AreEnded plan start remote (now_after plan past) (answers_in plan past)
+    pub standing : IsStanding o (standing_of_run plan past)
+    pub courses : AreCoursesFit o (standing_of_run plan past)
+    pub stored : IsStored plan base (standing_of_run plan past) (contents plan start past)
+    pub ordered : IsOrdered o (standing_of_run plan past)
+    pub gathering : AreGathering o (standing_of_run plan past)
+    pub kept : AreKept plan start remote (standing_of_run plan past) (answers_in plan past)
+    pub ended : AreEnded plan start remote (standing_of_run plan past) (answers_in plan past)
 
   module _ (past : List RunEntry) (behind : Behind past) (number : ℕ) (m : PlanModule) (at : slice_get plan.modules number ≡ Some m) where
     -- the answers that are kept
@@ -237,7 +237,7 @@ module _ (plan : Plan) (start remote : Files) (apart : AreApart plan) (present :
     Judgement e = ◌≡◌ {A = Verdict} (record { state = state.Ended e; outputs = outs plan (answers_in plan past) number }) (verdict_of_fetch plan (supply_of start remote (answers_in plan past)) number m (outs plan (answers_in plan past)) (missing_of plan base m.fetch))
 
     -- where all files were there and the entries were within the limit
-    by_goals : (e : Ending) → list_all (is_there (now_after plan past).there) m.fetch ≡ true → nat_lt most_classpath (total_len plan base (outs plan (answers_in plan past)) m.entries) ≡ false
+    by_goals : (e : Ending) → list_all (is_there (standing_of_run plan past).there) m.fetch ≡ true → nat_lt most_classpath (total_len plan base (outs plan (answers_in plan past)) m.entries) ≡ false
         → verdict_of_goals m (goals_in (answers_in plan past) number m) ≡ record { state = state.Ended e; outputs = kept_of (goals_in (answers_in plan past) number m) } → Judgement e
     by_goals e all within is =
         (λ i. record { state = state.Ended e; outputs = outs_at plan (answers_in plan past) number m at i })
@@ -254,7 +254,7 @@ module _ (plan : Plan) (start remote : Files) (apart : AreApart plan) (present :
         by true e = absurd (not e)
 
     -- a module whose classpath is too large ends as judged
-    by_large : list_all (is_there (now_after plan past).there) m.fetch ≡ true → IsBeyond (stood plan (Some start) past number m) → Judgement ending.ClasspathTooLarge
+    by_large : list_all (is_there (standing_of_run plan past).there) m.fetch ≡ true → IsBeyond (stood plan (Some start) past number m) → Judgement ending.ClasspathTooLarge
     by_large all beyond =
         let long = beyond_is plan start remote apart number m at (backed number m at) past behind.stored all beyond in
         let none = no_answer (λ has. false≢true (sym (behind.kept.within number m at has) ∙ long)) in
@@ -263,12 +263,12 @@ module _ (plan : Plan) (start remote : Files) (apart : AreApart plan) (present :
         ∙ ap (λ b. if b then record { state = state.Ended ending.ClasspathTooLarge; outputs = [] } else verdict_of_goals m (goals_in (answers_in plan past) number m)) long)
 
     -- a module for which a file is missing ends as judged
-    by_missing : (f : ℕ) → IsWanting o (now_after plan past).there m.fetch f → remote_bytes remote (name_of plan f) ≡ None → f < length plan.files → Judgement (ending.Missing f)
+    by_missing : (f : ℕ) → IsWanting o (standing_of_run plan past).there m.fetch f → remote_bytes remote (name_of plan f) ≡ None → f < length plan.files → Judgement (ending.Missing f)
     by_missing f wanting gone low =
         let p = wanting.before in
         let absent = ap (λ x. option_or x (remote_bytes remote (name_of plan f))) (none_is (file_at start (name_of plan f)) (sym (present f low) ∙ wanting.fresh)) ∙ gone in
         let first : missing_of plan base m.fetch ≡ Some f = ap (find (λ f. not (is_some (available plan base f)))) p.split ∙ find_first (λ f. not (is_some (available plan base f))) p.passed wanting.behind f
-        (λ x l. ap not (file_had plan start remote apart number m at (backed number m at) past behind.stored x (subst (λ t. is_listed x t ≡ true) (sym p.split) (listed_front x p.passed (f ∷ wanting.behind) l)) (all_listed (is_there (now_after plan past).there) p.passed p.here x l)).1)
+        (λ x l. ap not (file_had plan start remote apart number m at (backed number m at) past behind.stored x (subst (λ t. is_listed x t ≡ true) (sym p.split) (listed_front x p.passed (f ∷ wanting.behind) l)) (all_listed (is_there (standing_of_run plan past).there) p.passed p.here x l)).1)
         (ap (λ x. not (is_some x)) absent) in
         let none = no_answer (λ has. nothing_is f (sym (behind.kept.had number m at has) ∙ first)) in
         (λ i. record { state = state.Ended (ending.Missing f); outputs = outs_none plan (answers_in plan past) number m at none i })
@@ -284,15 +284,15 @@ module _ (plan : Plan) (start remote : Files) (apart : AreApart plan) (present :
       low_of c f is = let small = lt_is f (length plan.present) is in omega (arith, small, sized)
 
       -- a module on its script
-      judged_on : (script : Script) (last : Option ℕ) → IsCourseFit o (on_course number script last) → IsGathering o (now_after plan past).there (on_course number script last) → (e : Ending) → is_quiet_end e ≡ true
+      judged_on : (script : Script) (last : Option ℕ) → IsCourseFit o (on_course number script last) → IsGathering o (standing_of_run plan past).there (on_course number script last) → (e : Ending) → is_quiet_end e ≡ true
           → on_ends o number script last e ≡ true → ending_in_range o (on_course number script last) e ≡ true → FitsEnd (stood plan (Some start) past number m) hand e → Judgement e
       judged_on script last fit gather e quiet may range fits = by e quiet may range fits
         where
-          g : IsShaped m.fetch script × IsPassed (now_after plan past).there m.fetch (pending script) × (is_some last ≡ true → pending script ≡ [])
+          g : IsShaped m.fetch script × IsPassed (standing_of_run plan past).there m.fetch (pending script) × (is_some last ≡ true → pending script ≡ [])
           g = gather (module_outline m) (get_map module_outline plan.modules number m at)
 
-          all : pending script ≡ [] → list_all (is_there (now_after plan past).there) m.fetch ≡ true
-          all none = all_here (now_after plan past).there m.fetch (pending script) g.1 none
+          all : pending script ≡ [] → list_all (is_there (standing_of_run plan past).there) m.fetch ≡ true
+          all none = all_here (standing_of_run plan past).there m.fetch (pending script) g.1 none
 
           fine : pending script ≡ [] → IsWithin (stood plan (Some start) past number m) → nat_lt most_classpath (total_len plan base (outs plan (answers_in plan past)) m.entries) ≡ false
           fine none within = within_is plan start remote apart number m at (backed number m at) past behind.stored (all none) within
@@ -314,16 +314,16 @@ module _ (plan : Plan) (start remote : Files) (apart : AreApart plan) (present :
           by (ending.Missing f) quiet may range fits =
               let want = this_is (wanted script) f may in
               let head = wanted_head script f want in
-              by_missing f (record { behind = head.0; before = subst (IsPassed (now_after plan past).there m.fetch) head.1 g.1; fresh = fit.1 f want }) (gone_of f fits) (low_of (on_course number script last) f range)
+              by_missing f (record { behind = head.0; before = subst (IsPassed (standing_of_run plan past).there m.fetch) head.1 g.1; fresh = fit.1 f want }) (gone_of f fits) (low_of (on_course number script last) f range)
           by (ending.Fault device) quiet may range fits = absurd (false≢true quiet)
           by ending.Memory quiet may range fits = absurd (false≢true quiet)
 
       -- and one that left it
-      judged_off : (file : Option ℕ) (gathered : Bool) → IsGathering o (now_after plan past).there (off_course number file gathered) → (e : Ending) → is_quiet_end e ≡ true
+      judged_off : (file : Option ℕ) (gathered : Bool) → IsGathering o (standing_of_run plan past).there (off_course number file gathered) → (e : Ending) → is_quiet_end e ≡ true
           → off_ends file gathered e ≡ true → ending_in_range o (off_course number file gathered) e ≡ true → FitsEnd (stood plan (Some start) past number m) hand e → Judgement e
       judged_off file gathered gather e quiet may range fits = by e quiet may range fits
         where
-          g : ((f : ℕ) → file ≡ Some f → IsWanting o (now_after plan past).there m.fetch f) × (gathered ≡ true → list_all (is_there (now_after plan past).there) m.fetch ≡ true)
+          g : ((f : ℕ) → file ≡ Some f → IsWanting o (standing_of_run plan past).there m.fetch f) × (gathered ≡ true → list_all (is_there (standing_of_run plan past).there) m.fetch ≡ true)
           g = gather (module_outline m) (get_map module_outline plan.modules number m at)
 
           by : (e : Ending) → is_quiet_end e ≡ true → off_ends file gathered e ≡ true → ending_in_range o (off_course number file gathered) e ≡ true → FitsEnd (stood plan (Some start) past number m) hand e → Judgement e
@@ -337,14 +337,14 @@ module _ (plan : Plan) (start remote : Files) (apart : AreApart plan) (present :
           by ending.Memory quiet may range fits = absurd (false≢true quiet)
 
       -- so each quiet end is as judged
-      pub judged_end : (w : ℕ) (e : Ending) → module_of (course_of (now_after plan past) w) ≡ Some number → is_quiet_end e ≡ true → may_end_so o (course_of (now_after plan past) w) e ≡ true → ending_in_range o (course_of (now_after plan past) w) e ≡ true → FitsEnd (stood plan (Some start) past number m) hand e → Judgement e
-      judged_end w e = by (course_of (now_after plan past) w) (behind.courses.courses w) (behind.gathering w)
+      pub judged_end : (w : ℕ) (e : Ending) → module_of (course_of (standing_of_run plan past) w) ≡ Some number → is_quiet_end e ≡ true → may_end_so o (course_of (standing_of_run plan past) w) e ≡ true → ending_in_range o (course_of (standing_of_run plan past) w) e ≡ true → FitsEnd (stood plan (Some start) past number m) hand e → Judgement e
+      judged_end w e = by (course_of (standing_of_run plan past) w) (behind.courses.courses w) (behind.gathering w)
         where
-          by : (c : Course) → IsCourseFit o c → IsGathering o (now_after plan past).there c → module_of c ≡ Some number → is_quiet_end e ≡ true → may_end_so o c e ≡ true → ending_in_range o c e ≡ true → FitsEnd (stood plan (Some start) past number m) hand e → Judgement e
+          by : (c : Course) → IsCourseFit o c → IsGathering o (standing_of_run plan past).there c → module_of c ≡ Some number → is_quiet_end e ≡ true → may_end_so o c e ≡ true → ending_in_range o c e ≡ true → FitsEnd (stood plan (Some start) past number m) hand e → Judgement e
           by idle fit gather is quiet may range fits = absurd (nothing_is number is)
           by (on_course n script last) fit gather is quiet may range fits =
               let same : n ≡ number = ap (λ x. unwrap_or x 0) is in
-              judged_on script last (subst (λ k. IsCourseFit o (on_course k script last)) same fit) (subst (λ k. IsGathering o (now_after plan past).there (on_course k script last)) same gather) e quiet (subst (λ k. on_ends o k script last e ≡ true) same may) (subst (λ k. ending_in_range o (on_course k script last) e ≡ true) same range) fits
+              judged_on script last (subst (λ k. IsCourseFit o (on_course k script last)) same fit) (subst (λ k. IsGathering o (standing_of_run plan past).there (on_course k script last)) same gather) e quiet (subst (λ k. on_ends o k script last e ≡ true) same may) (subst (λ k. ending_in_range o (on_course k script last) e ≡ true) same range) fits
           by (off_course n file gathered) fit gather is quiet may range fits =
               let same : n ≡ number = ap (λ x. unwrap_or x 0) is in
-              judged_off file gathered (subst (λ k. IsGathering o (now_after plan past).there (off_course k file gathered)) same gather) e quiet may (subst (λ k. ending_in_range o (off_course k file gathered) e ≡ true) same range) fits
+              judged_off file gathered (subst (λ k. IsGathering o (standing_of_run plan past).there (off_course k file gathered)) same gather) e quiet may (subst (λ k. ending_in_range o (off_course k file gathered) e ≡ true) same range) fits

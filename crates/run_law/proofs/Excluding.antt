@@ -9,17 +9,17 @@ use Rattle.event_core.specs.declared.outline.Outline.{Outline}
 use Rattle.event_core.specs.Enabled.{IsEnabled, IsRun}
 use Rattle.name_locks.specs.Locks.{Holds, below, blocker, blocks, excludes, hold, hold_in, with_hold}
 use Rattle.event_core.specs.Outlines.{is_listed}
-use Rattle.event_core.specs.Standing.{Now, after, at_first, now_of}
+use Rattle.event_core.specs.Standing.{Standing, after, at_first, standing_of}
 use Rattle.run_law.proofs.Complete.{IsStanding, by_events, standing_after, standing_first}
 use Rattle.run_law.proofs.Ended.{find_gone}
 use Rattle.event_core.proofs.Fits.{same_or_not}
-use Rattle.event_core.proofs.Holding.{row_in}
+use Rattle.event_core.proofs.LockRows.{row_in}
 use Rattle.run_law.proofs.Once.{listed_first, listed_later}
 use Rattle.event_core.proofs.Ties.{rows_other, rows_same}
 use Rattle.event_core.proofs.Weights.{nothing_is}
 
 -- of two workers that hold a name none holds it alone
-abbrev pub IsExcluding : Outline → Now → Type 0
+abbrev pub IsExcluding : Outline → Standing → Type 0
 IsExcluding o now = (n w v : ℕ) → w < o.workers → v < o.workers → hold now.locks n w ≡ Some Exclusive → is_some (hold now.locks n v) ≡ true → v ≡ w
 
 -- a number is listed below a greater one
@@ -74,7 +74,7 @@ abbrev mode_in : Option Mode → Mode
 mode_in (Some mode) = mode
 mode_in None = Shared
 
-module _ (o : Outline) (now : Now) (s : IsStanding o now) (old : IsExcluding o now) (w n : ℕ) (low : w < o.workers) (small : n < o.names) where
+module _ (o : Outline) (now : Standing) (s : IsStanding o now) (old : IsExcluding o now) (w n : ℕ) (low : w < o.workers) (small : n < o.names) where
   -- what a worker holds behind a change of its hold
   held_new : (x : Option Mode) → hold (with_hold now.locks n w x) n w ≡ x
   held_new x = rows_same now.locks.2 n w x o.workers (omega (arith, small, s.tied.depth)) s.tied.width low
@@ -120,7 +120,7 @@ module _ (o : Outline) (now : Now) (s : IsStanding o now) (old : IsExcluding o n
       by (inr p) (inl q) = absurd (false≢true (sym (ap is_some (none_at k b q)) ∙ some))
 
 -- so does each event
-pub excluding_after : (o : Outline) (now : Now) (e : Event) → IsStanding o now → IsExcluding o now → IsEnabled o now e → IsExcluding o (after o now e)
+pub excluding_after : (o : Outline) (now : Standing) (e : Event) → IsStanding o now → IsExcluding o now → IsEnabled o now e → IsExcluding o (after o now e)
 unfolding after
 excluding_after o now (event.Start w m) s old is = old
 excluding_after o now (event.Skip m) s old is = old
@@ -154,6 +154,6 @@ excluding_first o n w v low small alone some = absurd (free n (hold_none n w) al
     free n none alone = nothing_is Exclusive (sym none ∙ alone)
 
 -- a hold alone is the only one behind every run
-pub excluding : (o : Outline) (events : List Event) → IsRun o [] events → IsExcluding o (now_of o events)
+pub excluding : (o : Outline) (events : List Event) → IsRun o [] events → IsExcluding o (standing_of o events)
 excluding o events run =
     (by_events o (λ now. IsStanding o now × IsExcluding o now) (λ now e both is. (standing_after o now e both.0 is, excluding_after o now e both.0 both.1 is)) [] events (standing_first o, excluding_first o) run).1

@@ -22,9 +22,9 @@ use Rattle.run_law.proofs.Invariants.{IsCourseFit, IsFetchFile, IsGathering, IsP
 use Rattle.run_law.specs.Given.{IsPresent}
 use Rattle.build_core.specs.OneThread.{Supply, name_of, remote_bytes}
 use Rattle.event_core.specs.Outlines.{is_listed, module_outline, outline_of}
-use Rattle.event_core.specs.Runs.{IsRunOf, events_of, now_after}
+use Rattle.event_core.specs.Runs.{IsRunOf, events_of, standing_of_run}
 use Rattle.event_core.specs.Scripts.{Script, answers_left, is_there, is_to_install, stage_of, wanted}
-use Rattle.event_core.specs.Standing.{Course, Now, after, at_first, course_of, ended, goals_of, idle, module_of, now_of, off_course, on_course, progress_of}
+use Rattle.event_core.specs.Standing.{Course, Standing, after, at_first, course_of, ended, goals_of, idle, module_of, off_course, on_course, progress_of, standing_of}
 use Rattle.event_core.specs.Worlds.{AllFit, Fits, FitsEnd, HandTold, stood}
 use Rattle.run_law.proofs.Complete.{by_entries, events_more}
 use Rattle.run_law.proofs.JudgedRuns.{IsFitPlan, behind_first, behind_more, ended_or, ending_of, waits_on}
@@ -143,12 +143,12 @@ module _ (plan : Plan) (start remote : Files) (fit : IsFitPlan plan) (present : 
 
   -- ---- which fetched files are there
 
-  abbrev Reason : Now → ℕ → Type 0
+  abbrev Reason : Standing → ℕ → Type 0
   Reason now f = (number : ℕ) × (m : PlanModule) × (slice_get plan.modules number ≡ Some m) × (is_begun (progress_of now.progress number) ≡ true) × (is_listed f (had_prefix plan base m.fetch) ≡ true)
 
   -- a fetched file that is there was there at the start, or a module that has begun fetches it and all before it can be had; where a module
   -- ended, all that it could have is there
-  pub record IsFetchedSo (now : Now) : Type 0 where
+  pub record IsFetchedSo (now : Standing) : Type 0 where
     pub reason : (f : ℕ) → IsFetchFile plan f → is_there now.there f ≡ true → (is_there plan.present f ≡ true) ⊎ Reason now f
     pub had : (number : ℕ) (m : PlanModule) (e : Ending) → slice_get plan.modules number ≡ Some m → progress_of now.progress number ≡ Ended e → is_quiet_end e ≡ true → (f : ℕ) → is_listed f (had_prefix plan base m.fetch) ≡ true → is_there now.there f ≡ true
 
@@ -156,9 +156,9 @@ module _ (plan : Plan) (start remote : Files) (fit : IsFitPlan plan) (present : 
   is_end (event.End w e) = true
   is_end other = false
 
-  module _ (past : List RunEntry) (behind : IsBehind past) (so : IsFetchedSo (now_after plan past)) where
-    abbrev now : Now
-    now = now_after plan past
+  module _ (past : List RunEntry) (behind : IsBehind past) (so : IsFetchedSo (standing_of_run plan past)) where
+    abbrev now : Standing
+    now = standing_of_run plan past
 
     -- an event that neither publishes nor ends
     quiet_so : (e : Event) → IsEnabled o now e → is_end e ≡ false → (after o now e).there ≡ now.there → IsFetchedSo (after o now e)
@@ -274,13 +274,13 @@ module _ (plan : Plan) (start remote : Files) (fit : IsFitPlan plan) (present : 
     so_after (event.End w e) what is fits = ended_so w e what is fits
 
   abbrev IsBoth : List RunEntry → Type 0
-  IsBoth past = IsBehind past × IsFetchedSo (now_after plan past)
+  IsBoth past = IsBehind past × IsFetchedSo (standing_of_run plan past)
 
   -- so behind one entry more
   both_more : (past : List RunEntry) (e : RunEntry) → IsBoth past → Enabled o (events_of past) e.event → Fits plan (Some start) hands past e → IsBoth (past ++ e ∷ [])
   unfolding Enabled
   both_more past e holds is fits =
-      let next : now_after plan (past ++ e ∷ []) ≡ after o (now_after plan past) e.event = ap (now_of o) (events_more past e) ∙ one_more o (events_of past) e.event in
+      let next : standing_of_run plan (past ++ e ∷ []) ≡ after o (standing_of_run plan past) e.event = ap (standing_of o) (events_more past e) ∙ one_more o (events_of past) e.event in
       (behind_more plan start remote fit present hands tell past e holds.0 is fits, subst IsFetchedSo (sym next) (so_after past holds.0 holds.1 e.event e.carried is fits))
 
   -- it holds where nothing has happened
@@ -288,5 +288,5 @@ module _ (plan : Plan) (start remote : Files) (fit : IsFitPlan plan) (present : 
   so_first = record { reason = λ f fetch there. inl there; had = λ number m e at is quiet f l. absurd (waits_on (length o.modules) number e is) }
 
   -- so it holds behind every fitting run
-  pub fetched_so : (entries : List RunEntry) → IsRunOf plan entries → AllFit plan (Some start) hands [] entries → IsBehind entries × IsFetchedSo (now_after plan entries)
+  pub fetched_so : (entries : List RunEntry) → IsRunOf plan entries → AllFit plan (Some start) hands [] entries → IsBehind entries × IsFetchedSo (standing_of_run plan entries)
   fetched_so entries run fits = by_entries plan start hands IsBoth both_more [] entries (behind_first plan start remote fit present hands tell, so_first) run fits

@@ -104,6 +104,6 @@ module _ (plan : Plan) (supply : Supply) (apart : AreApart plan)
       fold_judged (done ++ m ∷ []) rest (next_module first_unbuilt plan supply progress m) (e ∙ sym (append_assoc done (m ∷ []) rest))
       (one_further done m progress (next_module first_unbuilt plan supply progress m) at so (next_is plan supply apart (length done) m at progress (backed (length done) m at) so.states so.answers))
 
-  -- so the build by one hand stands as it is judged
+  -- so the sequential build stands as it is judged
   pub hand_judged : AreJudged plan supply (λ _. Unit {0}) (state_at (one_thread plan supply)) (outputs_at (one_thread plan supply))
   hand_judged number m at any = (fold_judged [] plan.modules (beginning supply) refl (record { states = refl; outputs = refl; answers = λ f fetch. refl; judged = λ k n here less. absurd (omega (arith, less)) })).judged number m at (in_list plan.modules number m at)

@@ -16,7 +16,7 @@ use Rattle.event_core.specs.Enabled.{IsEnabled}
 use Rattle.run_law.proofs.Invariants.{AreCoursesFit, AreGathering, IsCourseFit, IsGathering, IsPassed, IsShaped, is_answering, pending}
 use Rattle.name_locks.specs.Locks.{below}
 use Rattle.event_core.specs.Scripts.{Script, Step, absent, answer_script, answers, choice_script, done, fetches, frees, install_script, is_gathered, is_there, is_wanted, lock_script, may_publish, own_script, publishes, read_script, reads, release_script, answers_left, script_of, settled, stage_of, step, steps, takes, wanted, whole}
-use Rattle.event_core.specs.Standing.{Course, Now, after, after_deed, after_free, at_first, course_of, goals_of, held_by, idle, is_empty, off_course, on_course, start_of}
+use Rattle.event_core.specs.Standing.{Course, Standing, after, after_deed, after_free, at_first, course_of, goals_of, held_by, idle, is_empty, off_course, on_course, start_of}
 use Rattle.run_law.proofs.Courses.{at_place, there_grows}
 use Rattle.run_law.proofs.Once.{both}
 use Rattle.event_core.proofs.Ties.{any_idle}
@@ -320,7 +320,7 @@ no_file : (there : List Bool) (d : Deed) → not_that d ≡ false → (f : ℕ) 
 no_file there d isnt f e = absurd (false≢true (sym isnt ∙ ap not_that e))
 
 -- all courses have gathered behind each event
-pub gathering_after : (o : Outline) (now : Now) (e : Event) → AreCoursesFit o now → AreGathering o now → IsEnabled o now e → length now.there ≡ length o.present → AreGathering o (after o now e)
+pub gathering_after : (o : Outline) (now : Standing) (e : Event) → AreCoursesFit o now → AreGathering o now → IsEnabled o now e → length now.there ≡ length o.present → AreGathering o (after o now e)
 unfolding after
 gathering_after o now (event.Start w m) fit g is sized = at_place (IsGathering o now.there) now.courses w (on_course m (settled now.there (is_empty (held_by now w)) (start_of o m)) None) idle (gather_begun o now.there (is_empty (held_by now w)) m) g
 gathering_after o now (event.Skip m) fit g is sized = g

@@ -1,4 +1,4 @@
--- The build by one hand is judged: it ends as the closed form says.
+-- The sequential build is judged: it ends as the closed form says.
 use Rattle.std.proofs.Common.{◌≡◌, ℕ, ◌+◌, Bool, true, false, not, nat_lt, cond, List, [], ◌∷◌, ◌++◌, fold, length, map, slice_get, Option, Some, None, is_some, option_map, unwrap_or, refl, ap, subst, ◌∙◌, if◌then◌else◌}
 use Rattle.std.specs.List.{list_all}
 use Rattle.std.specs.Option.{option_or}

@@ -1,4 +1,4 @@
--- The repository behind the build by one hand stands as the closed form says.
+-- The repository behind the sequential build stands as the closed form says.
 use Rattle.std.proofs.Common.{◌≡◌, ℕ, zero, suc, ◌+◌, ◌<◌, ◌⊎◌, inl, inr, Bool, true, false, not, ◌||◌, ◌&&◌, nat_eq, nat_lt, cond, find, fold, List, [], ◌∷◌, ◌++◌, length, get_or, map, slice_get, Option, Some, None, is_some, option_and_then, option_map, unwrap_or, refl, arith, sym, ap, subst, ◌∙◌, if◌then◌else◌}
 use Rattle.std.specs.List.{AllByRecursion, IsDistinct}
 use Rattle.std.specs.Option.{option_or}
@@ -425,7 +425,7 @@ module _ (plan : Plan) (supply : Supply) (fit : IsFitPlan plan) (owns : AreOwnsF
   left_first : IsLeftFar [] (beginning supply)
   left_first = record { other = λ q a b. refl; had = λ number f m at less. absurd (omega (arith, less)); reason = λ f fetch is. inl is; kept = λ f fetch is. is; own = λ number f m at mine. refl }
 
-  -- so the files of the build by one hand are in the closed form
+  -- so the files of the sequential build are in the closed form
   pub left_hand : IsLeft plan supply (state_at (one_thread plan supply)) (outputs_at (one_thread plan supply)) (one_thread plan supply).files
   left_hand =
       let so = fold_judged plan supply fit.apart fit.low fit.backed [] plan.modules (beginning supply) refl so_first in
@@ -454,6 +454,6 @@ module _ (plan : Plan) (supply : Supply) (fit : IsFitPlan plan) (owns : AreOwnsF
       why f (inl is) = inl is
       why f (inr r) = inr (r.0, r.1, r.2, r.4, r.5)
 
--- the files of the build by one hand are those of the closed form
+-- the files of the sequential build are those of the closed form
 pub hand_left : HandLeft
 hand_left plan supply fit owns = left_hand plan supply fit owns

@@ -22,7 +22,7 @@ use Rattle.event_core.specs.Runs.{goals_in}
 use Rattle.event_core.specs.declared.outline.Outline.{Outline}
 use Rattle.event_core.specs.declared.outline.ModuleOutline.{ModuleOutline}
 use Rattle.event_core.specs.Scripts.{Script, Step, absent, answers, fetches, is_there, may_publish, publishes, step, wanted, whole}
-use Rattle.event_core.specs.Standing.{Course, Now, course_of, idle, off_course, on_course, progress_of}
+use Rattle.event_core.specs.Standing.{Course, Standing, course_of, idle, off_course, on_course, progress_of}
 use Rattle.event_core.specs.Outlines.{is_listed}
 
 -- the files of a script: those that are fetched, and behind them those that it is installed as
@@ -40,7 +40,7 @@ IsCourseFit o idle = Unit {0}
 IsCourseFit o (off_course number file gathered) = Unit {0}
 IsCourseFit o (on_course number script last) = ((m : ModuleOutline) → slice_get o.modules number ≡ Some m → files_fit m.fetch m.own script ≡ true) × ((f : ℕ) → wanted script ≡ Some f → is_there o.present f ≡ false)
 
-pub record AreCoursesFit (o : Outline) (now : Now) : Type 0 where
+pub record AreCoursesFit (o : Outline) (now : Standing) : Type 0 where
   pub courses : (w : ℕ) → IsCourseFit o (course_of now w)
   pub grows : (f : ℕ) → is_there o.present f ≡ true → is_there now.there f ≡ true
 
@@ -61,7 +61,7 @@ abbrev pub OwnApart : Plan → Type 0
 OwnApart plan = (f : ℕ) → IsFetchFile plan f → IsOwnFile plan f → ⊥
 
 -- how the repository stands: which files are there, and that those that are fetched have the bytes that can be had
-pub record IsStored (plan : Plan) (supply : Supply) (now : Now) (files : Files) : Type 0 where
+pub record IsStored (plan : Plan) (supply : Supply) (now : Standing) (files : Files) : Type 0 where
   pub sized : length now.there ≡ length plan.files
   pub there : (f : ℕ) → f < length plan.files → is_there now.there f ≡ is_some (file_at files (name_of plan f))
   pub bytes : (f : ℕ) → IsFetchFile plan f → f < length plan.files → is_there now.there f ≡ true → file_at files (name_of plan f) ≡ available plan supply f
@@ -103,7 +103,7 @@ IsGathering o there idle = Unit {0}
 IsGathering o there (on_course number script last) = (m : ModuleOutline) → slice_get o.modules number ≡ Some m → IsShaped m.fetch script × IsPassed there m.fetch (pending script) × (is_some last ≡ true → pending script ≡ [])
 IsGathering o there (off_course number file gathered) = (m : ModuleOutline) → slice_get o.modules number ≡ Some m → ((f : ℕ) → file ≡ Some f → IsWanting o there m.fetch f) × (gathered ≡ true → list_all (is_there there) m.fetch ≡ true)
 
-abbrev pub AreGathering : Outline → Now → Type 0
+abbrev pub AreGathering : Outline → Standing → Type 0
 AreGathering o now = (w : ℕ) → IsGathering o now.there (course_of now w)
 
 -- ---- answers, and how modules ended
@@ -125,7 +125,7 @@ is_begun (Ended e) = true
 is_begun other = false
 
 -- whose answers are kept has begun, and all that its classpath needs was had, within the limit
-pub record AreKept (plan : Plan) (start remote : Files) (now : Now) (kept : List Answered) : Type 0 where
+pub record AreKept (plan : Plan) (start remote : Files) (now : Standing) (kept : List Answered) : Type 0 where
   pub begun : (number : ℕ) → has_answer kept number ≡ true → is_begun (progress_of now.progress number) ≡ true
   pub had : (number : ℕ) (m : PlanModule) → slice_get plan.modules number ≡ Some m → has_answer kept number ≡ true → missing_of plan (supply_of start remote kept) m.fetch ≡ None
   pub within : (number : ℕ) (m : PlanModule) → slice_get plan.modules number ≡ Some m → has_answer kept number ≡ true → nat_lt most_classpath (total_len plan (supply_of start remote kept) (outs plan kept) m.entries) ≡ false
@@ -136,6 +136,6 @@ is_quiet_end ending.Memory = false
 is_quiet_end other = true
 
 -- each module that ended, otherwise than by a fault or for want of memory, ended as it is judged
-abbrev pub AreEnded : Plan → (start remote : Files) → Now → List Answered → Type 0
+abbrev pub AreEnded : Plan → (start remote : Files) → Standing → List Answered → Type 0
 AreEnded plan start remote now kept = (number : ℕ) (m : PlanModule) (e : Ending) → slice_get plan.modules number ≡ Some m → progress_of now.progress number ≡ Ended e → is_quiet_end e ≡ true
     → ◌≡◌ {A = Verdict} (record { state = state.Ended e; outputs = outs plan kept number }) (verdict_of_fetch plan (supply_of start remote kept) number m (outs plan kept) (missing_of plan (supply_of start remote kept) m.fetch))

@@ -1,4 +1,4 @@
--- Every complete, quiet, fitting run ends as the build by one hand.
+-- Every complete, quiet, fitting run ends as the sequential build.
 use Rattle.std.proofs.Common.{◌≡◌, ℕ, zero, suc, ◌<◌, ◌⊎◌, inl, inr, Bool, true, false, not, set, List, [], ◌∷◌, ◌++◌, find, length, replicate, slice_get, Option, Some, None, is_some, unwrap_or, refl, arith, sym, ap, subst, ◌∙◌}
 use Rattle.std.specs.List.{list_all}
 use Rattle.std.specs.Option.{option_map_or}
@@ -26,9 +26,9 @@ use Rattle.run_law.proofs.Invariants.{AreCoursesFit, AreEnded, AreGathering, Are
 use Rattle.run_law.specs.Given.{Extends, IsPresent, is_kept, reaches, supply_by}
 use Rattle.build_core.specs.OneThread.{Supply, is_built, one_thread}
 use Rattle.event_core.specs.Outlines.{is_listed, module_outline, outline_of}
-use Rattle.event_core.specs.Runs.{IsComplete, IsQuiet, IsRunOf, answers_in, contents, events_of, is_quiet_event, now_after, put_carried}
+use Rattle.event_core.specs.Runs.{IsComplete, IsQuiet, IsRunOf, answers_in, contents, events_of, is_quiet_event, put_carried, standing_of_run}
 use Rattle.event_core.specs.SoundPlans.{is_backed}
-use Rattle.event_core.specs.Standing.{Now, after, course_of, ended, first_lost, first_not_built, is_done, is_lost, is_over, module_of, now_of, progress_of, state_of, upstream_of}
+use Rattle.event_core.specs.Standing.{Standing, after, course_of, ended, first_lost, first_not_built, is_done, is_lost, is_over, module_of, progress_of, standing_of, state_of, upstream_of}
 use Rattle.event_core.specs.Worlds.{AllFit, Fits, HandTold}
 use Rattle.run_law.proofs.Complete.{IsStanding, all_over, by_entries, events_more, standing_after, standing_first}
 use Rattle.run_law.proofs.Courses.{courses_after, courses_first}
@@ -79,20 +79,20 @@ module _ (plan : Plan) (start remote : Files) (fit : IsFitPlan plan) (present : 
   pub behind_more : (past : List RunEntry) (e : RunEntry) → IsBehind past → Enabled o (events_of past) e.event → Fits plan (Some start) hands past e → IsBehind (past ++ e ∷ [])
   unfolding Enabled
   behind_more past e behind is fits =
-      let next : now_after plan (past ++ e ∷ []) ≡ after o (now_after plan past) e.event = ap (now_of o) (events_more past e) ∙ one_more o (events_of past) e.event in
+      let next : standing_of_run plan (past ++ e ∷ []) ≡ after o (standing_of_run plan past) e.event = ap (standing_of o) (events_more past e) ∙ one_more o (events_of past) e.event in
       let files : contents plan start (past ++ e ∷ []) ≡ put_carried plan (contents plan start past) e.event e.carried = fold_more (λ files (x : RunEntry). put_carried plan files x.event x.carried) past start e in
       let kept = kept_after plan start remote fit.apart present fit.backed fit.sized hands (λ w. (tell w).1) past behind e.event e.carried is fits in
-      let long : length (now_after plan past).there ≡ length plan.present = behind.stored.sized ∙ sym fit.sized in
+      let long : length (standing_of_run plan past).there ≡ length plan.present = behind.stored.sized ∙ sym fit.sized in
       record {
-        standing = subst (IsStanding o) (sym next) (standing_after o (now_after plan past) e.event behind.standing is);
-        courses = subst (AreCoursesFit o) (sym next) (courses_after o (now_after plan past) e.event behind.courses);
+        standing = subst (IsStanding o) (sym next) (standing_after o (standing_of_run plan past) e.event behind.standing is);
+        courses = subst (AreCoursesFit o) (sym next) (courses_after o (standing_of_run plan past) e.event behind.courses);
         stored = subst (λ now. IsStored plan base now (contents plan start (past ++ e ∷ []))) (sym next)
-            (subst (IsStored plan base (after o (now_after plan past) e.event)) (sym files)
-            (stored_after plan base fit.differ fit.own present (now_after plan past) (contents plan start past) e.event e.carried behind.standing behind.courses fit.sized behind.stored is (brings_of plan base fit.differ fit.own present hands tell past e.event e.carried fits)));
-        ordered = subst (IsOrdered o) (sym next) (ordered_after o (now_after plan past) e.event behind.standing behind.ordered is);
-        gathering = subst (AreGathering o) (sym next) (gathering_after o (now_after plan past) e.event behind.courses behind.gathering is long);
-        kept = subst (λ now. AreKept plan start remote now (answers_in plan (past ++ e ∷ []))) (sym next) (subst (AreKept plan start remote (after o (now_after plan past) e.event)) (sym (answers_more plan past e)) kept.0);
-        ended = subst (λ now. AreEnded plan start remote now (answers_in plan (past ++ e ∷ []))) (sym next) (subst (AreEnded plan start remote (after o (now_after plan past) e.event)) (sym (answers_more plan past e)) kept.1);
+            (subst (IsStored plan base (after o (standing_of_run plan past) e.event)) (sym files)
+            (stored_after plan base fit.differ fit.own present (standing_of_run plan past) (contents plan start past) e.event e.carried behind.standing behind.courses fit.sized behind.stored is (brings_of plan base fit.differ fit.own present hands tell past e.event e.carried fits)));
+        ordered = subst (IsOrdered o) (sym next) (ordered_after o (standing_of_run plan past) e.event behind.standing behind.ordered is);
+        gathering = subst (AreGathering o) (sym next) (gathering_after o (standing_of_run plan past) e.event behind.courses behind.gathering is long);
+        kept = subst (λ now. AreKept plan start remote now (answers_in plan (past ++ e ∷ []))) (sym next) (subst (AreKept plan start remote (after o (standing_of_run plan past) e.event)) (sym (answers_more plan past e)) kept.0);
+        ended = subst (λ now. AreEnded plan start remote now (answers_in plan (past ++ e ∷ []))) (sym next) (subst (AreEnded plan start remote (after o (standing_of_run plan past) e.event)) (sym (answers_more plan past e)) kept.1);
       }
 
   -- it holds where nothing has happened
@@ -114,14 +114,14 @@ module _ (plan : Plan) (start remote : Files) (fit : IsFitPlan plan) (present : 
   -- ---- complete runs
 
   abbrev run_state : List RunEntry → ℕ → State
-  run_state entries number = state_of o (now_after plan entries).progress number
+  run_state entries number = state_of o (standing_of_run plan entries).progress number
 
   abbrev QuietAt : List RunEntry → ℕ → Type 0
-  QuietAt entries number = (e : Ending) → progress_of (now_after plan entries).progress number ≡ Ended e → is_quiet_end e ≡ true
+  QuietAt entries number = (e : Ending) → progress_of (standing_of_run plan entries).progress number ≡ Ended e → is_quiet_end e ≡ true
 
   -- each goal that an ending stands for was answered
   abbrev AreAnswered : List RunEntry → Type 0
-  AreAnswered entries = (number goal : ℕ) (m : PlanModule) (e : Ending) → slice_get plan.modules number ≡ Some m → progress_of (now_after plan entries).progress number ≡ Ended e → goal < length m.goals → reaches e goal ≡ true → is_kept (answers_in plan entries) number goal ≡ true
+  AreAnswered entries = (number goal : ℕ) (m : PlanModule) (e : Ending) → slice_get plan.modules number ≡ Some m → progress_of (standing_of_run plan entries).progress number ≡ Ended e → goal < length m.goals → reaches e goal ≡ true → is_kept (answers_in plan entries) number goal ≡ true
 
   -- how a module stands, by how far it is
   module _ (ps : List Progress) (number : ℕ) where
@@ -171,7 +171,7 @@ module _ (plan : Plan) (start remote : Files) (fit : IsFitPlan plan) (present : 
 
   module _ (entries : List RunEntry) (behind : IsBehind entries) where
     abbrev ps : List Progress
-    ps = (now_after plan entries).progress
+    ps = (standing_of_run plan entries).progress
 
     abbrev kept : List Answered
     kept = answers_in plan entries
@@ -234,7 +234,7 @@ module _ (plan : Plan) (start remote : Files) (fit : IsFitPlan plan) (present : 
   pub real : (number u : ℕ) (m : PlanModule) → slice_get plan.modules number ≡ Some m → u < number → (n : PlanModule) × (slice_get plan.modules u ≡ Some n)
   real number u m at less = get_in plan.modules u (let low = in_list plan.modules number m at in omega (arith, less, low))
 
-  -- isolation: on modules that P holds of, none of which ended by a fault, P going up to upstreams, the run is the build by one hand
+  -- isolation: on modules that P holds of, none of which ended by a fault, P going up to upstreams, the run is the sequential build
   pub isolation : (P : ℕ → Type 0) (entries : List RunEntry) → IsRunOf plan entries → AllFit plan (Some start) hands [] entries → IsComplete plan entries → (said : ℕ → ℕ → GoalAnswer) → Extends (answers_in plan entries) said
       → ((number : ℕ) → P number → QuietAt entries number) → ((number u : ℕ) (m : PlanModule) → slice_get plan.modules number ≡ Some m → is_listed u m.upstream ≡ true → P number → P u)
       → (number : ℕ) (m : PlanModule) → slice_get plan.modules number ≡ Some m → P number
@@ -253,7 +253,7 @@ ending_of (Ended e) = e
 ending_of other = ending.Memory
 
 -- what has ended behind an event had ended, or the event is its end
-pub ended_or : (o : Outline) (now : Now) (e : Event) (number : ℕ) (x : Ending) → progress_of (after o now e).progress number ≡ Ended x → (progress_of now.progress number ≡ Ended x) ⊎ ((w : ℕ) × (e ≡ event.End w x))
+pub ended_or : (o : Outline) (now : Standing) (e : Event) (number : ℕ) (x : Ending) → progress_of (after o now e).progress number ≡ Ended x → (progress_of now.progress number ≡ Ended x) ⊎ ((w : ℕ) × (e ≡ event.End w x))
 unfolding after
 ended_or o now (event.Start w m) number x is = by (set_cases now.progress m (Running w) number)
   where
@@ -291,28 +291,28 @@ quiet_end w (ending.OutputTooLarge i) q = refl
 quiet_end w (ending.Fault d) q = q
 quiet_end w ending.Memory q = q
 
-abbrev AllQuiet : Now → Type 0
+abbrev AllQuiet : Standing → Type 0
 AllQuiet now = (number : ℕ) (x : Ending) → progress_of now.progress number ≡ Ended x → is_quiet_end x ≡ true
 
 -- all ends stay quiet behind quiet entries
-quiet_from : (plan : Plan) (past rest : List RunEntry) → AllQuiet (now_after plan past) → list_all (λ (e : RunEntry). is_quiet_event e.event) rest ≡ true → AllQuiet (now_after plan (past ++ rest))
-quiet_from plan past [] all quiet = subst (λ es. AllQuiet (now_after plan es)) (sym (append-nil past)) all
+quiet_from : (plan : Plan) (past rest : List RunEntry) → AllQuiet (standing_of_run plan past) → list_all (λ (e : RunEntry). is_quiet_event e.event) rest ≡ true → AllQuiet (standing_of_run plan (past ++ rest))
+quiet_from plan past [] all quiet = subst (λ es. AllQuiet (standing_of_run plan es)) (sym (append-nil past)) all
 quiet_from plan past (e ∷ rest) all quiet =
     let parts = both (is_quiet_event e.event) (list_all (λ (e : RunEntry). is_quiet_event e.event) rest) quiet in
-    subst (λ es. AllQuiet (now_after plan es)) (append_assoc past (e ∷ []) rest)
-    (quiet_from plan (past ++ e ∷ []) rest (subst AllQuiet (sym (ap (now_of (outline_of plan)) (events_more past e) ∙ one_more (outline_of plan) (events_of past) e.event)) (λ number x is. by number x parts.0 (ended_or (outline_of plan) (now_after plan past) e.event number x is))) parts.1)
+    subst (λ es. AllQuiet (standing_of_run plan es)) (append_assoc past (e ∷ []) rest)
+    (quiet_from plan (past ++ e ∷ []) rest (subst AllQuiet (sym (ap (standing_of (outline_of plan)) (events_more past e) ∙ one_more (outline_of plan) (events_of past) e.event)) (λ number x is. by number x parts.0 (ended_or (outline_of plan) (standing_of_run plan past) e.event number x is))) parts.1)
   where
-    by : (number : ℕ) (x : Ending) → is_quiet_event e.event ≡ true → (progress_of (now_after plan past).progress number ≡ Ended x) ⊎ ((w : ℕ) × (e.event ≡ event.End w x)) → is_quiet_end x ≡ true
+    by : (number : ℕ) (x : Ending) → is_quiet_event e.event ≡ true → (progress_of (standing_of_run plan past).progress number ≡ Ended x) ⊎ ((w : ℕ) × (e.event ≡ event.End w x)) → is_quiet_end x ≡ true
     by number x q (inl old) = all number x old
     by number x q (inr new) = quiet_end new.0 x (subst (λ y. is_quiet_event y ≡ true) new.1 q)
 
 -- so they are behind a quiet run
-pub quiet_all : (plan : Plan) (entries : List RunEntry) → IsQuiet entries → AllQuiet (now_after plan entries)
+pub quiet_all : (plan : Plan) (entries : List RunEntry) → IsQuiet entries → AllQuiet (standing_of_run plan entries)
 quiet_all plan entries quiet = quiet_from plan [] entries (λ number x is. absurd (waits_on (length (outline_of plan).modules) number x is)) quiet
 
 -- the endings and the kept outputs of a complete, quiet, fitting run
 pub core_ends : (plan : Plan) (start remote : Files) (fit : IsFitPlan plan) (present : IsPresent plan start) (hands : ℕ → HandTold) → AllTell plan (supply_of start remote []) fit.differ fit.own present hands → (entries : List RunEntry)
     → IsRunOf plan entries → AllFit plan (Some start) hands [] entries → IsComplete plan entries → IsQuiet entries → (said : ℕ → ℕ → GoalAnswer) → Extends (answers_in plan entries) said → (number : ℕ) (m : PlanModule) → slice_get plan.modules number ≡ Some m
-    → (state_of (outline_of plan) (now_after plan entries).progress number ≡ state_at (one_thread plan (supply_by start remote said)) number) × (outs plan (answers_in plan entries) number ≡ outputs_at (one_thread plan (supply_by start remote said)) number)
+    → (state_of (outline_of plan) (standing_of_run plan entries).progress number ≡ state_at (one_thread plan (supply_by start remote said)) number) × (outs plan (answers_in plan entries) number ≡ outputs_at (one_thread plan (supply_by start remote said)) number)
 core_ends plan start remote fit present hands tell entries run fits complete quiet said extends number m at =
     isolation plan start remote fit present hands tell (λ n. Unit {0}) entries run fits complete said extends (λ n any. quiet_all plan entries quiet n) (λ k u n here l any. tt) number m at tt

@@ -24,10 +24,10 @@ use Rattle.run_law.proofs.Invariants.{IsFetchFile, IsOwnFile, files_fit}
 use Rattle.name_locks.specs.Locks.{hold}
 use Rattle.build_core.specs.OneThread.{answer_at, name_of}
 use Rattle.event_core.specs.Outlines.{is_listed, module_outline, outline_of}
-use Rattle.event_core.specs.Runs.{IsComplete, IsRunOf, answers_from, answers_in, contents, events_of, kept_by, module_by, now_after}
+use Rattle.event_core.specs.Runs.{IsComplete, IsRunOf, answers_from, answers_in, contents, events_of, kept_by, module_by, standing_of_run}
 use Rattle.event_core.specs.Scripts.{Script, is_there, wanted}
 use Rattle.event_core.specs.SoundPlans.{IsSoundPlan}
-use Rattle.event_core.specs.Standing.{Now, after, course_of, is_over, module_of, now_of, on_course, progress_of}
+use Rattle.event_core.specs.Standing.{Standing, after, course_of, is_over, module_of, on_course, progress_of, standing_of}
 use Rattle.event_core.specs.Worlds.{AllFit, HandTold, publishes, was_published}
 use Rattle.run_law.proofs.Absent.{Stands, found, stands}
 use Rattle.run_law.proofs.Alone.{holds_now}
@@ -88,7 +88,7 @@ fitting_front g past rest fitting = record {
 -- behind a complete run no event may come
 pub run_ends : (plan : Plan) (run : List RunEntry) (e : Event) → IsRunOf plan run → IsComplete plan run → Enabled (outline_of plan) (events_of run) e → ⊥
 unfolding Enabled
-run_ends plan run e is complete more = no_further (outline_of plan) (now_after plan run) (standing (outline_of plan) (events_of run) is) complete e more
+run_ends plan run e is complete more = no_further (outline_of plan) (standing_of_run plan run) (standing (outline_of plan) (events_of run) is) complete e more
 
 -- ---- what an ended module kept
 
@@ -105,13 +105,13 @@ module _ (plan : Plan) (number : ℕ) where
   o = outline_of plan
 
   -- an event of another module's worker keeps nothing of this one
-  kept_other : (past : List RunEntry) → IsStanding o (now_after plan past) → is_over (progress_of (now_after plan past).progress number) ≡ true → (kept : List Answered) (e : Event) (what : Carried) → answer_at (kept ++ kept_by plan past e what) number ≡ answer_at kept number
+  kept_other : (past : List RunEntry) → IsStanding o (standing_of_run plan past) → is_over (progress_of (standing_of_run plan past).progress number) ≡ true → (kept : List Answered) (e : Event) (what : Carried) → answer_at (kept ++ kept_by plan past e what) number ≡ answer_at kept number
   kept_other past s over kept (event.Answer w g) (carried.Answered answer) = by (module_by plan past w) refl
     where
       by : (found : Option ℕ) → module_by plan past w ≡ found → answer_at (kept ++ option_map_or (λ m. (record { «module» = m; goal = g; answer = answer }) ∷ []) found []) number ≡ answer_at kept number
       by None e = ap (λ xs. answer_at xs number) (append-nil kept)
       by (Some k) e = other_answers kept (record { «module» = k; goal = g; answer = answer }) number
-          (not_same k number (λ same. false≢true (sym (ap is_over (s.tied.busy w k e)) ∙ subst (λ x. is_over (progress_of (now_after plan past).progress x) ≡ true) (sym same) over)))
+          (not_same k number (λ same. false≢true (sym (ap is_over (s.tied.busy w k e)) ∙ subst (λ x. is_over (progress_of (standing_of_run plan past).progress x) ≡ true) (sym same) over)))
   kept_other past s over kept (event.Answer w g) carried.Nothing = ap (λ xs. answer_at xs number) (append-nil kept)
   kept_other past s over kept (event.Answer w g) (carried.Published bytes) = ap (λ xs. answer_at xs number) (append-nil kept)
   kept_other past s over kept (event.Start w m) what = ap (λ xs. answer_at xs number) (append-nil kept)
@@ -123,21 +123,21 @@ module _ (plan : Plan) (number : ℕ) where
   kept_other past s over kept (event.End w x) what = ap (λ xs. answer_at xs number) (append-nil kept)
 
   -- where the build stands behind one entry more
-  next_is : (past : List RunEntry) (e : RunEntry) → now_after plan (past ++ e ∷ []) ≡ after o (now_after plan past) e.event
-  next_is past e = ap (now_of o) (events_more past e) ∙ one_more o (events_of past) e.event
+  next_is : (past : List RunEntry) (e : RunEntry) → standing_of_run plan (past ++ e ∷ []) ≡ after o (standing_of_run plan past) e.event
+  next_is past e = ap (standing_of o) (events_more past e) ∙ one_more o (events_of past) e.event
 
   -- what is over stays as it is, and keeps its outputs
-  pub keeps : (past rest : List RunEntry) → IsRunOf plan past → IsRun o (events_of past) (events_of rest) → is_over (progress_of (now_after plan past).progress number) ≡ true
-      → (progress_of (now_after plan (past ++ rest)).progress number ≡ progress_of (now_after plan past).progress number) × (answer_at (answers_in plan (past ++ rest)) number ≡ answer_at (answers_in plan past) number)
+  pub keeps : (past rest : List RunEntry) → IsRunOf plan past → IsRun o (events_of past) (events_of rest) → is_over (progress_of (standing_of_run plan past).progress number) ≡ true
+      → (progress_of (standing_of_run plan (past ++ rest)).progress number ≡ progress_of (standing_of_run plan past).progress number) × (answer_at (answers_in plan (past ++ rest)) number ≡ answer_at (answers_in plan past) number)
   unfolding Enabled
-  keeps past [] run more over = (ap (λ es. progress_of (now_after plan es).progress number) (append-nil past), ap (λ es. answer_at (answers_in plan es) number) (append-nil past))
+  keeps past [] run more over = (ap (λ es. progress_of (standing_of_run plan es).progress number) (append-nil past), ap (λ es. answer_at (answers_in plan es) number) (append-nil past))
   keeps past (e ∷ rest) run more over =
       let s = standing o (events_of past) run in
-      let stays : progress_of (now_after plan (past ++ e ∷ [])).progress number ≡ progress_of (now_after plan past).progress number = ap (λ (now : Now). progress_of now.progress number) (next_is past e) ∙ over_stays o (now_after plan past) e.event s more.0 number over in
+      let stays : progress_of (standing_of_run plan (past ++ e ∷ [])).progress number ≡ progress_of (standing_of_run plan past).progress number = ap (λ (now : Standing). progress_of now.progress number) (next_is past e) ∙ over_stays o (standing_of_run plan past) e.event s more.0 number over in
       let same : answer_at (answers_in plan (past ++ e ∷ [])) number ≡ answer_at (answers_in plan past) number = ap (λ xs. answer_at xs number) (answers_split plan [] past (e ∷ []) ∙ ap (λ xs. answers_in plan past ++ xs) (append-nil (kept_by plan past e.event e.carried))) ∙ kept_other past s over (answers_in plan past) e.event e.carried in
       let follows : IsRunOf plan (past ++ e ∷ []) = longer past e run more.0 in
       let rest' = keeps (past ++ e ∷ []) rest follows (subst (λ es. IsRun o es (events_of rest)) (sym (events_more past e)) more.1) (ap is_over stays ∙ over) in (
-        ap (λ es. progress_of (now_after plan es).progress number) (sym (append_assoc past (e ∷ []) rest)) ∙ rest'.0 ∙ stays,
+        ap (λ es. progress_of (standing_of_run plan es).progress number) (sym (append_assoc past (e ∷ []) rest)) ∙ rest'.0 ∙ stays,
         ap (λ es. answer_at (answers_in plan es) number) (sym (append_assoc past (e ∷ []) rest)) ∙ rest'.1 ∙ same,
       )
     where
@@ -149,15 +149,15 @@ module _ (plan : Plan) (number : ℕ) where
       longer past e run is = subst (IsRun o []) (sym (events_more past e)) (grow [] (events_of past) e.event run is)
 
   -- so it keeps the same outputs
-  pub keeps_outputs : (past rest : List RunEntry) → IsRunOf plan past → IsRun o (events_of past) (events_of rest) → is_over (progress_of (now_after plan past).progress number) ≡ true → outputs_after plan (past ++ rest) number ≡ outputs_after plan past number
+  pub keeps_outputs : (past rest : List RunEntry) → IsRunOf plan past → IsRun o (events_of past) (events_of rest) → is_over (progress_of (standing_of_run plan past).progress number) ≡ true → outputs_after plan (past ++ rest) number ≡ outputs_after plan past number
   keeps_outputs past rest run more over =
       outputs_are plan (past ++ rest) number ∙ outs_same plan (answers_in plan past) (answers_in plan (past ++ rest)) number (keeps past rest run more over).1 ∙ sym (outputs_are plan past number)
 
 -- ---- locks
 
 module _ (plan : Plan) (sound : IsSoundPlan plan) (past : List RunEntry) (run : IsRunOf plan past) where
-  abbrev now : Now
-  now = now_after plan past
+  abbrev now : Standing
+  now = standing_of_run plan past
 
   -- what holds at the moment
   s : Stands plan sound now
@@ -221,7 +221,7 @@ module _ (plan : Plan) (sound : IsSoundPlan plan) (past : List RunEntry) (run : 
 -- ---- files
 
 -- a file that is there is there behind each event
-there_after : (o : Outline) (now : Now) (f : ℕ) (e : Event) → is_there now.there f ≡ true → IsEnabled o now e → is_there (after o now e).there f ≡ true
+there_after : (o : Outline) (now : Standing) (f : ℕ) (e : Event) → is_there now.there f ≡ true → IsEnabled o now e → is_there (after o now e).there f ≡ true
 unfolding after
 there_after o now f (event.Start w m) there is = there
 there_after o now f (event.Skip m) there is = there
@@ -233,10 +233,10 @@ there_after o now f (event.Answer w g) there is = there
 there_after o now f (event.End w x) there is = there
 
 -- so it is there at each later moment
-there_stays : (plan : Plan) (past rest : List RunEntry) (f : ℕ) → IsRun (outline_of plan) (events_of past) (events_of rest) → is_there (now_after plan past).there f ≡ true → is_there (now_after plan (past ++ rest)).there f ≡ true
+there_stays : (plan : Plan) (past rest : List RunEntry) (f : ℕ) → IsRun (outline_of plan) (events_of past) (events_of rest) → is_there (standing_of_run plan past).there f ≡ true → is_there (standing_of_run plan (past ++ rest)).there f ≡ true
 there_stays plan past rest f run there =
-    subst (λ es. is_there (now_of (outline_of plan) es).there f ≡ true) (sym (events_append past rest))
-    (by_events (outline_of plan) (λ (now : Now). is_there now.there f ≡ true) (λ now e there is. there_after (outline_of plan) now f e there is) (events_of past) (events_of rest) there run)
+    subst (λ es. is_there (standing_of (outline_of plan) es).there f ≡ true) (sym (events_append past rest))
+    (by_events (outline_of plan) (λ (now : Standing). is_there now.there f ≡ true) (λ now e there is. there_after (outline_of plan) now f e there is) (events_of past) (events_of rest) there run)
 
 -- what was published was published at each later moment
 put_stays : (past rest : List RunEntry) (f : ℕ) → was_published past f ≡ true → was_published (past ++ rest) f ≡ true

@@ -20,7 +20,7 @@ use Rattle.event_core.specs.Enabled.{IsEnabled, is_due, is_this, may_end_so, nee
 use Rattle.run_law.proofs.Invariants.{pending}
 use Rattle.name_locks.specs.Locks.{below}
 use Rattle.event_core.specs.Scripts.{Script, Step, absent, answers, choice_script, done, fetches, frees, install_script, is_gathered, is_there, is_to_install, is_wanted, lock_script, may_publish, own_script, publishes, read_script, reads, release_script, script_of, settled, step, steps, takes, wanted, whole}
-use Rattle.event_core.specs.Standing.{Course, Now, after, after_deed, after_free, after_publish, at_first, course_of, ended, goals_of, held_by, idle, is_empty, is_over, is_waiting, module_of, off_course, on_course, progress_of, start_of}
+use Rattle.event_core.specs.Standing.{Course, Standing, after, after_deed, after_free, after_publish, at_first, course_of, ended, goals_of, held_by, idle, is_empty, is_over, is_waiting, module_of, off_course, on_course, progress_of, start_of}
 use Rattle.run_law.proofs.Complete.{IsStanding}
 use Rattle.run_law.proofs.Courses.{at_place}
 use Rattle.event_core.proofs.Fits.{same_or_not}
@@ -274,11 +274,11 @@ free_owns o there held (on_course number script last) is = by (done script deed.
 begun_owns : (o : Outline) (there : List Bool) (empty : Bool) (number : ℕ) → IsOwnLate o (on_course number (settled there empty (start_of o number)) None)
 begun_owns o there empty number m at = owns_settled m.installs there empty (start_of o number) (subst (λ found. owns_late m.installs (option_map_or script_of found whole) ≡ true) (sym at) (start_owns m))
 
-abbrev pub AreOwnsLate : Outline → Now → Type 0
+abbrev pub AreOwnsLate : Outline → Standing → Type 0
 AreOwnsLate o now = (w : ℕ) → IsOwnLate o (course_of now w)
 
 -- so in all courses behind each event
-pub owns_after : (o : Outline) (now : Now) (e : Event) → AreOwnsLate o now → AreOwnsLate o (after o now e)
+pub owns_after : (o : Outline) (now : Standing) (e : Event) → AreOwnsLate o now → AreOwnsLate o (after o now e)
 unfolding after
 owns_after o now (event.Start w m) is = at_place (IsOwnLate o) now.courses w (on_course m (settled now.there (is_empty (held_by now w)) (start_of o m)) None) idle (begun_owns o now.there (is_empty (held_by now w)) m) is
 owns_after o now (event.Skip m) is = is
@@ -307,7 +307,7 @@ is_late_end (ending.Fault device) = true
 is_late_end ending.Memory = true
 is_late_end other = false
 
-abbrev pub IsLateAt : Now → ℕ → Type 0
+abbrev pub IsLateAt : Standing → ℕ → Type 0
 IsLateAt now number = ((w : ℕ) × (progress_of now.progress number ≡ Running w) × IsLate (course_of now w)) ⊎ ((e : Ending) × (progress_of now.progress number ≡ Ended e) × (is_late_end e ≡ true))
 
 -- of a late course only late deeds are due, and it stays late
@@ -365,7 +365,7 @@ runs_by (Running w) = w
 runs_by other = 0
 
 -- it stays so
-module _ (o : Outline) (now : Now) (s : IsStanding o now) (number v : ℕ) (run : progress_of now.progress number ≡ Running v) (late : IsLate (course_of now v)) where
+module _ (o : Outline) (now : Standing) (s : IsStanding o now) (number v : ℕ) (run : progress_of now.progress number ≡ Running v) (late : IsLate (course_of now v)) where
   -- who is at the module
   whose : (v < o.workers) × (module_of (course_of now v) ≡ Some number)
   whose = s.tied.running number v run
@@ -375,7 +375,7 @@ module _ (o : Outline) (now : Now) (s : IsStanding o now) (number v : ℕ) (run 
   turned w c new = by (same_or_not v w)
     where
       by : (v ≡ w) ⊎ ((v ≡ w) → ⊥) → IsLate (get_or (set now.courses w c) v idle)
-      by (inl e) = subst (λ k. IsLate (get_or (set now.courses w c) k idle)) (sym e) (subst IsLate (sym (get_or-set_same now.courses w c idle (let low = whose.0 in let ways = s.fit.ways in omega (arith, low, ways, e)))) (new e))
+      by (inl e) = subst (λ k. IsLate (get_or (set now.courses w c) k idle)) (sym e) (subst IsLate (sym (get_or-set_same now.courses w c idle (let low = whose.0 in let rows = s.fit.courses in omega (arith, low, rows, e)))) (new e))
       by (inr other) = subst IsLate (sym (get_or-set_other now.courses w v c idle other)) late
 
   -- another module's progress leaves it running
@@ -421,12 +421,12 @@ module _ (o : Outline) (now : Now) (s : IsStanding o now) (number v : ℕ) (run 
           at (Some k) e = other_progress k (Ended x) (λ same. other (ap runs_by (sym run ∙ ap (progress_of now.progress) (sym same) ∙ s.tied.busy w k e)))
 
 -- what is late stays late
-pub late_stays : (o : Outline) (now : Now) (e : Event) → IsStanding o now → IsEnabled o now e → (number : ℕ) → IsLateAt now number → IsLateAt (after o now e) number
+pub late_stays : (o : Outline) (now : Standing) (e : Event) → IsStanding o now → IsEnabled o now e → (number : ℕ) → IsLateAt now number → IsLateAt (after o now e) number
 late_stays o now e s is number (inl a) = late_runs o now s number a.0 a.1 a.2 e is
 late_stays o now e s is number (inr b) = inr (b.0, over_stays o now e s is number (ap is_over b.1) ∙ b.1, b.2)
 
 -- and an own publish begins it
-pub late_begins : (o : Outline) (now : Now) (w f number : ℕ) (m : ModuleOutline) → IsStanding o now → AreOwnsLate o now → IsEnabled o now (event.Publish w f) → module_of (course_of now w) ≡ Some number → slice_get o.modules number ≡ Some m
+pub late_begins : (o : Outline) (now : Standing) (w f number : ℕ) (m : ModuleOutline) → IsStanding o now → AreOwnsLate o now → IsEnabled o now (event.Publish w f) → module_of (course_of now w) ≡ Some number → slice_get o.modules number ≡ Some m
     → ((script : Script) (last : Option ℕ) → course_of now w ≡ on_course number script last → wanted script ≡ Some f → ⊥)
     → IsLateAt (after o now (event.Publish w f)) number × (m.installs ≡ true) × ((script : Script) (last : Option ℕ) → course_of now w ≡ on_course number script last → is_late script ≡ true)
 unfolding after
@@ -445,7 +445,7 @@ late_begins o now w f number m s owns is whose at other = by (course_of now w) r
         at_done None d some = absurd (false≢true some)
         at_done (Some rest) d some =
             let left = own_due m.installs script f rest (own m (subst (λ k. slice_get o.modules k ≡ Some m) (sym same) at)) (λ w. other script last (e ∙ ap (λ k. on_course k script last) same) w) d in
-            let low : w < length now.courses = let ways = s.fit.ways in omega (arith, is.0, ways) in (
+            let low : w < length now.courses = let rows = s.fit.courses in omega (arith, is.0, rows) in (
               inl (
                 w,
                 s.tied.busy w number whose,

@@ -22,7 +22,7 @@ use Rattle.run_law.proofs.Invariants.{is_quiet_end, outs}
 use Rattle.name_locks.specs.Locks.{below}
 use Rattle.build_core.specs.OneThread.{Supply, beginning, one_thread}
 use Rattle.event_core.specs.Outlines.{is_listed, module_outline, outline_of}
-use Rattle.event_core.specs.Runs.{IsComplete, answers_in, contents, now_after, outputs_from, outputs_in}
+use Rattle.event_core.specs.Runs.{IsComplete, answers_in, contents, outputs_from, outputs_in, standing_of_run}
 use Rattle.event_core.specs.SoundPlans.{IsSoundPlan}
 use Rattle.event_core.specs.Standing.{first_lost, progress_of}
 use Rattle.run_law.proofs.Betweens.{ended_alike, lies}
@@ -30,7 +30,7 @@ use Rattle.run_law.proofs.JudgedRuns.{IsFitPlan, behind_all, core_ends, isolatio
 use Rattle.run_law.proofs.Contents.{core, sound_owns}
 use Rattle.run_law.proofs.Fold.{IsSoFar, fold_judged, hand_judged, in_list}
 use Rattle.run_law.proofs.Kept.{outputs_are}
-use Rattle.event_core.proofs.Places.{length_below}
+use Rattle.event_core.proofs.ScriptPlaces.{length_below}
 use Rattle.run_law.proofs.Reruns.{ends_again, files_again}
 use Rattle.run_law.proofs.Sounds.{sound_fit}
 use Rattle.run_law.proofs.Stored.{get_in, get_map, length_map}
@@ -62,7 +62,7 @@ nth_below (suc n) i low = by (nth_below n i) (below_or i n (omega (arith, low)))
     by before (inr same) = get_or_push (below n) n 0 i (length_below n ∙ sym same) ∙ sym same
 
 module _ (plan : Plan) (supply : Supply) (fit : IsFitPlan plan) where
-  -- what holds behind all modules of the build by one hand
+  -- what holds behind all modules of the sequential build
   hand_far : IsSoFar plan supply fit.apart fit.low fit.backed plan.modules (one_thread plan supply)
   hand_far = fold_judged plan supply fit.apart fit.low fit.backed [] plan.modules (beginning supply) refl (record { states = refl; outputs = refl; answers = λ f fetch. refl; judged = λ k n here less. absurd (omega (arith, less)) })
 
@@ -98,8 +98,8 @@ outputs_all plan run outputs long each = ext_get_or [] (outputs_in plan run) out
 -- ---- the closed form
 
 -- a module that stands as one that ended has ended
-ended_state : (plan : Plan) (run : List RunEntry) (number : ℕ) (e : Ending) → state_after plan run number ≡ state.Ended e → progress_of (now_after plan run).progress number ≡ Ended e
-ended_state plan run number e is = by (progress_of (now_after plan run).progress number) refl
+ended_state : (plan : Plan) (run : List RunEntry) (number : ℕ) (e : Ending) → state_after plan run number ≡ state.Ended e → progress_of (standing_of_run plan run).progress number ≡ Ended e
+ended_state plan run number e is = by (progress_of (standing_of_run plan run).progress number) refl
   where
     ended : State → Option Ending
     ended (state.Ended x) = Some x
@@ -108,7 +108,7 @@ ended_state plan run number e is = by (progress_of (now_after plan run).progress
     none : (x : Ending) → ◌≡◌ {A = Option Ending} None (Some x) → ⊥
     none x e = false≢true (ap is_some e)
 
-    by : (p : Progress) → progress_of (now_after plan run).progress number ≡ p → progress_of (now_after plan run).progress number ≡ Ended e
+    by : (p : Progress) → progress_of (standing_of_run plan run).progress number ≡ p → progress_of (standing_of_run plan run).progress number ≡ Ended e
     by Waiting at = absurd (none e (sym (ap ended stands) ∙ ap ended is))
       where
         stands : state_after plan run number ≡ state.Waiting
@@ -119,14 +119,14 @@ ended_state plan run number e is = by (progress_of (now_after plan run).progress
         stands = rw at refl
     by Skipped at = absurd (none e (sym (ap ended stands) ∙ ap ended is))
       where
-        stands : state_after plan run number ≡ state.Skipped (unwrap_or (first_lost (outline_of plan) (now_after plan run).progress number) 0)
+        stands : state_after plan run number ≡ state.Skipped (unwrap_or (first_lost (outline_of plan) (standing_of_run plan run).progress number) 0)
         stands = rw at refl
     by (Ended x) at = at ∙ ap (λ o. Ended (unwrap_or o ending.Memory)) (sym (ap ended stands) ∙ ap ended is)
       where
         stands : state_after plan run number ≡ state.Ended x
         stands = rw at refl
 
--- the build by one hand is judged
+-- the sequential build is judged
 pub hand_is_judged : (plan : Plan) (supply : Supply) → IsSoundPlan plan → AreJudged plan supply (λ number. Unit {0}) (state_at (one_thread plan supply)) (outputs_at (one_thread plan supply))
 hand_is_judged plan supply sound = let fit = sound_fit plan sound in hand_judged plan supply fit.apart fit.low fit.backed
 
@@ -146,11 +146,11 @@ module _ (g : Given) (run : List RunEntry) (said : Answers) (whole : IsWhole g r
   fit : IsFitPlan g.plan
   fit = sound_fit g.plan whole.fitting.sound
 
-  -- each module ends and keeps as by one hand
+  -- each module ends and keeps as in the sequential build
   ends : (number : ℕ) (m : PlanModule) → slice_get g.plan.modules number ≡ Some m → (state_after g.plan run number ≡ state_at (sequential g said) number) × (outs g.plan (answers_in g.plan run) number ≡ outputs_at (sequential g said) number)
   ends = core_ends g.plan g.start g.remote fit whole.fitting.present (told g) (all_told g whole.fitting.tell) run whole.fitting.follows (fits_all g run whole.fitting) whole.complete whole.quiet said extends
 
-  -- each goal that the build by one hand comes to is answered in the run
+  -- each goal that the sequential build comes to is answered in the run
   pub answered : (number goal : ℕ) (m : PlanModule) (e : Ending) → slice_get g.plan.modules number ≡ Some m → state_at (sequential g said) number ≡ state.Ended e → goal < length m.goals → reaches e goal ≡ true → is_kept (answers_in g.plan run) number goal ≡ true
   answered number goal m e at is less reached =
       all_answered_in g.plan g.start (told g) run whole.fitting.follows (fits_all g run whole.fitting) number goal m e at (ended_state g.plan run number e ((ends number m at).0 ∙ is)) less reached
@@ -181,11 +181,11 @@ quiet_of (ending.Fault d) is = absurd (false≢true (sym is))
 quiet_of ending.Memory is = absurd (false≢true (sym is))
 
 -- a module that has ended stands so
-ended_is : (plan : Plan) (run : List RunEntry) (number : ℕ) (e : Ending) → progress_of (now_after plan run).progress number ≡ Ended e → state_after plan run number ≡ state.Ended e
+ended_is : (plan : Plan) (run : List RunEntry) (number : ℕ) (e : Ending) → progress_of (standing_of_run plan run).progress number ≡ Ended e → state_after plan run number ≡ state.Ended e
 ended_is plan run number e is = rw is refl
 
 -- an untouched module ended quietly
-untouched_quiet : (plan : Plan) (run : List RunEntry) {number : ℕ} → IsUntouched plan run number → (e : Ending) → progress_of (now_after plan run).progress number ≡ Ended e → is_quiet_end e ≡ true
+untouched_quiet : (plan : Plan) (run : List RunEntry) {number : ℕ} → IsUntouched plan run number → (e : Ending) → progress_of (standing_of_run plan run).progress number ≡ Ended e → is_quiet_end e ≡ true
 untouched_quiet plan run (untouched number not ups) e is = quiet_of e (ap is_fault (sym (ended_is plan run number e is)) ∙ not)
 
 -- its upstreams are untouched
@@ -194,13 +194,13 @@ untouched_up plan run u m at l (untouched number not ups) =
     ups u (ap (λ found. is_listed u (option_map_or (λ (x : ModuleOutline). x.upstream) found [])) (get_map module_outline plan.modules number m at) ∙ l)
 
 module _ (g : Given) (run : List RunEntry) (said : Answers) (fitting : IsFitting g run) (extends : Extends (answers_in g.plan run) said) where
-  -- so it ends and keeps as by one hand
+  -- so it ends and keeps as in the sequential build
   untouched_ends : IsComplete g.plan run → (number : ℕ) (m : PlanModule) → slice_get g.plan.modules number ≡ Some m → IsUntouched g.plan run number
       → (state_after g.plan run number ≡ state_at (sequential g said) number) × (outs g.plan (answers_in g.plan run) number ≡ outputs_at (sequential g said) number)
   untouched_ends complete = isolation g.plan g.start g.remote (sound_fit g.plan fitting.sound) fitting.present (told g) (all_told g fitting.tell) (IsUntouched g.plan run) run fitting.follows (fits_all g run fitting) complete said extends
       (λ number is. untouched_quiet g.plan run is) (λ number u m at l. untouched_up g.plan run u m at l)
 
-  -- so it stands as by one hand
+  -- so it stands as in the sequential build
   pub untouched_state : IsComplete g.plan run → (number : ℕ) → number < length g.plan.modules → IsUntouched g.plan run number → state_after g.plan run number ≡ state_at (sequential g said) number
   untouched_state complete number low is = let m = get_in g.plan.modules number low in (untouched_ends complete number m.0 m.1 is).0
 
@@ -219,7 +219,7 @@ module _ (g : Given) (run : List RunEntry) (said : Answers) (fitting : IsFitting
           (behind_all g.plan g.start g.remote fit fitting.present (told g) (all_told g fitting.tell) run fitting.follows (fits_all g run fitting)) complete said extends
           (all_answered_in g.plan g.start (told g) run fitting.follows (fits_all g run fitting)) number m at (λ e is. quiet_of e (ap is_fault (sym (ended_is g.plan run number e is)) ∙ not))
 
-  -- what has ended but not by a fault, in any fitting run, ended as by one hand
+  -- what has ended but not by a fault, in any fitting run, ended as in the sequential build
   ended_ends : (number : ℕ) (e : Ending) → number < length g.plan.modules → state_after g.plan run number ≡ state.Ended e → is_fault (state.Ended e) ≡ false
       → (state_after g.plan run number ≡ state_at (sequential g said) number) × (outs g.plan (answers_in g.plan run) number ≡ outputs_at (sequential g said) number)
   ended_ends number e low is not =
@@ -227,7 +227,7 @@ module _ (g : Given) (run : List RunEntry) (said : Answers) (fitting : IsFitting
       ended_alike g.plan g.start g.remote (sound_fit g.plan fitting.sound) fitting.present (sound_owns g.plan fitting.sound) (told g) (all_told g fitting.tell) run fitting.follows (fits_all g run fitting) said extends
       number m.0 e m.1 (ended_state g.plan run number e is) (quiet_of e not)
 
-  -- so it stands so by one hand
+  -- so it stands so in the sequential build
   pub ended_so : (number : ℕ) (e : Ending) → number < length g.plan.modules → state_after g.plan run number ≡ state.Ended e → is_fault (state.Ended e) ≡ false → state_at (sequential g said) number ≡ state.Ended e
   ended_so number e low is not = sym (ended_ends number e low is not).0 ∙ is
 

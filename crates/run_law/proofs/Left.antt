@@ -30,10 +30,10 @@ use Rattle.run_law.proofs.Invariants.{IsCourseFit, IsFetchFile, IsOwnFile, is_be
 use Rattle.run_law.specs.Given.{IsPresent}
 use Rattle.build_core.specs.OneThread.{Supply, answer_at, is_built, lacks_artifact, most_classpath, name_of, own_bytes}
 use Rattle.event_core.specs.Outlines.{is_listed, module_outline, outline_of}
-use Rattle.event_core.specs.Runs.{IsComplete, IsQuiet, IsRunOf, answers_in, contents, events_of, goals_in, kept_by, now_after, put_carried}
+use Rattle.event_core.specs.Runs.{IsComplete, IsQuiet, IsRunOf, answers_in, contents, events_of, goals_in, kept_by, put_carried, standing_of_run}
 use Rattle.event_core.specs.Scripts.{Script, is_there, wanted}
 use Rattle.build_core.specs.Slots.{GoalsEnd, all_answered, goal_failed, kept_of, output_too_large, run_goals}
-use Rattle.event_core.specs.Standing.{Now, after, course_of, ended, is_done, is_over, module_of, now_of, on_course, progress_of, state_of}
+use Rattle.event_core.specs.Standing.{Standing, after, course_of, ended, is_done, is_over, module_of, on_course, progress_of, standing_of, state_of}
 use Rattle.event_core.specs.Worlds as worlds
 use Rattle.event_core.specs.Worlds.{AllFit, Fits, FitsEnd, HandTold, stood}
 use Rattle.run_law.proofs.Carried.{at_insert}
@@ -123,16 +123,16 @@ module _ (plan : Plan) (start remote : Files) (fit : IsFitPlan plan) (present : 
   IsBehind past = Behind plan start remote fit.apart present fit.backed past
 
   -- a module that was built and installs has all its files published
-  abbrev AreInstalled : Now → List Answered → (ℕ → Bool) → Type 0
+  abbrev AreInstalled : Standing → List Answered → (ℕ → Bool) → Type 0
   AreInstalled now kept done = (number : ℕ) (m : PlanModule) → slice_get plan.modules number ≡ Some m → progress_of now.progress number ≡ Ended ending.Built → (not m.installs || all_put m (outs plan kept number) done m.own) ≡ true
 
   -- a file that is neither fetched nor installed stays
   abbrev pub AreNeither : Files → Type 0
   AreNeither files = (f : ℕ) → f < length plan.files → (IsFetchFile plan f → ⊥) → (IsOwnFile plan f → ⊥) → file_at files (name_of plan f) ≡ file_at start (name_of plan f)
 
-  module _ (past : List RunEntry) (behind : IsBehind past) (installed : AreInstalled (now_after plan past) (answers_in plan past) (published past)) (neither : AreNeither (contents plan start past)) where
-    abbrev now : Now
-    now = now_after plan past
+  module _ (past : List RunEntry) (behind : IsBehind past) (installed : AreInstalled (standing_of_run plan past) (answers_in plan past) (published past)) (neither : AreNeither (contents plan start past)) where
+    abbrev now : Standing
+    now = standing_of_run plan past
 
     abbrev files : Files
     files = contents plan start past
@@ -248,18 +248,18 @@ module _ (plan : Plan) (start remote : Files) (fit : IsFitPlan plan) (present : 
             by (inr x) = unowned (subst (IsOwnFile plan) (sym same) x)
 
   abbrev pub IsAll : List RunEntry → Type 0
-  IsAll past = IsBehind past × AreInstalled (now_after plan past) (answers_in plan past) (published past) × AreNeither (contents plan start past)
+  IsAll past = IsBehind past × AreInstalled (standing_of_run plan past) (answers_in plan past) (published past) × AreNeither (contents plan start past)
 
   -- so behind one entry more
   all_more : (past : List RunEntry) (e : RunEntry) → IsAll past → Enabled o (events_of past) e.event → Fits plan (Some start) hands past e → IsAll (past ++ e ∷ [])
   unfolding Enabled
   all_more past e holds is fits =
-      let next : now_after plan (past ++ e ∷ []) ≡ after o (now_after plan past) e.event = ap (now_of o) (events_more past e) ∙ one_more o (events_of past) e.event in
+      let next : standing_of_run plan (past ++ e ∷ []) ≡ after o (standing_of_run plan past) e.event = ap (standing_of o) (events_more past e) ∙ one_more o (events_of past) e.event in
       let files : contents plan start (past ++ e ∷ []) ≡ put_carried plan (contents plan start past) e.event e.carried = fold_more (λ files (x : RunEntry). put_carried plan files x.event x.carried) past start e in (
         behind_more plan start remote fit present hands tell past e holds.0 is fits,
         subst (λ now. AreInstalled now (answers_in plan (past ++ e ∷ [])) (published (past ++ e ∷ []))) (sym next)
-            (subst (λ kept. AreInstalled (after o (now_after plan past) e.event) kept (published (past ++ e ∷ []))) (sym (answers_more plan past e))
-            (subst (AreInstalled (after o (now_after plan past) e.event) (answers_in plan past ++ kept_by plan past e.event e.carried)) (λ i f. sym (published_more past e f) i) (installed_after past holds.0 holds.1 holds.2 e.event e.carried is fits))),
+            (subst (λ kept. AreInstalled (after o (standing_of_run plan past) e.event) kept (published (past ++ e ∷ []))) (sym (answers_more plan past e))
+            (subst (AreInstalled (after o (standing_of_run plan past) e.event) (answers_in plan past ++ kept_by plan past e.event e.carried)) (λ i f. sym (published_more past e f) i) (installed_after past holds.0 holds.1 holds.2 e.event e.carried is fits))),
         subst AreNeither (sym files) (neither_after past holds.0 holds.1 holds.2 e.event e.carried is),
       )
 
@@ -268,8 +268,8 @@ module _ (plan : Plan) (start remote : Files) (fit : IsFitPlan plan) (present : 
   installed_all entries run fits = by_entries plan start hands IsAll all_more [] entries (behind_first plan start remote fit present hands tell, (λ number m at built. absurd (waits_on (length o.modules) number ending.Built built)), (λ f low unfetched unowned. refl)) run fits
 
   module _ (entries : List RunEntry) (run : IsRunOf plan entries) (fits : AllFit plan (Some start) hands [] entries) (complete : IsComplete plan entries) (quiet : IsQuiet entries) where
-    abbrev last : Now
-    last = now_after plan entries
+    abbrev last : Standing
+    last = standing_of_run plan entries
 
     abbrev kept : List Answered
     kept = answers_in plan entries
@@ -278,7 +278,7 @@ module _ (plan : Plan) (start remote : Files) (fit : IsFitPlan plan) (present : 
     final = contents plan start entries
 
     abbrev stands : ℕ → State
-    stands number = state_of o (now_after plan entries).progress number
+    stands number = state_of o (standing_of_run plan entries).progress number
 
     -- what holds behind the run
     all : IsAll entries
@@ -380,7 +380,7 @@ module _ (plan : Plan) (start remote : Files) (fit : IsFitPlan plan) (present : 
         by false not_done = so.fresh f (number, m, at, mine) not_done ∙ sym (none (is_built (stands number) && m.installs) refl not_done)
 
     -- the contents of a run
-    pub left_so : IsLeft plan (supply_of start remote kept) (λ number. state_of o (now_after plan entries).progress number) (outs plan kept) (contents plan start entries)
+    pub left_so : IsLeft plan (supply_of start remote kept) (λ number. state_of o (standing_of_run plan entries).progress number) (outs plan kept) (contents plan start entries)
     left_so =
         let fetched = (fetched_so plan start remote fit present hands tell entries run fits).1 in
         record {

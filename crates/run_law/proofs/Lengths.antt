@@ -23,11 +23,11 @@ use Rattle.event_core.specs.Outlines.{files_of, files_read, is_listed, module_ou
 use Rattle.event_core.specs.Runs.{IsRunOf, events_of}
 use Rattle.event_core.specs.Scripts.{Script, Step, answers, choice_script, fetches, frees, install_script, may_publish, own_script, read_script, reads, release_script, step, steps, takes, whole}
 use Rattle.event_core.specs.SoundPlans.{IsSoundPlan, IsSoundPlanModule, greatest_events, is_backed}
-use Rattle.event_core.specs.Standing.{now_of}
+use Rattle.event_core.specs.Standing.{standing_of}
 use Rattle.event_core.proofs.Climbs.{but_shorter, listed_but, listed_last, listed_more}
 use Rattle.event_core.proofs.Fits.{fewer_after, fit_after, fit_first, most_first, one_more, same_or_not}
 use Rattle.run_law.proofs.Once.{both, listed_first, listed_later}
-use Rattle.event_core.proofs.Places.{length_below}
+use Rattle.event_core.proofs.ScriptPlaces.{length_below}
 
 -- there is an event for each entry
 events_long : (entries : List RunEntry) → length (events_of entries) ≡ length entries
@@ -40,18 +40,18 @@ longer [] n = refl
 longer (x ∷ xs) n = ap suc (longer xs n)
 
 -- what a run has left, with its length, was left at its beginning
-more_left : (o : Outline) (past events : List Event) → IsFit o (now_of o past) → IsRun o past events → length events + events_left o (now_of o (past ++ events)) ≤ events_left o (now_of o past)
+more_left : (o : Outline) (past events : List Event) → IsFit o (standing_of o past) → IsRun o past events → length events + events_left o (standing_of o (past ++ events)) ≤ events_left o (standing_of o past)
 unfolding Enabled
-more_left o past [] fit run = let same = ap (λ es. events_left o (now_of o es)) (append-nil past) in omega (arith, same)
+more_left o past [] fit run = let same = ap (λ es. events_left o (standing_of o es)) (append-nil past) in omega (arith, same)
 more_left o past (e ∷ events) fit run =
-    let fewer = fewer_after o (now_of o past) e fit run.0 in
-    let rest = more_left o (past ++ e ∷ []) events (subst (IsFit o) (sym (one_more o past e)) (fit_after o (now_of o past) e fit run.0)) run.1 in
+    let fewer = fewer_after o (standing_of o past) e fit run.0 in
+    let rest = more_left o (past ++ e ∷ []) events (subst (IsFit o) (sym (one_more o past e)) (fit_after o (standing_of o past) e fit run.0)) run.1 in
     let here = ap (events_left o) (one_more o past e) in
-    let same = ap (λ es. events_left o (now_of o es)) (append_assoc past (e ∷ []) events) in
+    let same = ap (λ es. events_left o (standing_of o es)) (append_assoc past (e ∷ []) events) in
     omega (arith, fewer, rest, here, same)
 
 -- what is left behind a run, with its length, is at most what was left at first
-pub run_left : (o : Outline) (events : List Event) → IsRun o [] events → length events + events_left o (now_of o events) ≤ most_events o
+pub run_left : (o : Outline) (events : List Event) → IsRun o [] events → length events + events_left o (standing_of o events) ≤ most_events o
 run_left o events run = let all = more_left o [] events (fit_first o) run in let first = most_first o in omega (arith, all, first)
 
 -- so a run is no longer than an outline's most events

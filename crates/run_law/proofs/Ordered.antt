@@ -9,7 +9,7 @@ use Rattle.event_core.specs.declared.progress.Progress.{Progress}
 use Rattle.event_core.specs.declared.progress.Progress.TheVariants.{Waiting, Running, Skipped, Ended}
 use Rattle.event_core.specs.Enabled.{IsEnabled}
 use Rattle.run_law.proofs.Invariants.{is_begun}
-use Rattle.event_core.specs.Standing.{Now, after, at_first, course_of, ended, first_lost, first_not_built, is_done, is_lost, is_over, is_waiting, module_of, progress_of, upstream_of}
+use Rattle.event_core.specs.Standing.{Standing, after, at_first, course_of, ended, first_lost, first_not_built, is_done, is_lost, is_over, is_waiting, module_of, progress_of, upstream_of}
 use Rattle.run_law.proofs.Complete.{IsStanding}
 use Rattle.event_core.proofs.Fits.{same_or_not}
 use Rattle.event_core.proofs.Ties.{waits_still}
@@ -20,7 +20,7 @@ abbrev pub is_skipped : Progress → Bool
 is_skipped Skipped = true
 is_skipped other = false
 
-pub record IsOrdered (o : Outline) (now : Now) : Type 0 where
+pub record IsOrdered (o : Outline) (now : Standing) : Type 0 where
   pub begun : (m : ℕ) → is_begun (progress_of now.progress m) ≡ true → first_not_built o now.progress m ≡ None
   pub skipped : (m : ℕ) → is_skipped (progress_of now.progress m) ≡ true → is_some (first_lost o now.progress m) ≡ true
 
@@ -39,7 +39,7 @@ set_over ps m p not u over = by (same_or_not u m)
     by (inr other) = get_or-set_other ps m u p Waiting other
 
 -- what is over stays behind each event
-pub over_stays : (o : Outline) (now : Now) (e : Event) → IsStanding o now → IsEnabled o now e → (u : ℕ) → is_over (progress_of now.progress u) ≡ true → progress_of (after o now e).progress u ≡ progress_of now.progress u
+pub over_stays : (o : Outline) (now : Standing) (e : Event) → IsStanding o now → IsEnabled o now e → (u : ℕ) → is_over (progress_of now.progress u) ≡ true → progress_of (after o now e).progress u ≡ progress_of now.progress u
 unfolding after
 over_stays o now (event.Start w m) s is u over = set_over now.progress m (Running w) (waits_not (progress_of now.progress m) is.2) u over
 over_stays o now (event.Skip m) s is u over = set_over now.progress m Skipped (waits_not (progress_of now.progress m) is.1) u over
@@ -101,7 +101,7 @@ module _ (o : Outline) (ps qs : List Progress) (stays : (u : ℕ) → is_over (p
   still_lost m some = find_some (λ u. is_lost (progress_of ps u)) (λ u. is_lost (progress_of qs u)) (λ u e. ap is_lost (stays u (lost_over (progress_of ps u) e)) ∙ e) (upstream_of o m) some
 
 -- a progress that changes at one place
-module _ (o : Outline) (now : Now) (m : ℕ) (p : Progress) (ordered : IsOrdered o now)
+module _ (o : Outline) (now : Standing) (m : ℕ) (p : Progress) (ordered : IsOrdered o now)
     (stays : (u : ℕ) → is_over (progress_of now.progress u) ≡ true → progress_of (set now.progress m p) u ≡ progress_of now.progress u)
     (begun : is_begun p ≡ true → first_not_built o now.progress m ≡ None) (skipped : is_skipped p ≡ true → is_some (first_lost o now.progress m) ≡ true) where
   -- a module's progress is as before or the new one
@@ -136,7 +136,7 @@ module _ (o : Outline) (now : Now) (m : ℕ) (p : Progress) (ordered : IsOrdered
       by (inr e) = still_lost o now.progress (set now.progress m p) stays u (subst (λ k. is_some (first_lost o now.progress k) ≡ true) (sym e.0) (skipped (sym (ap is_skipped e.1) ∙ is)))
 
 -- so it stays behind each event
-pub ordered_after : (o : Outline) (now : Now) (e : Event) → IsStanding o now → IsOrdered o now → IsEnabled o now e → IsOrdered o (after o now e)
+pub ordered_after : (o : Outline) (now : Standing) (e : Event) → IsStanding o now → IsOrdered o now → IsEnabled o now e → IsOrdered o (after o now e)
 unfolding after
 ordered_after o now (event.Start w m) s ordered is =
     let stays = set_over now.progress m (Running w) (waits_not (progress_of now.progress m) is.2) in

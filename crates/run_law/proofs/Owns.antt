@@ -25,9 +25,9 @@ use Rattle.run_law.proofs.Invariants.{IsCourseFit, IsGathering, files_fit, is_be
 use Rattle.run_law.specs.Given.{IsPresent, is_answer, is_kept}
 use Rattle.build_core.specs.OneThread.{Supply, answer_at, lacks_artifact, most_classpath, name_of}
 use Rattle.event_core.specs.Outlines.{is_listed, module_outline, outline_of}
-use Rattle.event_core.specs.Runs.{IsRunOf, answers_in, contents, events_of, kept_by, now_after, put_carried}
+use Rattle.event_core.specs.Runs.{IsRunOf, answers_in, contents, events_of, kept_by, put_carried, standing_of_run}
 use Rattle.event_core.specs.Scripts.{Script, absent, answers, fetches, frees, may_publish, publishes, reads, step, takes, wanted, whole}
-use Rattle.event_core.specs.Standing.{Now, after, course_of, is_over, module_of, now_of, on_course, progress_of}
+use Rattle.event_core.specs.Standing.{Standing, after, course_of, is_over, module_of, on_course, progress_of, standing_of}
 use Rattle.event_core.specs.Worlds as worlds
 use Rattle.event_core.specs.Worlds.{AllFit, Fits, FitsBehind, FitsBytes, HandTold, is_answered, is_good, stood}
 use Rattle.run_law.proofs.Carried.{at_insert, name_itself}
@@ -76,7 +76,7 @@ wanted_fetch fetch own (step stage (reads g) rest) f fits is = absurd (nothing_i
 wanted_fetch fetch own (step stage (answers g) rest) f fits is = absurd (nothing_is f is)
 
 -- a late module has begun
-pub late_begun : (now : Now) (number : ℕ) → IsLateAt now number → is_begun (progress_of now.progress number) ≡ true
+pub late_begun : (now : Standing) (number : ℕ) → IsLateAt now number → is_begun (progress_of now.progress number) ≡ true
 late_begun now number (inl a) = ap is_begun a.1
 late_begun now number (inr b) = ap is_begun b.1
 
@@ -114,16 +114,16 @@ module _ (plan : Plan) (start remote : Files) (fit : IsFitPlan plan) (present : 
   abbrev IsBehind : List RunEntry → Type 0
   IsBehind past = Behind plan start remote fit.apart present fit.backed past
 
-  abbrev Fact : Now → Files → List Answered → ℕ → ℕ → PlanModule → Bool → Type 0
+  abbrev Fact : Standing → Files → List Answered → ℕ → ℕ → PlanModule → Bool → Type 0
   Fact now files kept number f m true = IsLateAt now number × (m.installs ≡ true) × (nat_lt most_classpath (total_len plan base (outs plan kept) m.entries) ≡ false) × (file_at files (name_of plan f) ≡ own_at m (outs plan kept number) f) × (is_some (file_at files (name_of plan f)) ≡ true) × IsSettled plan base kept number m
   Fact now files kept number f m false = file_at files (name_of plan f) ≡ file_at start (name_of plan f)
 
-  abbrev AreFacts : Now → Files → List Answered → (ℕ → Bool) → Type 0
+  abbrev AreFacts : Standing → Files → List Answered → (ℕ → Bool) → Type 0
   AreFacts now files kept done = (number f : ℕ) (m : PlanModule) → slice_get plan.modules number ≡ Some m → is_listed f (map (λ (x : OwnFile). x.file) m.own) ≡ true → Fact now files kept number f m (done f)
 
-  module _ (past : List RunEntry) (behind : IsBehind past) (lates : AreOwnsLate o (now_after plan past)) (paid : ArePaid o (is_kept (answers_in plan past)) (now_after plan past)) (facts : AreFacts (now_after plan past) (contents plan start past) (answers_in plan past) (published past)) where
-    abbrev now : Now
-    now = now_after plan past
+  module _ (past : List RunEntry) (behind : IsBehind past) (lates : AreOwnsLate o (standing_of_run plan past)) (paid : ArePaid o (is_kept (answers_in plan past)) (standing_of_run plan past)) (facts : AreFacts (standing_of_run plan past) (contents plan start past) (answers_in plan past) (published past)) where
+    abbrev now : Standing
+    now = standing_of_run plan past
 
     abbrev files : Files
     files = contents plan start past
@@ -278,23 +278,23 @@ module _ (plan : Plan) (start remote : Files) (fit : IsFitPlan plan) (present : 
         subst (After (event.Publish w f)) (sym b.1) (published_one w f b.0 is (subst (λ c. Fits plan (Some start) hands past (record { event = event.Publish w f; carried = c })) b.1 fits))
 
   abbrev IsAll : List RunEntry → Type 0
-  IsAll past = IsBehind past × AreOwnsLate o (now_after plan past) × ArePaid o (is_kept (answers_in plan past)) (now_after plan past) × AreFacts (now_after plan past) (contents plan start past) (answers_in plan past) (published past)
+  IsAll past = IsBehind past × AreOwnsLate o (standing_of_run plan past) × ArePaid o (is_kept (answers_in plan past)) (standing_of_run plan past) × AreFacts (standing_of_run plan past) (contents plan start past) (answers_in plan past) (published past)
 
   -- so behind one entry more
   all_more : (past : List RunEntry) (e : RunEntry) → IsAll past → Enabled o (events_of past) e.event → Fits plan (Some start) hands past e → IsAll (past ++ e ∷ [])
   unfolding Enabled
   all_more past e holds is fits =
-      let next : now_after plan (past ++ e ∷ []) ≡ after o (now_after plan past) e.event = ap (now_of o) (events_more past e) ∙ one_more o (events_of past) e.event in
+      let next : standing_of_run plan (past ++ e ∷ []) ≡ after o (standing_of_run plan past) e.event = ap (standing_of o) (events_more past e) ∙ one_more o (events_of past) e.event in
       let files : contents plan start (past ++ e ∷ []) ≡ put_carried plan (contents plan start past) e.event e.carried = fold_more (λ files (x : RunEntry). put_carried plan files x.event x.carried) past start e in
       let facts = facts_after past holds.0 holds.1 holds.2 holds.3 e.event e.carried is fits in (
         behind_more plan start remote fit present hands tell past e holds.0 is fits,
-        subst (AreOwnsLate o) (sym next) (owns_after o (now_after plan past) e.event holds.1),
+        subst (AreOwnsLate o) (sym next) (owns_after o (standing_of_run plan past) e.event holds.1),
         step_paid plan start hands past e holds.2 is fits,
         λ number f m at mine.
             subst (λ now. Fact now (contents plan start (past ++ e ∷ [])) (answers_in plan (past ++ e ∷ [])) number f m (published (past ++ e ∷ []) f)) (sym next)
-            (subst (λ files. Fact (after o (now_after plan past) e.event) files (answers_in plan (past ++ e ∷ [])) number f m (published (past ++ e ∷ []) f)) (sym files)
-            (subst (λ kept. Fact (after o (now_after plan past) e.event) (put_carried plan (contents plan start past) e.event e.carried) kept number f m (published (past ++ e ∷ []) f)) (sym (answers_more plan past e))
-            (subst (Fact (after o (now_after plan past) e.event) (put_carried plan (contents plan start past) e.event e.carried) (answers_in plan past ++ kept_by plan past e.event e.carried) number f m) (sym (published_more past e f)) (facts number f m at mine)))),
+            (subst (λ files. Fact (after o (standing_of_run plan past) e.event) files (answers_in plan (past ++ e ∷ [])) number f m (published (past ++ e ∷ []) f)) (sym files)
+            (subst (λ kept. Fact (after o (standing_of_run plan past) e.event) (put_carried plan (contents plan start past) e.event e.carried) kept number f m (published (past ++ e ∷ []) f)) (sym (answers_more plan past e))
+            (subst (Fact (after o (standing_of_run plan past) e.event) (put_carried plan (contents plan start past) e.event e.carried) (answers_in plan past ++ kept_by plan past e.event e.carried) number f m) (sym (published_more past e f)) (facts number f m at mine)))),
       )
 
   -- so behind every fitting run
@@ -305,12 +305,12 @@ module _ (plan : Plan) (start remote : Files) (fit : IsFitPlan plan) (present : 
   pub own_so : (entries : List RunEntry) → IsRunOf plan entries → AllFit plan (Some start) hands [] entries → IsOwnSo plan start remote entries
   own_so entries run fits =
       let all = (own_facts entries run fits).3 in
-      let yes : (number f : ℕ) (m : PlanModule) → slice_get plan.modules number ≡ Some m → is_listed f (map (λ (x : OwnFile). x.file) m.own) ≡ true → published entries f ≡ true → Fact (now_after plan entries) (contents plan start entries) (answers_in plan entries) number f m true =
-      λ number f m at mine done. subst (Fact (now_after plan entries) (contents plan start entries) (answers_in plan entries) number f m) done (all number f m at mine) in
+      let yes : (number f : ℕ) (m : PlanModule) → slice_get plan.modules number ≡ Some m → is_listed f (map (λ (x : OwnFile). x.file) m.own) ≡ true → published entries f ≡ true → Fact (standing_of_run plan entries) (contents plan start entries) (answers_in plan entries) number f m true =
+      λ number f m at mine done. subst (Fact (standing_of_run plan entries) (contents plan start entries) (answers_in plan entries) number f m) done (all number f m at mine) in
       record {
         settled = λ number f m at mine done. (yes number f m at mine done).5;
         late = λ number f m at mine done. let y = yes number f m at mine done in (y.0, y.1);
         within = λ number f m at mine done. (yes number f m at mine done).2;
         bytes = λ number f m at mine done. let y = yes number f m at mine done in (y.3, y.4);
-        fresh = λ f own not. subst (Fact (now_after plan entries) (contents plan start entries) (answers_in plan entries) own.0 f own.1) not (all own.0 f own.1 own.2 own.3);
+        fresh = λ f own not. subst (Fact (standing_of_run plan entries) (contents plan start entries) (answers_in plan entries) own.0 f own.1) not (all own.0 f own.1 own.2 own.3);
       }

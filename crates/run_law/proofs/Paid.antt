@@ -15,7 +15,7 @@ use Rattle.event_core.specs.declared.progress.Progress.TheVariants.{Waiting, Run
 use Rattle.event_core.specs.Climbing.{but}
 use Rattle.event_core.specs.Enabled.{IsEnabled, may_end_so, needs_artifact, off_ends, on_ends}
 use Rattle.event_core.specs.Scripts.{Script, absent, done, is_gathered, is_to_install, may_end, script_of, settled, step, wanted, whole}
-use Rattle.event_core.specs.Standing.{Course, Now, after, after_deed, after_free, at_first, course_of, ended, goals_of, held_by, idle, is_empty, module_of, off_course, on_course, progress_of, start_of}
+use Rattle.event_core.specs.Standing.{Course, Standing, after, after_deed, after_free, at_first, course_of, ended, goals_of, held_by, idle, is_empty, module_of, off_course, on_course, progress_of, start_of}
 use Rattle.run_law.proofs.Courses.{at_place}
 use Rattle.run_law.proofs.Ended.{set_cases, this_is}
 use Rattle.run_law.proofs.Once.{both}
@@ -30,7 +30,7 @@ IsPaid o K (off_course number file gathered) = Unit {0}
 IsPaid o K (on_course number script last) = (m : ModuleOutline) → slice_get o.modules number ≡ Some m
     → IsRising script × ((g : ℕ) → g < m.goals → owes g script ≡ false → K number g ≡ true) × ((i h : ℕ) → last ≡ Some i → h ≤ i → owes h script ≡ false)
 
-pub record ArePaid (o : Outline) (K : ℕ → ℕ → Bool) (now : Now) : Type 0 where
+pub record ArePaid (o : Outline) (K : ℕ → ℕ → Bool) (now : Standing) : Type 0 where
   pub courses : (w : ℕ) → IsPaid o K (course_of now w)
   pub over : (number : ℕ) (m : ModuleOutline) (e : Ending) → slice_get o.modules number ≡ Some m → progress_of now.progress number ≡ Ended e → (g : ℕ) → g < m.goals → reaches e g ≡ true → K number g ≡ true
 
@@ -151,7 +151,7 @@ module _ (o : Outline) (K K' : ℕ → ℕ → Bool) (grows : (number g : ℕ) �
       by (inl same) = sym same ∙ is
       by (inr x) = absurd (false≢true (sym not ∙ sym (ap is_ended x.1) ∙ ap is_ended is))
 
-  module _ (now : Now) (p : ArePaid o K now) where
+  module _ (now : Standing) (p : ArePaid o K now) where
     -- of a module that is over too, as answers come
     over_grow : (number : ℕ) (m : ModuleOutline) (e : Ending) → slice_get o.modules number ≡ Some m → progress_of now.progress number ≡ Ended e → (g : ℕ) → g < m.goals → reaches e g ≡ true → K' number g ≡ true
     over_grow number m e at is g less for = grows number g (p.over number m e at is g less for)

@@ -1,4 +1,4 @@
--- The law's premises hold together on the sample plan, and its run ends as by one hand; so does what a fault didn't touch.
+-- The law's premises hold together on the sample plan, and its run ends as in the sequential build; so does what a fault didn't touch.
 use Rattle.std.proofs.Common.{◌≡◌, ℕ, zero, suc, Bool, true, false, nat_eq, ◌||◌, List, [], ◌∷◌, Some, None, is_some, refl, arith, sym, ap, subst, ◌∙◌}
 use Rattle.std.proofs.lemmas.Bool.{eqb-true, false≢true}
 use Rattle.mvn_shared.specs.Files.{Files, file_at}
@@ -71,16 +71,16 @@ module _ (start remote : Files) (none : (q : List ℕ) → file_at start q ≡ N
     quiet = whole_quiet;
   }
 
-  -- so one hand builds all three
+  -- so the sequential build builds all three
   all_built : (sequential given (answer_at (answers_in (plan false 100) whole))).states ≡ Ended ending.Built ∷ Ended ending.Built ∷ Ended ending.Built ∷ []
   unfolding after
   all_built = sym (same_states given whole (answer_at (answers_in (plan false 100) whole)) sample (extends_itself (answers_in (plan false 100) whole)))
 
-  -- the run with the fault fits, and the third ends in it as by one hand
+  -- the run with the fault fits, and the third ends in it as in the sequential build
   faulty_fitting : IsFitting given faulty
   faulty_fitting = record { sound = sound false 100; present = present; tell = λ w low. (refl, refl); follows = faulty_runs; fits = faulty_fits start remote (none (65 ∷ [])) here }
 
-  -- so the third is built by one hand too
+  -- so the third is built in the sequential build too
   third_built : state_at (sequential given (answer_at (answers_in (plan false 100) faulty))) 2 ≡ Ended ending.Built
   unfolding after
   third_built = sym (untouched_state given faulty (answer_at (answers_in (plan false 100) faulty)) faulty_fitting (extends_itself (answers_in (plan false 100) faulty)) faulty_ends 2 (omega arith) third_untouched)

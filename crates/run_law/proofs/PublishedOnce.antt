@@ -23,7 +23,7 @@ use Rattle.event_core.specs.Outlines.{is_listed, module_outline, outline_of}
 use Rattle.event_core.specs.Runs.{IsRunOf, events_of}
 use Rattle.event_core.specs.Scripts.{Script, done, is_gathered, is_there, script_of, settled, wanted, whole}
 use Rattle.event_core.specs.SoundPlans.{IsSoundPlan, is_own}
-use Rattle.event_core.specs.Standing.{Course, Now, after, after_deed, after_free, at_first, course_of, ended, goals_of, held_by, idle, is_empty, is_waiting, module_of, now_of, off_course, on_course, progress_of, start_of}
+use Rattle.event_core.specs.Standing.{Course, Standing, after, after_deed, after_free, at_first, course_of, ended, goals_of, held_by, idle, is_empty, is_waiting, module_of, off_course, on_course, progress_of, standing_of, start_of}
 use Rattle.event_core.specs.Worlds.{publishes}
 use Rattle.run_law.proofs.Absent.{IsAbsentAt, Stands, found, stands, stands_after, stands_first}
 use Rattle.run_law.proofs.Courses.{at_place, due_file, there_grows}
@@ -104,14 +104,14 @@ module _ (plan : Plan) (sound : IsSoundPlan plan) where
   abbrev o : Outline
   o = outline_of plan
 
-  record AreNew (P : ℕ → Bool) (now : Now) : Type 0 where
+  record AreNew (P : ℕ → Bool) (now : Standing) : Type 0 where
     sized : length now.there ≡ length o.present
     there : (f : ℕ) → P f ≡ true → is_there now.there f ≡ true
     waits : (number f : ℕ) (m : PlanModule) → slice_get plan.modules number ≡ Some m → is_waiting (progress_of now.progress number) ≡ true → is_own f m ≡ true → P f ≡ false
     courses : (w : ℕ) → IsNew P (course_of now w)
 
   -- so does all of it
-  same_new : (P P' : ℕ → Bool) (now : Now) → ((f : ℕ) → P' f ≡ P f) → AreNew P now → AreNew P' now
+  same_new : (P P' : ℕ → Bool) (now : Standing) → ((f : ℕ) → P' f ≡ P f) → AreNew P now → AreNew P' now
   same_new P P' now same u = record {
     sized = u.sized;
     there = λ f p. u.there f (sym (same f) ∙ p);
@@ -127,7 +127,7 @@ module _ (plan : Plan) (sound : IsSoundPlan plan) where
       by (inl e) = sym (ap is_waiting e) ∙ waits
       by (inr e) = absurd (false≢true (sym not ∙ sym (ap is_waiting e.1) ∙ waits))
 
-  module _ (P : ℕ → Bool) (now : Now) (s : Stands plan sound now) (u : AreNew P now) where
+  module _ (P : ℕ → Bool) (now : Standing) (s : Stands plan sound now) (u : AreNew P now) where
     -- a course that begins is new
     begin_new : (w m : ℕ) → IsEnabled o now (event.Start w m) → IsNew P (on_course m (settled now.there (is_empty (held_by now w)) (start_of o m)) None)
     begin_new w m is =
@@ -230,7 +230,7 @@ module _ (plan : Plan) (sound : IsSoundPlan plan) where
           now_is = after_deed (set now.there g true) (held_by now w) (deed.Publish g) None (course_of now w)
 
           course : (v : ℕ) → (v ≡ w) ⊎ ((v ≡ w) → ⊥) → IsNew P' (get_or (set now.courses w now_is) v idle)
-          course v (inl e) = subst (λ k. IsNew P' (get_or (set now.courses w now_is) k idle)) (sym e) (subst (IsNew P') (sym (get_or-set_same now.courses w now_is idle (omega (arith, is.0, s.standing.fit.ways)))) (turned [] []))
+          course v (inl e) = subst (λ k. IsNew P' (get_or (set now.courses w now_is) k idle)) (sym e) (subst (IsNew P') (sym (get_or-set_same now.courses w now_is idle (omega (arith, is.0, s.standing.fit.courses)))) (turned [] []))
           course v (inr other) = subst (IsNew P') (sym (get_or-set_other now.courses w v now_is idle other)) (others v other (course_of now v) refl (u.courses v))
 
       -- and wasn't yet
@@ -267,31 +267,31 @@ module _ (plan : Plan) (sound : IsSoundPlan plan) where
     quiet (event.End w e) is other = record { sized = u.sized; there = u.there; waits = λ number f x at waits own. u.waits number f x at (ended_new w e number waits) own; courses = at_place (IsNew P) now.courses w idle idle tt u.courses }
 
   -- so behind each event
-  new_after : (past : List Event) (e : Event) → Stands plan sound (now_of o past) → AreNew (is_put past) (now_of o past) → IsEnabled o (now_of o past) e → AreNew (is_put (past ++ e ∷ [])) (after o (now_of o past) e)
-  new_after past (event.Publish w g) s u is = publish_new (is_put past) (now_of o past) s u w g is (is_put (past ++ event.Publish w g ∷ [])) (put_more past (event.Publish w g))
-  new_after past (event.Start w m) s u is = same_new (is_put past) (is_put (past ++ event.Start w m ∷ [])) (after o (now_of o past) (event.Start w m)) (λ f. put_more past (event.Start w m) f ∙ or_false (is_put past f)) (quiet (is_put past) (now_of o past) s u (event.Start w m) is (λ v f e. false≢true (ap is_publish e)))
-  new_after past (event.Skip m) s u is = same_new (is_put past) (is_put (past ++ event.Skip m ∷ [])) (after o (now_of o past) (event.Skip m)) (λ f. put_more past (event.Skip m) f ∙ or_false (is_put past f)) (quiet (is_put past) (now_of o past) s u (event.Skip m) is (λ v f e. false≢true (ap is_publish e)))
-  new_after past (event.Take w n mode) s u is = same_new (is_put past) (is_put (past ++ event.Take w n mode ∷ [])) (after o (now_of o past) (event.Take w n mode)) (λ f. put_more past (event.Take w n mode) f ∙ or_false (is_put past f)) (quiet (is_put past) (now_of o past) s u (event.Take w n mode) is (λ v f e. false≢true (ap is_publish e)))
-  new_after past (event.Free w n) s u is = same_new (is_put past) (is_put (past ++ event.Free w n ∷ [])) (after o (now_of o past) (event.Free w n)) (λ f. put_more past (event.Free w n) f ∙ or_false (is_put past f)) (quiet (is_put past) (now_of o past) s u (event.Free w n) is (λ v f e. false≢true (ap is_publish e)))
-  new_after past (event.Read w n) s u is = same_new (is_put past) (is_put (past ++ event.Read w n ∷ [])) (after o (now_of o past) (event.Read w n)) (λ f. put_more past (event.Read w n) f ∙ or_false (is_put past f)) (quiet (is_put past) (now_of o past) s u (event.Read w n) is (λ v f e. false≢true (ap is_publish e)))
-  new_after past (event.Answer w n) s u is = same_new (is_put past) (is_put (past ++ event.Answer w n ∷ [])) (after o (now_of o past) (event.Answer w n)) (λ f. put_more past (event.Answer w n) f ∙ or_false (is_put past f)) (quiet (is_put past) (now_of o past) s u (event.Answer w n) is (λ v f e. false≢true (ap is_publish e)))
-  new_after past (event.End w x) s u is = same_new (is_put past) (is_put (past ++ event.End w x ∷ [])) (after o (now_of o past) (event.End w x)) (λ f. put_more past (event.End w x) f ∙ or_false (is_put past f)) (quiet (is_put past) (now_of o past) s u (event.End w x) is (λ v f e. false≢true (ap is_publish e)))
+  new_after : (past : List Event) (e : Event) → Stands plan sound (standing_of o past) → AreNew (is_put past) (standing_of o past) → IsEnabled o (standing_of o past) e → AreNew (is_put (past ++ e ∷ [])) (after o (standing_of o past) e)
+  new_after past (event.Publish w g) s u is = publish_new (is_put past) (standing_of o past) s u w g is (is_put (past ++ event.Publish w g ∷ [])) (put_more past (event.Publish w g))
+  new_after past (event.Start w m) s u is = same_new (is_put past) (is_put (past ++ event.Start w m ∷ [])) (after o (standing_of o past) (event.Start w m)) (λ f. put_more past (event.Start w m) f ∙ or_false (is_put past f)) (quiet (is_put past) (standing_of o past) s u (event.Start w m) is (λ v f e. false≢true (ap is_publish e)))
+  new_after past (event.Skip m) s u is = same_new (is_put past) (is_put (past ++ event.Skip m ∷ [])) (after o (standing_of o past) (event.Skip m)) (λ f. put_more past (event.Skip m) f ∙ or_false (is_put past f)) (quiet (is_put past) (standing_of o past) s u (event.Skip m) is (λ v f e. false≢true (ap is_publish e)))
+  new_after past (event.Take w n mode) s u is = same_new (is_put past) (is_put (past ++ event.Take w n mode ∷ [])) (after o (standing_of o past) (event.Take w n mode)) (λ f. put_more past (event.Take w n mode) f ∙ or_false (is_put past f)) (quiet (is_put past) (standing_of o past) s u (event.Take w n mode) is (λ v f e. false≢true (ap is_publish e)))
+  new_after past (event.Free w n) s u is = same_new (is_put past) (is_put (past ++ event.Free w n ∷ [])) (after o (standing_of o past) (event.Free w n)) (λ f. put_more past (event.Free w n) f ∙ or_false (is_put past f)) (quiet (is_put past) (standing_of o past) s u (event.Free w n) is (λ v f e. false≢true (ap is_publish e)))
+  new_after past (event.Read w n) s u is = same_new (is_put past) (is_put (past ++ event.Read w n ∷ [])) (after o (standing_of o past) (event.Read w n)) (λ f. put_more past (event.Read w n) f ∙ or_false (is_put past f)) (quiet (is_put past) (standing_of o past) s u (event.Read w n) is (λ v f e. false≢true (ap is_publish e)))
+  new_after past (event.Answer w n) s u is = same_new (is_put past) (is_put (past ++ event.Answer w n ∷ [])) (after o (standing_of o past) (event.Answer w n)) (λ f. put_more past (event.Answer w n) f ∙ or_false (is_put past f)) (quiet (is_put past) (standing_of o past) s u (event.Answer w n) is (λ v f e. false≢true (ap is_publish e)))
+  new_after past (event.End w x) s u is = same_new (is_put past) (is_put (past ++ event.End w x ∷ [])) (after o (standing_of o past) (event.End w x)) (λ f. put_more past (event.End w x) f ∙ or_false (is_put past f)) (quiet (is_put past) (standing_of o past) s u (event.End w x) is (λ v f e. false≢true (ap is_publish e)))
 
   -- and where nothing has happened
   new_first : AreNew (is_put []) (at_first o)
   new_first = record { sized = refl; there = λ f p. absurd (false≢true p); waits = λ number f m at waits own. refl; courses = λ w. subst (IsNew (is_put [])) (sym (any_idle o.workers w)) tt }
 
   -- so behind every run
-  new_all : (past events : List Event) → Stands plan sound (now_of o past) → AreNew (is_put past) (now_of o past) → IsRun o past events → AreNew (is_put (past ++ events)) (now_of o (past ++ events))
+  new_all : (past events : List Event) → Stands plan sound (standing_of o past) → AreNew (is_put past) (standing_of o past) → IsRun o past events → AreNew (is_put (past ++ events)) (standing_of o (past ++ events))
   unfolding Enabled
-  new_all past [] s u run = subst (λ es. AreNew (is_put es) (now_of o es)) (sym (append-nil past)) u
+  new_all past [] s u run = subst (λ es. AreNew (is_put es) (standing_of o es)) (sym (append-nil past)) u
   new_all past (e ∷ events) s u run =
-      subst (λ es. AreNew (is_put es) (now_of o es)) (append_assoc past (e ∷ []) events)
-      (new_all (past ++ e ∷ []) events (subst (Stands plan sound) (sym (one_more o past e)) (stands_after plan sound (now_of o past) e s run.0))
+      subst (λ es. AreNew (is_put es) (standing_of o es)) (append_assoc past (e ∷ []) events)
+      (new_all (past ++ e ∷ []) events (subst (Stands plan sound) (sym (one_more o past e)) (stands_after plan sound (standing_of o past) e s run.0))
       (subst (AreNew (is_put (past ++ e ∷ []))) (sym (one_more o past e)) (new_after past e s u run.0)) run.1)
 
   -- Once of the statements
   pub once : (past : List RunEntry) (w f : ℕ) → IsRunOf plan past → Enabled o (events_of past) (event.Publish w f) → list_any (λ (e : RunEntry). publishes f e.event) past ≡ false
   unfolding Enabled
   once past w f run is =
-      put_is past f ∙ not_yet (is_put (events_of past)) (now_of o (events_of past)) (stands plan sound (events_of past) run) (new_all [] (events_of past) (stands_first plan sound) new_first run) w f is (λ g. is_put (events_of past) g || nat_eq f g) (λ g. refl)
+      put_is past f ∙ not_yet (is_put (events_of past)) (standing_of o (events_of past)) (stands plan sound (events_of past) run) (new_all [] (events_of past) (stands_first plan sound) new_first run) w f is (λ g. is_put (events_of past) g || nat_eq f g) (λ g. refl)

@@ -14,7 +14,7 @@ use Rattle.run_law.specs.Closed.{available, missing_of, total_len}
 use Rattle.run_law.proofs.Invariants.{IsStored, outs, supply_of}
 use Rattle.build_core.specs.OneThread.{entries_len, most_classpath, name_of, path_entry}
 use Rattle.event_core.specs.Outlines.{is_listed}
-use Rattle.event_core.specs.Runs.{answers_in, contents, now_after, outputs_in}
+use Rattle.event_core.specs.Runs.{answers_in, contents, outputs_in, standing_of_run}
 use Rattle.event_core.specs.Scripts.{is_there}
 use Rattle.event_core.specs.SoundPlans.{is_backed}
 use Rattle.event_core.specs.Worlds.{IsBeyond, IsWithin, stood}
@@ -52,18 +52,18 @@ find_nothing p (x ∷ xs) isnt = ap (λ b. if b then Some x else find p xs) (isn
 
 module _ (plan : Plan) (start remote : Files) (apart : AreApart plan) (number : ℕ) (m : PlanModule) (at : slice_get plan.modules number ≡ Some m)
     (backed : list_all (λ (e : Entry). is_backed m e.origin) m.entries ≡ true) (past : List RunEntry)
-    (stored : IsStored plan (supply_of start remote []) (now_after plan past) (contents plan start past)) where
+    (stored : IsStored plan (supply_of start remote []) (standing_of_run plan past) (contents plan start past)) where
   -- a file that is there can be had, and has these bytes
-  pub file_had : (f : ℕ) → is_listed f m.fetch ≡ true → is_there (now_after plan past).there f ≡ true → (file_at (contents plan start past) (name_of plan f) ≡ available plan (supply_of start remote []) f) × (is_some (available plan (supply_of start remote []) f) ≡ true)
+  pub file_had : (f : ℕ) → is_listed f m.fetch ≡ true → is_there (standing_of_run plan past).there f ≡ true → (file_at (contents plan start past) (name_of plan f) ≡ available plan (supply_of start remote []) f) × (is_some (available plan (supply_of start remote []) f) ≡ true)
   file_had f l is =
-      let low : f < length plan.files = let small = there_low (now_after plan past).there f is in omega (arith, small, stored.sized) in
+      let low : f < length plan.files = let small = there_low (standing_of_run plan past).there f is in omega (arith, small, stored.sized) in
       let bytes = stored.bytes f (number, m, at, l) low is in
       (bytes, ap is_some (sym bytes) ∙ sym (stored.there f low) ∙ is)
 
-  module _ (all : list_all (is_there (now_after plan past).there) m.fetch ≡ true) where
+  module _ (all : list_all (is_there (standing_of_run plan past).there) m.fetch ≡ true) where
     -- each fetched file is there
-    each : (f : ℕ) → is_listed f m.fetch ≡ true → is_there (now_after plan past).there f ≡ true
-    each f l = all_listed (is_there (now_after plan past).there) m.fetch all f l
+    each : (f : ℕ) → is_listed f m.fetch ≡ true → is_there (standing_of_run plan past).there f ≡ true
+    each f l = all_listed (is_there (standing_of_run plan past).there) m.fetch all f l
 
     -- so none is missing
     pub all_had : (kept : List Answered) → missing_of plan (supply_of start remote kept) m.fetch ≡ None

@@ -1,4 +1,4 @@
--- The build by one hand, again over one plan, from any files between the start and its end: it ends the same.
+-- The sequential build, again over one plan, from any files between the start and its end: it ends the same.
 use Rattle.std.proofs.Common.{◌≡◌, ℕ, ◌+◌, ◌<◌, ◌⊎◌, inl, inr, Bool, true, false, not, ◌&&◌, nat_lt, List, [], ◌∷◌, find, map, slice_get, Option, Some, None, is_some, refl, arith, sym, ap, subst, ◌∙◌, if◌then◌else◌}
 use Rattle.std.specs.List.{list_all}
 use Rattle.std.specs.Option.{option_or}

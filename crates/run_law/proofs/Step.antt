@@ -29,10 +29,10 @@ use Rattle.run_law.proofs.Invariants.{AreEnded, AreKept, IsGathering, has_answer
 use Rattle.run_law.specs.Given.{IsPresent}
 use Rattle.build_core.specs.OneThread.{Supply, answer_at, most_classpath}
 use Rattle.event_core.specs.Outlines.{module_outline, outline_of}
-use Rattle.event_core.specs.Runs.{answers_in, kept_by, now_after}
+use Rattle.event_core.specs.Runs.{answers_in, kept_by, standing_of_run}
 use Rattle.event_core.specs.Scripts.{done, is_there}
 use Rattle.event_core.specs.SoundPlans.{is_backed}
-use Rattle.event_core.specs.Standing.{Course, Now, after, course_of, idle, is_over, module_of, off_course, on_course, progress_of}
+use Rattle.event_core.specs.Standing.{Course, Standing, after, course_of, idle, is_over, module_of, off_course, on_course, progress_of}
 use Rattle.event_core.specs.Standing
 use Rattle.event_core.specs.Worlds.{Fits, FitsAnswer, FitsBehind, FitsEnd, HandTold, IsWithin, is_answered, stood, FitsModule}
 use Rattle.run_law.proofs.Ended.{Behind, begun_stays, ended_stays, judged_end, len_stays, set_cases}
@@ -84,12 +84,12 @@ module _ (plan : Plan) (start remote : Files) (apart : AreApart plan) (present :
   abbrev base : Supply
   base = supply_of start remote []
 
-  abbrev Holds : Now → List Answered → Type 0
+  abbrev Holds : Standing → List Answered → Type 0
   Holds next kept = AreKept plan start remote next kept × AreEnded plan start remote next kept
 
   module _ (past : List RunEntry) (behind : Behind plan start remote apart present backed past) where
-    abbrev now : Now
-    now = now_after plan past
+    abbrev now : Standing
+    now = standing_of_run plan past
 
     abbrev old : List Answered
     old = answers_in plan past

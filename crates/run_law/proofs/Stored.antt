@@ -24,9 +24,9 @@ use Rattle.run_law.proofs.Invariants.{AreCoursesFit, FilesDiffer, IsCourseFit, I
 use Rattle.run_law.specs.Given.{IsPresent}
 use Rattle.build_core.specs.OneThread.{Supply, name_of, remote_bytes}
 use Rattle.event_core.specs.Outlines.{is_listed, module_outline, outline_of}
-use Rattle.event_core.specs.Runs.{IsRunOf, contents, events_of, now_after, put_carried}
+use Rattle.event_core.specs.Runs.{IsRunOf, contents, events_of, put_carried, standing_of_run}
 use Rattle.event_core.specs.Scripts.{Script, is_there, wanted}
-use Rattle.event_core.specs.Standing.{Course, Now, after, at_first, course_of, idle, module_of, now_of, off_course, on_course}
+use Rattle.event_core.specs.Standing.{Course, Standing, after, at_first, course_of, idle, module_of, off_course, on_course, standing_of}
 use Rattle.event_core.specs.Worlds.{AllFit, Fits, FitsBehind, FitsBytes, FitsPublish, HandTold, TellsBytes, is_published, is_told, stood}
 use Rattle.run_law.proofs.Carried.{at_insert, name_itself}
 use Rattle.run_law.proofs.Courses.{courses_after, courses_first, due_file}
@@ -67,7 +67,7 @@ module _ (plan : Plan) (supply : Supply) (differ : FilesDiffer plan) (own : OwnA
   o = outline_of plan
 
   -- a publish that is due
-  module _ (now : Now) (files : Files) (w f : ℕ) (bytes : List ℕ) (low : f < length plan.files) (stored : IsStored plan supply now files) where
+  module _ (now : Standing) (files : Files) (w f : ℕ) (bytes : List ℕ) (low : f < length plan.files) (stored : IsStored plan supply now files) where
     -- another file has another name
     name_apart : (g : ℕ) → g < length plan.files → (g ≡ f → ⊥) → eq_by_cmp (slice_cmp nat_cmp) (name_of plan g) (name_of plan f) ≡ false
     name_apart g small other = by (eq_by_cmp (slice_cmp nat_cmp) (name_of plan g) (name_of plan f)) refl
@@ -89,7 +89,7 @@ module _ (plan : Plan) (supply : Supply) (differ : FilesDiffer plan) (own : OwnA
     set_here = get_or-set_same now.there f true false (omega (arith, low, stored.sized))
 
     -- so the repository stands as it is marked
-    pub stored_more : (IsFetchFile plan f → available plan supply f ≡ Some bytes) → (next : Now) → next.there ≡ set now.there f true → IsStored plan supply next (finite.insert files (name_of plan f) bytes)
+    pub stored_more : (IsFetchFile plan f → available plan supply f ≡ Some bytes) → (next : Standing) → next.there ≡ set now.there f true → IsStored plan supply next (finite.insert files (name_of plan f) bytes)
     stored_more had next same = record {
       sized = ap length same ∙ length-set now.there f true ∙ stored.sized;
       there = λ g small. ap (λ t. is_there t g) same ∙ there g small (same_or_not g f);
@@ -106,7 +106,7 @@ module _ (plan : Plan) (supply : Supply) (differ : FilesDiffer plan) (own : OwnA
         by g fetch small is (inr other) = file_there (name_of plan g) (name_apart g small other) ∙ stored.bytes g fetch small (sym (get_or-set_other now.there f g true false other) ∙ is)
 
   -- the bytes that are published are those that can be had, where they are the remote's
-  pub fetch_had : (now : Now) (w f : ℕ) (bytes : List ℕ) → f < length plan.files → IsStanding o now → AreCoursesFit o now → is_due (course_of now w) (deed.Publish f) ≡ true
+  pub fetch_had : (now : Standing) (w f : ℕ) (bytes : List ℕ) → f < length plan.files → IsStanding o now → AreCoursesFit o now → is_due (course_of now w) (deed.Publish f) ≡ true
       → ((number : ℕ) (m : PlanModule) (script : Script) (last : Option ℕ) → course_of now w ≡ on_course number script last → slice_get plan.modules number ≡ Some m → is_listed f m.fetch ≡ true → remote_bytes supply.remote (name_of plan f) ≡ Some bytes)
       → IsFetchFile plan f → available plan supply f ≡ Some bytes
   fetch_had now w f bytes low standing courses due fits fetch = by (due_on (course_of now w) (deed.Publish f) due)
@@ -129,7 +129,7 @@ module _ (plan : Plan) (supply : Supply) (differ : FilesDiffer plan) (own : OwnA
           split m at (inr mine) = absurd (own f fetch (on.0, m, at, mine))
 
   -- any other event leaves the files
-  stays : (now next : Now) (files : Files) → next.there ≡ now.there → IsStored plan supply now files → IsStored plan supply next files
+  stays : (now next : Standing) (files : Files) → next.there ≡ now.there → IsStored plan supply now files → IsStored plan supply next files
   stays now next files same stored = record {
     sized = ap length same ∙ stored.sized;
     there = λ f low. ap (λ t. is_there t f) same ∙ stored.there f low;
@@ -138,13 +138,13 @@ module _ (plan : Plan) (supply : Supply) (differ : FilesDiffer plan) (own : OwnA
   }
 
   -- what an entry that publishes has to carry
-  abbrev pub Brings : Now → Event → Carried → Type 0
+  abbrev pub Brings : Standing → Event → Carried → Type 0
   Brings now (event.Publish w f) what = (bytes : List ℕ) × (what ≡ carried.Published bytes)
       × ((number : ℕ) (m : PlanModule) (script : Script) (last : Option ℕ) → course_of now w ≡ on_course number script last → slice_get plan.modules number ≡ Some m → is_listed f m.fetch ≡ true → remote_bytes supply.remote (name_of plan f) ≡ Some bytes)
   Brings now other what = Unit {0}
 
   -- so behind each event
-  pub stored_after : (now : Now) (files : Files) (e : Event) (what : Carried) → IsStanding o now → AreCoursesFit o now → length plan.present ≡ length plan.files → IsStored plan supply now files → IsEnabled o now e → Brings now e what → IsStored plan supply (after o now e) (put_carried plan files e what)
+  pub stored_after : (now : Standing) (files : Files) (e : Event) (what : Carried) → IsStanding o now → AreCoursesFit o now → length plan.present ≡ length plan.files → IsStored plan supply now files → IsEnabled o now e → Brings now e what → IsStored plan supply (after o now e) (put_carried plan files e what)
   unfolding after
   stored_after now files (event.Start w m) what standing courses sized stored is brings = stays now (after o now (event.Start w m)) files refl stored
   stored_after now files (event.Skip m) what standing courses sized stored is brings = stays now (after o now (event.Skip m)) files refl stored
@@ -175,16 +175,16 @@ module _ (plan : Plan) (supply : Supply) (differ : FilesDiffer plan) (own : OwnA
 
   -- all that a run's invariants say together
   pub record HoldsBehind (past : List RunEntry) : Type 0 where
-    pub standing : IsStanding o (now_after plan past)
-    pub courses : AreCoursesFit o (now_after plan past)
-    pub stored : IsStored plan supply (now_after plan past) (contents plan supply.start past)
+    pub standing : IsStanding o (standing_of_run plan past)
+    pub courses : AreCoursesFit o (standing_of_run plan past)
+    pub stored : IsStored plan supply (standing_of_run plan past) (contents plan supply.start past)
 
   -- each hand tells all
   abbrev pub AllTell : (ℕ → HandTold) → Type 0
   AllTell hands = (w : ℕ) → ((hands w).area ≡ true) × ((hands w).remote ≡ Some supply.remote)
 
   -- what an entry that fits brings
-  pub brings_of : (hands : ℕ → HandTold) → AllTell hands → (past : List RunEntry) (e : Event) (what : Carried) → Fits plan (Some supply.start) hands past (record { event = e; carried = what }) → Brings (now_after plan past) e what
+  pub brings_of : (hands : ℕ → HandTold) → AllTell hands → (past : List RunEntry) (e : Event) (what : Carried) → Fits plan (Some supply.start) hands past (record { event = e; carried = what }) → Brings (standing_of_run plan past) e what
   brings_of hands tell past (event.Start w m) what fits = tt
   brings_of hands tell past (event.Skip m) what fits = tt
   brings_of hands tell past (event.Take w n mode) what fits = tt
@@ -194,7 +194,7 @@ module _ (plan : Plan) (supply : Supply) (differ : FilesDiffer plan) (own : OwnA
   brings_of hands tell past (event.End w e) what fits = tt
   brings_of hands tell past (event.Publish w f) what fits = by what (subst (λ b. is_told b (event.Publish w f) what ≡ true) (tell w).0 fits.0) fits.1
     where
-      by : (what : Carried) → is_published what ≡ true → FitsBehind plan (Some supply.start) hands past (record { event = event.Publish w f; carried = what }) (Some w) → Brings (now_after plan past) (event.Publish w f) what
+      by : (what : Carried) → is_published what ≡ true → FitsBehind plan (Some supply.start) hands past (record { event = event.Publish w f; carried = what }) (Some w) → Brings (standing_of_run plan past) (event.Publish w f) what
       by carried.Nothing is behind = absurd (false≢true is)
       by (carried.Answered answer) is behind = absurd (false≢true is)
       by (carried.Published bytes) is behind = (
@@ -212,13 +212,13 @@ module _ (plan : Plan) (supply : Supply) (differ : FilesDiffer plan) (own : OwnA
   more_behind : (hands : ℕ → HandTold) → AllTell hands → length plan.present ≡ length plan.files → (past : List RunEntry) (e : RunEntry) → HoldsBehind past → Enabled o (events_of past) e.event → Fits plan (Some supply.start) hands past e → HoldsBehind (past ++ e ∷ [])
   unfolding Enabled
   more_behind hands tell sized past e holds is fits =
-      let next : now_after plan (past ++ e ∷ []) ≡ after o (now_after plan past) e.event = ap (now_of o) (events_more past e) ∙ one_more o (events_of past) e.event in
+      let next : standing_of_run plan (past ++ e ∷ []) ≡ after o (standing_of_run plan past) e.event = ap (standing_of o) (events_more past e) ∙ one_more o (events_of past) e.event in
       record {
-        standing = subst (IsStanding o) (sym next) (standing_after o (now_after plan past) e.event holds.standing is);
-        courses = subst (AreCoursesFit o) (sym next) (courses_after o (now_after plan past) e.event holds.courses);
+        standing = subst (IsStanding o) (sym next) (standing_after o (standing_of_run plan past) e.event holds.standing is);
+        courses = subst (AreCoursesFit o) (sym next) (courses_after o (standing_of_run plan past) e.event holds.courses);
         stored = subst (λ now. IsStored plan supply now (contents plan supply.start (past ++ e ∷ []))) (sym next)
-            (subst (IsStored plan supply (after o (now_after plan past) e.event)) (sym (fold_more (λ files (x : RunEntry). put_carried plan files x.event x.carried) past supply.start e))
-            (stored_after (now_after plan past) (contents plan supply.start past) e.event e.carried holds.standing holds.courses sized holds.stored is (brings_of hands tell past e.event e.carried fits)));
+            (subst (IsStored plan supply (after o (standing_of_run plan past) e.event)) (sym (fold_more (λ files (x : RunEntry). put_carried plan files x.event x.carried) past supply.start e))
+            (stored_after (standing_of_run plan past) (contents plan supply.start past) e.event e.carried holds.standing holds.courses sized holds.stored is (brings_of hands tell past e.event e.carried fits)));
       }
 
   -- so behind every fitting run

@@ -10,9 +10,9 @@ use Rattle.event_core.specs.Causes.{stage_at}
 use Rattle.event_core.specs.Enabled.{Enabled, IsEnabled}
 use Rattle.run_law.specs.Given.{AllTell, Given, IsFitting}
 use Rattle.event_core.specs.Outlines.{outline_of}
-use Rattle.event_core.specs.Runs.{events_of, module_by, now_after}
+use Rattle.event_core.specs.Runs.{events_of, module_by, standing_of_run}
 use Rattle.event_core.specs.Enabled.{IsRun}
-use Rattle.event_core.specs.Standing.{Now, course_of, now_of}
+use Rattle.event_core.specs.Standing.{Standing, course_of, standing_of}
 use Rattle.event_core.specs.Worlds.{AllFit, Fits, FitsBehind, FitsModule, HandTold, is_told, stood, worker_of}
 use Rattle.run_law.proofs.Complete.{events_more}
 use Rattle.event_core.proofs.Weights.{nothing_is}
@@ -22,7 +22,7 @@ some_is : (a b : ℕ) → ◌≡◌ {A = Option ℕ} (Some a) (Some b) → a ≡
 some_is a b e = ap (λ o. unwrap_or o 0) e
 
 -- the worker of an event that may come is one of the plan's
-worker_low : (o : Outline) (now : Now) (e : Event) (w : ℕ) → IsEnabled o now e → worker_of e ≡ Some w → w < o.workers
+worker_low : (o : Outline) (now : Standing) (e : Event) (w : ℕ) → IsEnabled o now e → worker_of e ≡ Some w → w < o.workers
 worker_low o now (event.Start v m) w is e = subst (λ x. x < o.workers) (some_is v w e) is.0
 worker_low o now (event.Skip m) w is e = absurd (nothing_is w e)
 worker_low o now (event.Take v n mode) w is e = subst (λ x. x < o.workers) (some_is v w e) is.0
@@ -55,7 +55,7 @@ module _ (g : Given) where
   -- so what fits by the one fits by the others
   fits_told : (past : List RunEntry) (e : RunEntry) → Enabled (outline_of g.plan) (events_of past) e.event → Fits g.plan (Some g.start) g.hands past e → Fits g.plan (Some g.start) told past e
   unfolding Enabled
-  fits_told past e is fits = by (worker_of e.event) (λ w whose. same_hand w (worker_low (outline_of g.plan) (now_of (outline_of g.plan) (events_of past)) e.event w is whose)) fits
+  fits_told past e is fits = by (worker_of e.event) (λ w whose. same_hand w (worker_low (outline_of g.plan) (standing_of (outline_of g.plan) (events_of past)) e.event w is whose)) fits
     where
       by : (found : Option ℕ) → ((w : ℕ) → found ≡ Some w → g.hands w ≡ told w)
           → (is_told (option_map_or (λ w. (g.hands w).area) found false) e.event e.carried ≡ true) × FitsBehind g.plan (Some g.start) g.hands past e found
@@ -63,7 +63,7 @@ module _ (g : Given) where
       by None same x = x
       by (Some w) same x = (
         subst (λ (h : HandTold). is_told h.area e.event e.carried ≡ true) (same w refl) x.0,
-        subst (λ h. IfSome (module_by g.plan past w) (λ number. IfSome (slice_get g.plan.modules number) (λ m. FitsModule (stood g.plan (Some g.start) past number m) h (stage_at (course_of (now_after g.plan past) w)) e.event e.carried))) (same w refl) x.1,
+        subst (λ h. IfSome (module_by g.plan past w) (λ number. IfSome (slice_get g.plan.modules number) (λ m. FitsModule (stood g.plan (Some g.start) past number m) h (stage_at (course_of (standing_of_run g.plan past) w)) e.event e.carried))) (same w refl) x.1,
       )
 
   -- so does each entry of a run

@@ -74,6 +74,6 @@ module _ (gav : Gav) where
     unfolding after
     fits = ((refl, tt), ((refl, (refl, refl, tt)), ((refl, (refl, refl, refl)), ((refl, ((refl, refl, refl), refl)), ((refl, ((refl, refl, refl), refl)), ((refl, tt), ((refl, (refl, refl, refl, refl)), tt)))))))
 
-    -- the build by one hand puts the two files
+    -- the sequential build puts the two files
     sequential : (one_thread (plan gav) (supply_of start remote (answers_in (plan gav) (built gav)))).files ≡ finite.insert (finite.insert start (65 ∷ []) (1 ∷ [])) (66 ∷ []) (7 ∷ [])
     sequential = sym (core_sound (plan gav) start remote sound present hands (λ w. (refl, refl)) (built gav) run fits (complete gav) (quiet gav) (answer_at (answers_in (plan gav) (built gav))) (extends_itself (answers_in (plan gav) (built gav))))

@@ -15,7 +15,7 @@ use Rattle.build_core.specs.declared.ending.State.{State}
 use Rattle.build_core.specs.declared.ending.State.TheVariants as state
 use Rattle.build_core.specs.OneThread.{Progress, Supply, name_of, one_thread}
 use Rattle.event_core.specs.Outlines.{is_listed, outline_of}
-use Rattle.event_core.specs.Runs.{IsComplete, IsQuiet, IsRunOf, now_after, outputs_in}
+use Rattle.event_core.specs.Runs.{IsComplete, IsQuiet, IsRunOf, outputs_in, standing_of_run}
 use Rattle.event_core.specs.Scripts.{is_there}
 use Rattle.event_core.specs.SoundPlans.{IsSoundPlan}
 use Rattle.event_core.specs.Standing.{state_of, upstream_of}
@@ -64,7 +64,7 @@ Extends kept said = (number goal : ℕ) (a : Answered) → find (is_answer numbe
 -- ---- what stands behind a run, and behind the sequential build with these answers
 
 abbrev pub state_after : Plan → List RunEntry → ℕ → State
-state_after plan run number = state_of (outline_of plan) (now_after plan run).progress number
+state_after plan run number = state_of (outline_of plan) (standing_of_run plan run).progress number
 
 abbrev pub states_after : Plan → List RunEntry → List State
 states_after plan run = map (state_after plan run) (below (length plan.modules))

@@ -6,7 +6,7 @@ ghost use Rattle.build_core.specs.declared.plan.Plan.{Plan};
 ghost use Rattle.event_core.specs.declared.entry.RunEntry.{RunEntry};
 ghost use Rattle.event_core.specs.Enabled.{Enabled};
 ghost use Rattle.event_core.specs.Outlines.{outline_of};
-ghost use Rattle.event_core.specs.Runs.{IsComplete, IsRunOf, contents, events_of, now_after};
+ghost use Rattle.event_core.specs.Runs.{IsComplete, IsRunOf, contents, events_of, standing_of_run};
 ghost use Rattle.event_core.specs.SoundPlans.{IsSoundPlan};
 ghost use Rattle.event_core.specs.Standing.{is_over, progress_of};
 ghost use Rattle.event_core.specs.Worlds.{was_published};
@@ -24,12 +24,12 @@ pub fn nothing_goes_back()
         → was_published past file ≡ false }
     ensures over { (plan : Plan) (past rest : List RunEntry) (number : ℕ)
         → IsRunOf plan (past ++ rest)
-        → is_over (progress_of (now_after plan past).progress number) ≡ true
-        → progress_of (now_after plan (past ++ rest)).progress number
-        ≡ progress_of (now_after plan past).progress number }
+        → is_over (progress_of (standing_of_run plan past).progress number) ≡ true
+        → progress_of (standing_of_run plan (past ++ rest)).progress number
+        ≡ progress_of (standing_of_run plan past).progress number }
     ensures outputs { (plan : Plan) (past rest : List RunEntry) (number : ℕ)
         → IsRunOf plan (past ++ rest)
-        → is_over (progress_of (now_after plan past).progress number) ≡ true
+        → is_over (progress_of (standing_of_run plan past).progress number) ≡ true
         → outputs_after plan (past ++ rest) number ≡ outputs_after plan past number }
     ensures ends { (plan : Plan) (run : List RunEntry) (e : Event) → IsRunOf plan run
         → IsComplete plan run → Enabled (outline_of plan) (events_of run) e → ⊥ }

@@ -56,11 +56,11 @@ not_or : (a b : Bool) → not a ≡ true → not b ≡ true → not (a || b) ≡
 not_or true b e f = e
 not_or false b e f = f
 
-both_true : (a b : Bool) → a ≡ true → b ≡ true → (a && b) ≡ true
+pub both_true : (a b : Bool) → a ≡ true → b ≡ true → (a && b) ≡ true
 both_true true b e f = f
 both_true false b e f = e
 
-not_true : (a : Bool) → not a ≡ true → a ≡ false
+pub not_true : (a : Bool) → not a ≡ true → a ≡ false
 not_true true e = absurd (false≢true e)
 not_true false e = refl
 
@@ -91,7 +91,7 @@ module _ {T : Type 0} (key : T → Key) where
   has_settled items k = has_folded [] items k
 
   -- an item more stands once
-  once_put : (items : List T) (x : T) → each_once key items ≡ true → each_once key (put key items x) ≡ true
+  pub once_put : (items : List T) (x : T) → each_once key items ≡ true → each_once key (put key items x) ≡ true
   once_put [] x once = refl
   once_put (y ∷ items) x once = by (same_key (key x) (key y)) refl (once_put items x (and_right (not (has key items (key y))) (each_once key items) once))
     where
@@ -137,7 +137,7 @@ module _ {T : Type 0} (key : T → Key) where
       by false further = further
 
   -- of the others none has a key of the first list's, and each of theirs stands as often as before
-  has_others : (items further : List T) (k : Key) → has key (others key items further) k ≡ (not (has key items k) && has key further k)
+  pub has_others : (items further : List T) (k : Key) → has key (others key items further) k ≡ (not (has key items k) && has key further k)
   has_others items [] k = none (not (has key items k))
     where
       none : (b : Bool) → false ≡ (b && false)
@@ -161,7 +161,7 @@ module _ {T : Type 0} (key : T → Key) where
           ∙ sym (ap (λ b. b && (same_key k (key x) || has key further k)) (same s ∙ n))
       by false n false s rest = rest ∙ ap (λ b. not (has key items k) && (b || has key further k)) (sym s)
 
-  once_others : (items further : List T) → each_once key further ≡ true → each_once key (others key items further) ≡ true
+  pub once_others : (items further : List T) → each_once key further ≡ true → each_once key (others key items further) ≡ true
   once_others items [] once = refl
   once_others items (x ∷ further) once = by (is_none (item_of key items (key x))) (once_others items further (and_right (not (has key further (key x))) (each_once key further) once))
     where
@@ -177,7 +177,7 @@ module _ {T : Type 0} (key : T → Key) where
       by false rest = rest
 
   -- one list behind another, if no key of the one is the other's
-  once_append : (xs ys : List T) → each_once key xs ≡ true → each_once key ys ≡ true → ((k : Key) → has key xs k ≡ true → has key ys k ≡ false) → each_once key (xs ++ ys) ≡ true
+  pub once_append : (xs ys : List T) → each_once key xs ≡ true → each_once key ys ≡ true → ((k : Key) → has key xs k ≡ true → has key ys k ≡ false) → each_once key (xs ++ ys) ≡ true
   once_append [] ys first second apart = second
   once_append (x ∷ xs) ys first second apart =
       both_true (not (has key (xs ++ ys) (key x))) (each_once key (xs ++ ys))
@@ -253,7 +253,7 @@ module _ {T : Type 0} (key : T → Key) where
       none (Some x) = refl
       none None = refl
 
-  item_append : (xs ys : List T) (k : Key) → item_of key (xs ++ ys) k ≡ option_or (item_of key xs k) (item_of key ys k)
+  pub item_append : (xs ys : List T) (k : Key) → item_of key (xs ++ ys) k ≡ option_or (item_of key xs k) (item_of key ys k)
   item_append [] ys k = refl
   item_append (x ∷ xs) ys k = ap (λ o. if same_key k (key x) then Some x else o) (item_append xs ys k) ∙ by (same_key k (key x))
     where
@@ -261,7 +261,7 @@ module _ {T : Type 0} (key : T → Key) where
       by true = refl
       by false = refl
 
-  item_others : (items further : List T) (k : Key) → item_of key (others key items further) k ≡ (if is_none (item_of key items k) then item_of key further k else None)
+  pub item_others : (items further : List T) (k : Key) → item_of key (others key items further) k ≡ (if is_none (item_of key items k) then item_of key further k else None)
   item_others items [] k = none (is_none (item_of key items k))
     where
       none : (b : Bool) → ◌≡◌ {A = Option T} None (if b then None else None)

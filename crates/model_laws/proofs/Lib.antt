@@ -1,1 +1,4 @@
+mod Composed
 mod Keys
+mod Merges
+mod Plugins

@@ -1,4 +1,5 @@
 mod Composed
 mod Keys
 mod Merges
+mod Places
 mod Plugins

@@ -210,7 +210,7 @@ module _ {T : Type 0} (key : T → Key) where
   new_behind [] x items once = refl
   new_behind (y ∷ done) x items once =
       ap (λ b. b || has key done (key x)) (same_key_flip (key x) (key y) ∙ first (same_key (key y) (key x)) (has key done (key y)) (has key items (key y))
-          (sym (ap not (has_append key done (x ∷ items) (key y))) ∙ and_left (not (has key (done ++ x ∷ items) (key y))) (each_once key (done ++ x ∷ items)) once))
+      (sym (ap not (has_append key done (x ∷ items) (key y))) ∙ and_left (not (has key (done ++ x ∷ items) (key y))) (each_once key (done ++ x ∷ items)) once))
       ∙ new_behind done x items (and_right (not (has key (done ++ x ∷ items) (key y))) (each_once key (done ++ x ∷ items)) once)
     where
       first : (a d h : Bool) → not (d || (a || h)) ≡ true → a ≡ false

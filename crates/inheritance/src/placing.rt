@@ -17,10 +17,7 @@ use std::alloc::Global;
 use std::collections::{HashMap, HashSet};
 
 // The executions that a child takes over.
-fn inherited_executions(
-    alloc: Global,
-    list: &[Shared<Execution>],
-) -> Mem<List<Shared<Execution>>>
+fn inherited_executions(alloc: Global, list: &[Shared<Execution>]) -> Mem<List<Shared<Execution>>>
     ensures { IfOk result (λ kept. kept ≡ filter (λ (e : executions.Execution). e.inherited) list.now) }
 {
     let mut kept = List::new(alloc);

@@ -201,12 +201,12 @@ module _ {T : Type 0} (key : T → Key) where
           clash e = cc
       by false s rest = ap (λ l. y ∷ l) (rest (right (same_key (key x) (key y)) (has key items (key x)) new))
 
-  nested : (xs : List T) (x : T) (ys : List T) → (xs ++ x ∷ []) ++ ys ≡ xs ++ x ∷ ys
+  pub nested : (xs : List T) (x : T) (ys : List T) → (xs ++ x ∷ []) ++ ys ≡ xs ++ x ∷ ys
   nested [] x ys = refl
   nested (y ∷ xs) x ys = ap (λ l. y ∷ l) (nested xs x ys)
 
   -- an item of a list that has each key once has no key of those before it
-  new_behind : (done : List T) (x : T) (items : List T) → each_once key (done ++ x ∷ items) ≡ true → has key done (key x) ≡ false
+  pub new_behind : (done : List T) (x : T) (items : List T) → each_once key (done ++ x ∷ items) ≡ true → has key done (key x) ≡ false
   new_behind [] x items once = refl
   new_behind (y ∷ done) x items once =
       ap (λ b. b || has key done (key x)) (same_key_flip (key x) (key y) ∙ first (same_key (key y) (key x)) (has key done (key y)) (has key items (key y))

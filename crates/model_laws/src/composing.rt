@@ -1,4 +1,4 @@
-ghost use Rattle.std.specs.Prelude.{◌≡◌, false, List, [], ◌++◌, map, Some};
+ghost use Rattle.std.specs.Prelude.{◌≡◌, true, false, List, [], ◌++◌, map, Some};
 ghost use Rattle.mvn_base.specs.declared.key.Key as keys;
 ghost use Rattle.model_types.specs.declared.dependency.Dependency as dependencies;
 ghost use Rattle.model_types.specs.declared.model.RawModel as models;
@@ -7,10 +7,10 @@ ghost use Rattle.model_merge.specs.Keyed.{item_of};
 ghost use Rattle.model_merge.specs.Merging.{key_of_dependency, key_of_plugin, merged_plugin, settled_plugins};
 ghost use Rattle.inheritance.specs.Inherit.{inherit};
 ghost use Rattle.inheritance.specs.Placing.{inheritable, inherited_plugins};
-ghost use Rattle.managed_deps.specs.Managed.{apply_one, apply_plugins};
+ghost use Rattle.managed_deps.specs.Managed.{apply_one, apply_plugins, first_of_each};
 ghost use Rattle.profile_injection.specs.Injection.{inject};
 ghost use Rattle.lifecycle.specs.Bindings.{bound_to, undeclared};
-ghost use Rattle.model_laws.specs.Keys.{IsJoin, has};
+ghost use Rattle.model_laws.specs.Keys.{IsJoin, each_once, has};
 ghost use Rattle.model_laws.specs.Stated.{IsStatedFirst, Stays, settled_model};
 
 /// A law of inheritance: a property, a dependency and a managed dependency that a child states is the child's, and so are its group and
@@ -41,6 +41,15 @@ pub fn stated_version_stays()
         → Stays own.version (apply_one set own).version }
     ensures scope { (set : List (keys.Key × dependencies.Dependency)) (own : dependencies.Dependency)
         → Stays own.scope (apply_one set own).scope }
+{}
+
+/// A law of what is managed: its list has each key once, and gives the same set if it is managed again. Introduction to the Dependency
+/// Mechanism, "Dependency Management".
+pub fn managed_once()
+    ensures once { (entries : List dependencies.Dependency)
+        → each_once key_of_dependency (map (λ e. e.1) (first_of_each entries)) ≡ true }
+    ensures again { (entries : List dependencies.Dependency)
+        → first_of_each (map (λ e. e.1) (first_of_each entries)) ≡ first_of_each entries }
 {}
 
 /// A law of managed plugins: the names of declared plugins stay as they are, in order, each once. POM Reference, "Plugin Management".

@@ -58,8 +58,7 @@ fn absorbed_build(alloc: Global, own: &BuildBase, further: &BuildBase) -> Mem<Bu
     ensures { IfOk result (λ build. build ≡ absorbed_build own.now further.now) }
 {
     let plugins = absorbed_plugins(alloc, &own.plugins, &further.plugins)?;
-    let managed_plugins =
-        absorbed_plugins(alloc, &own.managed_plugins, &further.managed_plugins)?;
+    let managed_plugins = absorbed_plugins(alloc, &own.managed_plugins, &further.managed_plugins)?;
     Ok(BuildBase {
         plugins,
         managed_plugins,

@@ -1,3 +1,3 @@
 pub mod UnderKeys
 mod Pairing
-mod Settling
+mod Singles

@@ -30,7 +30,7 @@ fn with_goals_once(alloc: Global, execution: &Execution) -> Mem<Execution>
 
 /// An execution that names each of its goals once: of equal ones the last, at the place of the first. Costs its goals, on the average;
 /// with at most one it is shared. Own rule.
-#[tactic(auto, using(crate::proofs::Settling::execution_kept))]
+#[tactic(auto, using(crate::proofs::Singles::execution_kept))]
 pub(crate) fn settled_execution(
     alloc: Global,
     execution: &Shared<Execution>,
@@ -94,7 +94,7 @@ fn has_single_goals(executions: &[Shared<Execution>]) -> bool
 }
 
 // Whether nothing in a plugin can stand twice.
-#[tactic(auto, using(crate::proofs::Settling::plugin_kept))]
+#[tactic(auto, using(crate::proofs::Singles::plugin_kept))]
 fn is_single(plugin: &Plugin) -> bool
     ensures { result ≡ true → settled_plugin plugin.now ≡ plugin.now }
 {

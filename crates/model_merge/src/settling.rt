@@ -1,8 +1,8 @@
-ghost use Rattle.std.specs.Prelude.{◌≡◌, ◌<◌, map, length, nat_lt, true, IfOk};
+ghost use Rattle.std.specs.Prelude.{◌≡◌, map, IfOk};
 ghost use Rattle.std.specs.List.{list_all};
-ghost use Rattle.model_types.specs.declared.plugin.Execution as executions;
 ghost use Rattle.model_merge.specs.Keyed.{settled};
 ghost use Rattle.model_merge.specs.Merging.{key_of_execution, settled_execution, settled_plugin, settled_plugins};
+ghost use Rattle.model_merge.specs.Singles.{has_single_goal, is_single};
 
 use crate::joined::settled;
 use crate::keyed::Mergeable;
@@ -87,24 +87,24 @@ fn with_parts_once(alloc: Global, plugin: &Plugin) -> Mem<Plugin>
 }
 
 // Whether each of some executions has at most one goal.
-fn has_single_goals(executions: &[Shared<Execution>]) -> bool
-    ensures { result ≡ list_all (λ (e : executions.Execution). nat_lt (length e.goals) 2) executions.now }
+fn have_single_goals(executions: &[Shared<Execution>]) -> bool
+    ensures { result ≡ list_all has_single_goal executions.now }
 {
     executions.iter().all(|execution| execution.goals.len() < 2)
 }
 
-// Whether nothing in a plugin can stand twice.
-#[tactic(auto, using(crate::proofs::Singles::plugin_kept))]
+// Whether nothing in a plugin can stand twice: it has at most one dependency and one execution, and this at most one goal.
 fn is_single(plugin: &Plugin) -> bool
-    ensures { result ≡ true → settled_plugin plugin.now ≡ plugin.now }
+    ensures { result ≡ is_single plugin.now }
 {
     plugin.dependencies.len() < 2
         && plugin.executions.len() < 2
-        && has_single_goals(plugin.executions.as_slice())
+        && have_single_goals(plugin.executions.as_slice())
 }
 
 /// A plugin with one dependency of each key, one execution of each id and each of an execution's goals once: of equal ones the last, at
 /// the place of the first. Costs what it has, on the average; where nothing can stand twice, it is shared. Own rule.
+#[tactic(auto, using(crate::proofs::Singles::plugin_kept))]
 pub fn settled_plugin(alloc: Global, plugin: &Shared<Plugin>) -> Mem<Shared<Plugin>>
     ensures { IfOk result (λ settled. settled ≡ settled_plugin plugin.now) }
 {

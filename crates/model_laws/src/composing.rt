@@ -1,5 +1,4 @@
-ghost use Rattle.std.specs.Prelude.{◌≡◌, true, false, List, [], ◌++◌, map, Some};
-ghost use Rattle.mvn_base.specs.declared.key.Key as keys;
+ghost use Rattle.std.specs.Prelude.{◌≡◌, true, List, [], ◌++◌, Some};
 ghost use Rattle.model_types.specs.declared.dependency.Dependency as dependencies;
 ghost use Rattle.model_types.specs.declared.model.RawModel as models;
 ghost use Rattle.model_types.specs.declared.plugin.Plugin as plugins;
@@ -10,8 +9,8 @@ ghost use Rattle.inheritance.specs.Placing.{inheritable, inherited_plugins};
 ghost use Rattle.managed_deps.specs.Managed.{apply_one, apply_plugins, first_of_each};
 ghost use Rattle.profile_injection.specs.Injection.{inject};
 ghost use Rattle.lifecycle.specs.Bindings.{bound_to, undeclared};
-ghost use Rattle.model_laws.specs.Keys.{IsJoin, each_once, has};
-ghost use Rattle.model_laws.specs.Stated.{IsStatedFirst, Stays, settled_model};
+ghost use Rattle.model_laws.specs.Keys.{IsJoin, each_once};
+ghost use Rattle.model_laws.specs.Stated.{IsManagedAlone, IsStatedFirst, Managed, Stays, managed_list, names, settled_model};
 
 /// A law of inheritance: a property, a dependency and a managed dependency that a child states is the child's, and so are its group and
 /// its version; under other keys stands what its parent states. POM Reference, "Inheritance".
@@ -35,11 +34,11 @@ pub fn no_profile_settles()
 /// A law of managed dependencies: a declaration keeps its key, and the version and the scope that it states. Introduction to the
 /// Dependency Mechanism, "Dependency Management".
 pub fn stated_version_stays()
-    ensures key { (set : List (keys.Key × dependencies.Dependency)) (own : dependencies.Dependency)
+    ensures key { (set : Managed) (own : dependencies.Dependency)
         → key_of_dependency (apply_one set own) ≡ key_of_dependency own }
-    ensures version { (set : List (keys.Key × dependencies.Dependency)) (own : dependencies.Dependency)
+    ensures version { (set : Managed) (own : dependencies.Dependency)
         → Stays own.version (apply_one set own).version }
-    ensures scope { (set : List (keys.Key × dependencies.Dependency)) (own : dependencies.Dependency)
+    ensures scope { (set : Managed) (own : dependencies.Dependency)
         → Stays own.scope (apply_one set own).scope }
 {}
 
@@ -47,27 +46,28 @@ pub fn stated_version_stays()
 /// Mechanism, "Dependency Management".
 pub fn managed_once()
     ensures once { (entries : List dependencies.Dependency)
-        → each_once key_of_dependency (map (λ e. e.1) (first_of_each entries)) ≡ true }
+        → each_once key_of_dependency (managed_list entries) ≡ true }
     ensures again { (entries : List dependencies.Dependency)
-        → first_of_each (map (λ e. e.1) (first_of_each entries)) ≡ first_of_each entries }
+        → first_of_each (managed_list entries) ≡ first_of_each entries }
 {}
 
 /// A law of managed plugins: the names of declared plugins stay as they are, in order, each once. POM Reference, "Plugin Management".
 pub fn managed_plugins_add_none()
-    ensures { (declared managed : List plugins.Plugin) → map key_of_plugin (apply_plugins declared managed)
-        ≡ map key_of_plugin (settled_plugins declared) }
+    ensures { (declared managed : List plugins.Plugin)
+        → names (apply_plugins declared managed) ≡ names (settled_plugins declared) }
 {}
 
 /// A law of bindings: the names of a module's plugins are those of the declared ones in order, and then those of the other bound ones;
 /// each name stands once; and a bound plugin that isn't declared lies below its managed entry. Introduction to the Build Lifecycle.
 pub fn declared_keep_order()
-    ensures order { (declared managed bound : List plugins.Plugin) → map key_of_plugin (bound_to declared managed bound)
-        ≡ map key_of_plugin (settled_plugins declared) ++ map key_of_plugin (undeclared declared bound) }
-    ensures names { (declared managed bound : List plugins.Plugin)
+    ensures order { (declared managed bound : List plugins.Plugin)
+        → names (bound_to declared managed bound)
+        ≡ names (settled_plugins declared) ++ names (undeclared declared bound) }
+    ensures once { (declared managed bound : List plugins.Plugin)
         → IsJoin key_of_plugin declared bound (bound_to declared managed bound) }
-    ensures managed { (declared managed bound : List plugins.Plugin) (k : keys.Key) (child parent : plugins.Plugin)
-        → has key_of_plugin declared k ≡ false
-        → item_of key_of_plugin (settled_plugins managed) k ≡ Some child
-        → item_of key_of_plugin (settled_plugins bound) k ≡ Some parent
-        → item_of key_of_plugin (bound_to declared managed bound) k ≡ Some (merged_plugin child parent) }
+    ensures managed { (declared managed bound : List plugins.Plugin)
+        → (entry binding : plugins.Plugin)
+        → (alone : IsManagedAlone declared managed bound entry binding)
+        → item_of key_of_plugin (bound_to declared managed bound) alone.name
+        ≡ Some (merged_plugin entry binding) }
 {}

@@ -59,7 +59,8 @@ fn settled_executions(
     alloc: Global,
     executions: &[Shared<Execution>],
 ) -> Mem<List<Shared<Execution>>>
-    ensures { IfOk result (λ list. list ≡ settled key_of_execution (map settled_execution executions.now)) }
+    ensures { IfOk result (λ list. list
+        ≡ settled key_of_execution (map settled_execution executions.now)) }
 {
     settled(alloc, each_settled(alloc, executions)?.as_slice())
 }

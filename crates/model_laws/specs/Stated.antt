@@ -37,11 +37,11 @@ abbrev pub names : List Plugin → List Key
 names plugins = map key_of_plugin plugins
 
 -- a plugin that isn't declared, but is bound, and for which something is managed
-pub record IsManagedAlone (declared managed bound : List Plugin) (entry binding : Plugin) : Type 0 where
+pub record IsManagedAlone (plugins entries bindings : List Plugin) (entry binding : Plugin) : Type 0 where
   pub name : Key
-  pub undeclared : has key_of_plugin declared name ≡ false
-  pub managed : item_of key_of_plugin (settled_plugins managed) name ≡ Some entry
-  pub bound : item_of key_of_plugin (settled_plugins bound) name ≡ Some binding
+  pub undeclared : has key_of_plugin plugins name ≡ false
+  pub managed : item_of key_of_plugin (settled_plugins entries) name ≡ Some entry
+  pub bound : item_of key_of_plugin (settled_plugins bindings) name ≡ Some binding
 
 -- a POM whose lists have each key once
 abbrev pub settled_base : ModelBase → ModelBase

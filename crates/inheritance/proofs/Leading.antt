@@ -6,7 +6,7 @@ use Rattle.model_types.specs.declared.plugin.Plugin.{Plugin}
 use Rattle.model_merge.specs.Keyed.{item_of, overlaid, same_key, settled}
 use Rattle.model_merge.specs.Merging.{key_of_plugin, merged_plugin}
 use Rattle.model_merge.proofs.UnderKeys.{same_key_is}
-use Rattle.inheritance.specs.Placing.{inheritable, inherited_plugins, is_shared, leading, next_shared, placed}
+use Rattle.inheritance.specs.Placing.{inheritable, is_shared, leading, next_shared, placed}
 
 abbrev one_of : Bool → Plugin → List Plugin → List Plugin
 one_of b x xs = if b then x ∷ xs else xs
@@ -185,8 +185,7 @@ nothing_behind [] = refl
 nothing_behind (x ∷ xs) = ap (λ l. x ∷ l) (nothing_behind xs)
 
 pub inherited_whole : (child parent parents children merged list last whole : List Plugin) (listed : Key → List Plugin) → Stand parents children listed last → parents ≡ inheritable parent → children ≡ settled key_of_plugin child
-    → merged ≡ map (overlaid key_of_plugin merged_plugin (settled key_of_plugin child)) parents → list ≡ flat_map (λ p. listed (key_of_plugin p) ++ p ∷ []) merged → whole ≡ list ++ last → whole ≡ inherited_plugins child parent
-unfolding inherited_plugins
+    → merged ≡ map (overlaid key_of_plugin merged_plugin (settled key_of_plugin child)) parents → list ≡ flat_map (λ p. listed (key_of_plugin p) ++ p ∷ []) merged → whole ≡ list ++ last → whole ≡ placed (settled key_of_plugin child) (inheritable parent)
 inherited_whole child parent parents children merged list last whole listed stands are these is placed_all joined =
     whole_placed children parents merged list last whole listed stands (is ∙ ap (λ l. map (overlaid key_of_plugin merged_plugin l) parents) (sym these)) placed_all joined
     ∙ ap (λ l. placed l parents) these ∙ ap (placed (settled key_of_plugin child)) are

@@ -5,8 +5,8 @@ use Rattle.std.specs.Option.{option_eq}
 use Rattle.mvn_base.specs.declared.key.Key.{Key}
 use Rattle.model_types.specs.declared.plugin.Execution.{Execution}
 use Rattle.model_types.specs.declared.plugin.Plugin.{Plugin}
-use Rattle.model_merge.specs.Keyed.{overlaid, same_key, settled}
-use Rattle.model_merge.specs.Merging.{key_of_execution, key_of_plugin, merged_plugin}
+use Rattle.model_merge.specs.Keyed.{overlaid, same_key}
+use Rattle.model_merge.specs.Merging.{key_of_plugin, merged_plugin, settled_plugins}
 
 -- a parent's plugin as a child takes it over: without the executions that aren't inherited
 abbrev pub handed_on : Plugin → Plugin
@@ -16,13 +16,13 @@ handed_on p = record {
   version = p.version;
   inherited = p.inherited;
   dependencies = p.dependencies;
-  executions = filter (λ (e : Execution). e.inherited) (settled key_of_execution p.executions);
+  executions = filter (λ (e : Execution). e.inherited) p.executions;
   configuration = p.configuration;
 }
 
--- the plugins that a parent passes on
+-- the plugins that a parent passes on, each settled
 abbrev pub inheritable : List Plugin → List Plugin
-inheritable parent = map handed_on (filter (λ (p : Plugin). p.inherited) (settled key_of_plugin parent))
+inheritable parent = map handed_on (filter (λ (p : Plugin). p.inherited) (settled_plugins parent))
 
 -- whether both have a plugin
 abbrev pub is_shared : List Plugin → Plugin → Bool
@@ -44,4 +44,4 @@ abbrev pub placed : List Plugin → List Plugin → List Plugin
 placed child parent = flat_map (λ p. leading parent (Some (key_of_plugin p)) child ++ overlaid key_of_plugin merged_plugin child p ∷ []) parent ++ leading parent None child
 
 unfoldable pub inherited_plugins : List Plugin → List Plugin → List Plugin
-inherited_plugins child parent = placed (settled key_of_plugin child) (inheritable parent)
+inherited_plugins child parent = placed (settled_plugins child) (inheritable parent)

@@ -5,11 +5,11 @@ ghost use Rattle.mvn_base.specs.declared.key.Key as names;
 ghost use Rattle.model_types.specs.declared.plugin.Plugin as plugins;
 ghost use Rattle.model_types.specs.declared.plugin.Execution as executions;
 ghost use Rattle.model_merge.specs.Keyed.{overlaid, same_key, settled};
-ghost use Rattle.model_merge.specs.Merging.{key_of_execution, key_of_plugin, merged_plugin};
-ghost use Rattle.inheritance.specs.Placing.{handed_on, inheritable, inherited_plugins, is_shared, leading};
+ghost use Rattle.model_merge.specs.Merging.{key_of_plugin, merged_plugin, settled_plugins};
+ghost use Rattle.inheritance.specs.Placing.{handed_on, inheritable, inherited_plugins, is_shared, leading, placed};
 ghost use Rattle.inheritance.specs.Others.{Stands, HasKeys, listed};
 
-use model_merge::{Keyed, merged_over, settled};
+use model_merge::{Keyed, each_settled, merged_over, settled, settled_plugins};
 use model_types::{Execution, Plugin};
 use mvn_base::Key;
 use mvn_shared::{List, Mem, Shared};
@@ -17,16 +17,13 @@ use std::alloc::Global;
 use std::collections::{HashMap, HashSet};
 
 // The executions that a child takes over.
-fn inherited_executions(
-    alloc: Global,
-    list: List<Shared<Execution>>,
-) -> Mem<List<Shared<Execution>>>
-    ensures { IfOk result (λ kept. kept ≡ filter (λ (e : executions.Execution). e.inherited) list) }
+fn inherited_executions(alloc: Global, list: &[Shared<Execution>]) -> Mem<List<Shared<Execution>>>
+    ensures { IfOk result (λ kept. kept ≡ filter (λ (e : executions.Execution). e.inherited) list.now) }
 {
     let mut kept = List::new(alloc);
-    for execution in list.into_vec() {
+    for execution in list {
         if execution.inherited {
-            kept.push(execution)?;
+            kept.push(execution.share()?)?;
         }
     }
     Ok(kept)
@@ -40,7 +37,7 @@ fn handed_on(alloc: Global, plugin: &Plugin) -> Mem<Plugin>
     let artifact = plugin.artifact.clone()?;
     let version = plugin.version.clone()?;
     let dependencies = plugin.dependencies.clone()?;
-    let executions = inherited_executions(alloc, settled(alloc, plugin.executions.as_slice())?)?;
+    let executions = inherited_executions(alloc, plugin.executions.as_slice())?;
     let configuration = plugin.configuration.share()?;
     Ok(Plugin {
         group,
@@ -58,7 +55,7 @@ fn inheritable(alloc: Global, parent: &[Shared<Plugin>]) -> Mem<List<Shared<Plug
     ensures { IfOk result (λ list. list ≡ inheritable parent.now) }
 {
     let mut list = List::new(alloc);
-    for plugin in settled(alloc, parent)?.into_vec() {
+    for plugin in settled_plugins(alloc, parent)?.into_vec() {
         if plugin.inherited {
             list.push(Shared::new(alloc, handed_on(alloc, &plugin)?)?)?;
         }
@@ -225,9 +222,26 @@ fn in_place(
     Ok(list)
 }
 
-/// The plugins of a child and of its parent: in the parent's order those that it passes on, each merged with the child's of its name,
-/// and the child's others in front of the shared one that follows them, or at the end. Costs both, on the average. POM Reference,
-/// "Plugins", of `inherited`; the places are an own rule.
+// The plugins of a child that are each settled, and of its parent.
+fn placed(
+    alloc: Global,
+    child: &[Shared<Plugin>],
+    parent: &[Shared<Plugin>],
+) -> Mem<List<Shared<Plugin>>>
+    ensures { IfOk result (λ list. list
+        ≡ placed (settled key_of_plugin child.now) (inheritable parent.now)) }
+{
+    let parents = inheritable(alloc, parent)?;
+    let Others { before, last } = others_of(alloc, parents.as_slice(), settled(alloc, child)?)?;
+    let merged = merged_over(alloc, child, parents)?;
+    let mut list = in_place(alloc, &before, merged)?;
+    push_copies(&mut list, last.as_slice())?;
+    Ok(list)
+}
+
+/// The plugins of a child and of its parent, each settled: in the parent's order those that it passes on, each merged with the child's
+/// of its name, and the child's others in front of the shared one that follows them, or at the end. Costs both, on the average. POM
+/// Reference, "Plugins", of `inherited`; the places are an own rule.
 #[tactic(auto, unfolding(crate::specs::Placing::inherited_plugins))]
 pub fn inherited_plugins(
     alloc: Global,
@@ -236,10 +250,5 @@ pub fn inherited_plugins(
 ) -> Mem<List<Shared<Plugin>>>
     ensures { IfOk result (λ list. list ≡ inherited_plugins child.now parent.now) }
 {
-    let parents = inheritable(alloc, parent)?;
-    let Others { before, last } = others_of(alloc, parents.as_slice(), settled(alloc, child)?)?;
-    let merged = merged_over(alloc, child, parents)?;
-    let mut list = in_place(alloc, &before, merged)?;
-    push_copies(&mut list, last.as_slice())?;
-    Ok(list)
+    placed(alloc, each_settled(alloc, child)?.as_slice(), parent)
 }

@@ -8,8 +8,8 @@ use Rattle.mvn_base.specs.declared.phase.Phase.TheVariants as phase
 use Rattle.mvn_base.specs.Limits.{maven_plugins}
 use Rattle.model_types.specs.declared.plugin.Execution.{Execution}
 use Rattle.model_types.specs.declared.plugin.Plugin.{Plugin}
-use Rattle.model_merge.specs.Keyed.{others, settled, underlaid}
-use Rattle.model_merge.specs.Merging.{key_of_name, key_of_plugin, merged_plugin}
+use Rattle.model_merge.specs.Keyed.{others, overlaid, settled, underlaid}
+use Rattle.model_merge.specs.Merging.{key_of_name, key_of_plugin, merged_plugin, settled_plugins}
 use denote.Ref.{Bor}
 
 -- a goal of one of Maven's plugins, bound to a phase
@@ -83,8 +83,13 @@ bound_plugins rows = map (bound_plugin rows) (settled key_of_name (map (λ b. b.
 abbrev pub bindings : List ℕ → Option (List Plugin)
 bindings packaging = option_map bound_plugins (bindings_of packaging)
 
--- declared plugins over the bound ones of their names, in place, and then the other bound ones over their managed entries
+-- the bound plugins that aren't declared
+abbrev pub undeclared : List Plugin → List Plugin → List Plugin
+undeclared plugins bound = others key_of_plugin (settled_plugins plugins) (settled_plugins bound)
+
+-- declared plugins over the bound ones of their names, in place, and then the other bound ones below their managed entries, all of
+-- them settled
 abbrev pub bound_to : List Plugin → List Plugin → List Plugin → List Plugin
 bound_to plugins managed bound =
-    map (underlaid key_of_plugin merged_plugin (settled key_of_plugin bound)) plugins
-    ++ map (underlaid key_of_plugin merged_plugin (settled key_of_plugin managed)) (others key_of_plugin (settled key_of_plugin plugins) bound)
+    map (underlaid key_of_plugin merged_plugin (settled_plugins bound)) (settled_plugins plugins)
+    ++ map (overlaid key_of_plugin merged_plugin (settled_plugins managed)) (undeclared plugins bound)

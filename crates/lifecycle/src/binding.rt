@@ -1,9 +1,12 @@
 ghost use Rattle.std.specs.Prelude.{◌≡◌, [], ◌∷◌, map, filter, option_map, IfOk};
 ghost use Rattle.std.specs.Str.{bytes_eq};
+ghost use Rattle.model_merge.specs.Keyed as keyed;
+ghost use Rattle.model_merge.specs.Keyed.{others, overlaid, underlaid};
+ghost use Rattle.model_merge.specs.Merging.{key_of_plugin, merged_plugin, settled_plugins};
 ghost use Rattle.lifecycle.specs.Bindings.{bindings, bound_execution, bound_id, bound_plugin, bound_plugins, bound_to, row_view};
 
 use crate::table::{Row, rows_of};
-use model_merge::{appended, merged_under, others_than, settled};
+use model_merge::{appended, each_settled, merged_over, merged_under, others_than, settled};
 use model_types::{Execution, Plugin};
 use mvn_base::{MAVEN_PLUGINS, Setting};
 use mvn_shared::{List, Mem, Shared, Text};
@@ -118,8 +121,39 @@ pub fn bindings(alloc: Global, packaging: &Text) -> Mem<Option<List<Shared<Plugi
     }
 }
 
-/// Declared plugins, each in its place and merged as child with the bound one of its name, and then the other bound ones, each merged as
-/// child with its managed entry. Costs all lists, on the average. Introduction to the Build Lifecycle; the places are an own rule.
+// Declared plugins, each in its place over the bound one of its name; both lists are of settled plugins.
+fn declared_over(
+    alloc: Global,
+    plugins: &List<Shared<Plugin>>,
+    bound: &List<Shared<Plugin>>,
+) -> Mem<List<Shared<Plugin>>>
+    ensures { IfOk result (λ list. list ≡ map (underlaid key_of_plugin merged_plugin
+        (keyed.settled key_of_plugin bound.now)) (keyed.settled key_of_plugin plugins.now)) }
+{
+    let plugins = settled(alloc, plugins.as_slice())?;
+    merged_under(alloc, plugins.as_slice(), bound.as_slice())
+}
+
+// The bound plugins that aren't declared, each below its managed entry; the lists are of settled plugins.
+fn others_below(
+    alloc: Global,
+    plugins: &List<Shared<Plugin>>,
+    managed: &[Shared<Plugin>],
+    bound: &List<Shared<Plugin>>,
+) -> Mem<List<Shared<Plugin>>>
+    ensures { IfOk result (λ list. list ≡ map (overlaid key_of_plugin merged_plugin
+        (settled_plugins managed.now)) (others key_of_plugin
+        (keyed.settled key_of_plugin plugins.now) (keyed.settled key_of_plugin bound.now))) }
+{
+    let bound = settled(alloc, bound.as_slice())?;
+    let further = others_than(alloc, plugins.as_slice(), bound)?;
+    let managed = each_settled(alloc, managed)?;
+    merged_over(alloc, managed.as_slice(), further)
+}
+
+/// Declared plugins, each in its place and merged as child with the bound one of its name, and then the other bound ones, each merged
+/// as parent with its managed entry; all of them settled. Costs all lists, on the average. Introduction to the Build Lifecycle; the
+/// places are an own rule.
 pub fn bind(
     alloc: Global,
     plugins: &[Shared<Plugin>],
@@ -128,7 +162,8 @@ pub fn bind(
 ) -> Mem<List<Shared<Plugin>>>
     ensures { IfOk result (λ list. list ≡ bound_to plugins.now managed.now bound) }
 {
-    let declared = merged_under(alloc, plugins, bound.as_slice())?;
-    let further = others_than(alloc, plugins, bound)?;
-    appended(declared, merged_under(alloc, further.as_slice(), managed)?)
+    let plugins = each_settled(alloc, plugins)?;
+    let bound = each_settled(alloc, bound.as_slice())?;
+    let declared = declared_over(alloc, &plugins, &bound)?;
+    appended(declared, others_below(alloc, &plugins, managed, &bound)?)
 }

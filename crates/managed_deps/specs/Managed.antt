@@ -10,8 +10,8 @@ use Rattle.mvn_base.specs.declared.key.Key.{Key}
 use Rattle.model_types.specs.declared.dependency.Dependency.{Dependency}
 use Rattle.model_types.specs.declared.dependency.Exclusion.{Exclusion}
 use Rattle.model_types.specs.declared.plugin.Plugin.{Plugin}
-use Rattle.model_merge.specs.Keyed.{settled, underlaid}
-use Rattle.model_merge.specs.Merging.{key_of_plugin, merged_plugin}
+use Rattle.model_merge.specs.Keyed.{underlaid}
+use Rattle.model_merge.specs.Merging.{key_of_plugin, merged_plugin, settled_plugins}
 
 -- an entry that stands for what another POM manages
 abbrev pub is_scope : List ℕ → Option (List ℕ) → Bool
@@ -67,6 +67,7 @@ with_managed d (Some m) = record {
 abbrev pub apply_one : List (Key × Dependency) → Dependency → Dependency
 apply_one set d = with_managed d (find_pair set (key_of d))
 
--- each plugin, merged as child with the managed one of its name; of equal names among the managed ones the later counts
+-- each plugin, merged as child with the managed one of its name, all of them settled
 abbrev pub apply_plugins : List Plugin → List Plugin → List Plugin
-apply_plugins plugins managed = map (underlaid key_of_plugin merged_plugin (settled key_of_plugin managed)) plugins
+apply_plugins plugins managed =
+    map (underlaid key_of_plugin merged_plugin (settled_plugins managed)) (settled_plugins plugins)

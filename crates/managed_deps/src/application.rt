@@ -2,7 +2,7 @@ ghost use Rattle.std.specs.Prelude.{◌≡◌, map, Some, IfOk};
 ghost use Rattle.managed_deps.specs.Managed.{apply_one, apply_plugins, exclusions_of, with_managed};
 
 use crate::set::ManagedSet;
-use model_merge::{Keyed, merged_under, stated};
+use model_merge::{Keyed, each_settled, merged_under, settled_plugins, stated};
 use model_types::{Dependency, Exclusion, Plugin};
 use mvn_shared::{List, Mem, Shared};
 use std::alloc::Global;
@@ -73,8 +73,8 @@ pub fn apply(
     Ok(list)
 }
 
-/// Plugins, each merged as child with the managed one of its name; of equal names among the managed ones the later counts. Costs both,
-/// on the average. POM Reference, "Plugin Management".
+/// Plugins, each merged as child with the managed one of its name, all of them settled; of equal names in one list the later counts.
+/// Costs both, on the average. POM Reference, "Plugin Management".
 pub fn apply_plugins(
     alloc: Global,
     plugins: &[Shared<Plugin>],
@@ -82,5 +82,7 @@ pub fn apply_plugins(
 ) -> Mem<List<Shared<Plugin>>>
     ensures { IfOk result (λ list. list ≡ apply_plugins plugins.now managed.now) }
 {
-    merged_under(alloc, plugins, managed)
+    let plugins = settled_plugins(alloc, plugins)?;
+    let managed = each_settled(alloc, managed)?;
+    merged_under(alloc, plugins.as_slice(), managed.as_slice())
 }

@@ -1,2 +1,3 @@
 pub mod UnderKeys
 mod Pairing
+mod Singles

@@ -2,4 +2,5 @@ pub mod Configuration
 pub mod Keyed
 pub mod Merging
 pub mod Names
+pub mod Singles
 pub mod Stated

@@ -1,6 +1,6 @@
 -- What tells items of a POM's lists apart, and how executions and plugins are merged. POM Reference, "Plugins" and "Inheritance";
 -- the order of merged lists is an own rule.
-use Rattle.std.specs.Prelude.{ℕ, ◌&&◌, List, []}
+use Rattle.std.specs.Prelude.{ℕ, ◌&&◌, List, [], map}
 use Rattle.std.specs.Option.{option_or}
 use Rattle.mvn_base.specs.declared.gav.Gav.{Gav}
 use Rattle.mvn_base.specs.declared.key.Key.{Key}
@@ -9,7 +9,7 @@ use Rattle.model_types.specs.declared.dependency.Dependency.{Dependency}
 use Rattle.model_types.specs.declared.plugin.Execution.{Execution}
 use Rattle.model_types.specs.declared.plugin.Plugin.{Plugin}
 use Rattle.model_merge.specs.Configuration.{merged_configuration}
-use Rattle.model_merge.specs.Keyed.{merged_lists, with_others}
+use Rattle.model_merge.specs.Keyed.{merged_lists, settled, with_others}
 
 -- a key of one part, and of two
 abbrev pub key_of_name : List ℕ → Key
@@ -32,6 +32,32 @@ key_of_execution e = key_of_name e.id
 
 abbrev pub key_of_plugin : Plugin → Key
 key_of_plugin p = key_of_two p.group p.artifact
+
+-- an execution that names each of its goals once
+unfoldable pub settled_execution : Execution → Execution
+settled_execution e = record {
+  id = e.id;
+  phase = e.phase;
+  goals = settled key_of_name e.goals;
+  inherited = e.inherited;
+  configuration = e.configuration;
+}
+
+-- a plugin that has one dependency of each key and one execution of each id
+unfoldable pub settled_plugin : Plugin → Plugin
+settled_plugin p = record {
+  group = p.group;
+  artifact = p.artifact;
+  version = p.version;
+  inherited = p.inherited;
+  dependencies = settled key_of_dependency p.dependencies;
+  executions = settled key_of_execution (map settled_execution p.executions);
+  configuration = p.configuration;
+}
+
+-- one plugin of each name, each settled
+abbrev pub settled_plugins : List Plugin → List Plugin
+settled_plugins plugins = settled key_of_plugin (map settled_plugin plugins)
 
 -- an execution, and the one of its id that it builds on
 unfoldable pub merged_execution : Execution → Execution → Execution

@@ -24,6 +24,12 @@ pub trait Item: Keyed {
 
 /// An item that can be merged with one of its key, which it builds on. Lists of such items share them.
 pub trait Mergeable: Keyed {
+    /// The item alone, where nothing has its key: each of its own lists has one item of each key.
+    ghost settle: { Self → Self };
+
+    fn settled(alloc: Global, item: &Shared<Self>) -> Mem<Shared<Self>>
+        ensures { IfOk result (λ settled. settled ≡ settle item.now) };
+
     /// The child's, and then the parent's.
     ghost merge: { Self → Self → Self };
 

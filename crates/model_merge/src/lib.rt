@@ -7,6 +7,7 @@ mod joined;
 mod keyed;
 mod keys;
 mod plugin;
+mod settling;
 
 pub use configuration::merged_configuration;
 pub use fallback::{stated, stated_list};
@@ -16,3 +17,4 @@ pub use joined::{
 };
 pub use keyed::{Item, Keyed, Mergeable};
 pub use plugin::{merged_execution, merged_plugin};
+pub use settling::{each_settled, settled_plugin, settled_plugins};

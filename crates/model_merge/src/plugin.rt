@@ -1,11 +1,12 @@
 ghost use Rattle.std.specs.Prelude.{◌≡◌, IfOk};
 ghost use Rattle.model_merge.specs.Configuration.{merged_configuration};
-ghost use Rattle.model_merge.specs.Merging.{merged_execution, merged_plugin};
+ghost use Rattle.model_merge.specs.Merging.{merged_execution, merged_plugin, settled_execution, settled_plugin};
 
 use crate::configuration::merged_configuration;
 use crate::fallback::stated;
 use crate::joined::{merged_lists, with_others};
 use crate::keyed::Mergeable;
+use crate::settling::{settled_execution, settled_plugin};
 use model_types::{Execution, Plugin};
 use mvn_base::Setting;
 use mvn_shared::{List, Mem, Shared};
@@ -44,7 +45,13 @@ pub fn merged_execution(alloc: Global, child: &Execution, parent: &Execution) ->
 }
 
 impl Mergeable for Execution {
+    ghost settle = { settled_execution };
+
     ghost merge = { merged_execution };
+
+    fn settled(alloc: Global, execution: &Shared<Execution>) -> Mem<Shared<Execution>> {
+        settled_execution(alloc, execution)
+    }
 
     fn merged(alloc: Global, child: &Execution, parent: &Execution) -> Mem<Execution> {
         merged_execution(alloc, child, parent)
@@ -84,7 +91,13 @@ pub fn merged_plugin(alloc: Global, child: &Plugin, parent: &Plugin) -> Mem<Plug
 }
 
 impl Mergeable for Plugin {
+    ghost settle = { settled_plugin };
+
     ghost merge = { merged_plugin };
+
+    fn settled(alloc: Global, plugin: &Shared<Plugin>) -> Mem<Shared<Plugin>> {
+        settled_plugin(alloc, plugin)
+    }
 
     fn merged(alloc: Global, child: &Plugin, parent: &Plugin) -> Mem<Plugin> {
         merged_plugin(alloc, child, parent)

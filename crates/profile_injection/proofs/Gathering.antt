@@ -5,7 +5,7 @@ use Rattle.model_types.specs.declared.build.BuildBase.{BuildBase}
 use Rattle.model_types.specs.declared.model.ModelBase.{ModelBase}
 use Rattle.model_types.specs.declared.profile.Profile.{Profile}
 use Rattle.profile_injection.specs.Contents.{all_behind, all_built, base_behind, build_behind}
-use Rattle.profile_injection.specs.Injection.{settled_plugins}
+use Rattle.profile_injection.specs.Injection.{plugins_in}
 
 nothing_behind : (b : ModelBase) → b ≡ all_behind b []
 nothing_behind b = λ i. record {
@@ -36,8 +36,8 @@ nothing_built b = λ i. record {
 
 one_built : (b : BuildBase) (p : Profile) (ps : List Profile) → all_built (build_behind b p) ps ≡ all_built b (p ∷ ps)
 one_built b p ps = λ i. record {
-  plugins = append_assoc b.plugins (settled_plugins (λ p. p.build.plugins) p) (flat_map (settled_plugins (λ p. p.build.plugins)) ps) i;
-  managed_plugins = append_assoc b.managed_plugins (settled_plugins (λ p. p.build.managed_plugins) p) (flat_map (settled_plugins (λ p. p.build.managed_plugins)) ps) i;
+  plugins = append_assoc b.plugins (plugins_in (λ p. p.build.plugins) p) (flat_map (plugins_in (λ p. p.build.plugins)) ps) i;
+  managed_plugins = append_assoc b.managed_plugins (plugins_in (λ p. p.build.managed_plugins) p) (flat_map (plugins_in (λ p. p.build.managed_plugins)) ps) i;
 }
 
 -- the plugins of profiles, gathered one by one

@@ -1,11 +1,11 @@
 -- The program's own words for what profiles have, one behind another.
-use Rattle.std.specs.Prelude.{List, [], ◌++◌, flat_map, Option, Some, None}
+use Rattle.std.specs.Prelude.{List, [], ◌++◌, flat_map, map, Option, Some, None}
 use Rattle.model_types.specs.declared.build.BuildBase.{BuildBase}
 use Rattle.model_types.specs.declared.model.ModelBase.{ModelBase}
 use Rattle.model_types.specs.declared.profile.Profile.{Profile}
 use Rattle.model_merge.specs.Keyed.{absorbed, settled}
-use Rattle.model_merge.specs.Merging.{key_of_dependency, key_of_pair, key_of_plugin, merged_plugin}
-use Rattle.profile_injection.specs.Injection.{settled_plugins}
+use Rattle.model_merge.specs.Merging.{key_of_dependency, key_of_pair, key_of_plugin, merged_plugin, settled_plugin}
+use Rattle.profile_injection.specs.Injection.{plugins_in}
 
 -- what a profile has, behind what others have
 abbrev pub base_behind : ModelBase → Profile → ModelBase
@@ -18,8 +18,8 @@ base_behind base p = record {
 
 abbrev pub build_behind : BuildBase → Profile → BuildBase
 build_behind build p = record {
-  plugins = build.plugins ++ settled_plugins (λ p. p.build.plugins) p;
-  managed_plugins = build.managed_plugins ++ settled_plugins (λ p. p.build.managed_plugins) p;
+  plugins = build.plugins ++ plugins_in (λ p. p.build.plugins) p;
+  managed_plugins = build.managed_plugins ++ plugins_in (λ p. p.build.managed_plugins) p;
 }
 
 abbrev pub no_plugins : BuildBase
@@ -45,8 +45,8 @@ all_behind base ps = record {
 
 abbrev pub all_built : BuildBase → List Profile → BuildBase
 all_built build ps = record {
-  plugins = build.plugins ++ flat_map (settled_plugins (λ p. p.build.plugins)) ps;
-  managed_plugins = build.managed_plugins ++ flat_map (settled_plugins (λ p. p.build.managed_plugins)) ps;
+  plugins = build.plugins ++ flat_map (plugins_in (λ p. p.build.plugins)) ps;
+  managed_plugins = build.managed_plugins ++ flat_map (plugins_in (λ p. p.build.managed_plugins)) ps;
 }
 
 -- of equal keys the last one counts
@@ -58,9 +58,9 @@ settled_base base = record {
   dependencies = settled key_of_dependency base.dependencies;
 }
 
--- a build's plugins, merged with further ones
+-- a build's plugins, each settled and merged with further ones
 abbrev pub absorbed_build : BuildBase → BuildBase → BuildBase
 absorbed_build own further = record {
-  plugins = absorbed key_of_plugin merged_plugin own.plugins further.plugins;
-  managed_plugins = absorbed key_of_plugin merged_plugin own.managed_plugins further.managed_plugins;
+  plugins = absorbed key_of_plugin merged_plugin (map settled_plugin own.plugins) further.plugins;
+  managed_plugins = absorbed key_of_plugin merged_plugin (map settled_plugin own.managed_plugins) further.managed_plugins;
 }

@@ -1,6 +1,6 @@
 -- A POM with the contents of its active profiles. POM Reference, "Profiles"; that a later profile counts over an earlier one, and the
 -- order, are own rules.
-use Rattle.std.specs.Prelude.{ℕ, List, ◌++◌, flat_map, filter_map, slice_get}
+use Rattle.std.specs.Prelude.{ℕ, List, ◌++◌, flat_map, filter_map, fold, slice_get}
 use Rattle.mvn_base.specs.declared.key.Key.{Key}
 use Rattle.model_types.specs.declared.build.Build.{Build}
 use Rattle.model_types.specs.declared.build.BuildBase.{BuildBase}
@@ -8,8 +8,8 @@ use Rattle.model_types.specs.declared.model.ModelBase.{ModelBase}
 use Rattle.model_types.specs.declared.model.RawModel.{RawModel}
 use Rattle.model_types.specs.declared.plugin.Plugin.{Plugin}
 use Rattle.model_types.specs.declared.profile.Profile.{Profile}
-use Rattle.model_merge.specs.Keyed.{absorbed, settled}
-use Rattle.model_merge.specs.Merging.{key_of_dependency, key_of_pair, key_of_plugin, merged_plugin}
+use Rattle.model_merge.specs.Keyed.{absorb, settled}
+use Rattle.model_merge.specs.Merging.{key_of_dependency, key_of_pair, key_of_plugin, merged_plugin, settled_plugins}
 
 -- the profiles at some places
 abbrev pub profiles_at : List Profile → List ℕ → List Profile
@@ -19,14 +19,14 @@ profiles_at profiles places = filter_map (slice_get profiles) places
 abbrev pub with_items : {T : Type 0} → (T → Key) → List T → (Profile → List T) → List Profile → List T
 with_items key own items profiles = settled key (own ++ flat_map items profiles)
 
--- a profile's plugins, of equal names the last one
-abbrev pub settled_plugins : (Profile → List Plugin) → Profile → List Plugin
-settled_plugins plugins p = settled key_of_plugin (plugins p)
+-- a profile's plugins, each settled
+abbrev pub plugins_in : (Profile → List Plugin) → Profile → List Plugin
+plugins_in plugins p = settled_plugins (plugins p)
 
 -- the POM's plugins, and then those of each profile, merged as children with the ones of their names
 abbrev pub with_plugins : List Plugin → (Profile → List Plugin) → List Profile → List Plugin
 with_plugins own plugins profiles =
-    absorbed key_of_plugin merged_plugin own (flat_map (settled_plugins plugins) profiles)
+    fold (absorb key_of_plugin merged_plugin) (settled_plugins own) (flat_map (plugins_in plugins) profiles)
 
 unfoldable pub inject_base : ModelBase → List Profile → ModelBase
 inject_base own profiles = record {

@@ -1,10 +1,9 @@
 ghost use Rattle.std.specs.Prelude.{◌≡◌, ◌++◌, fold, slice_get, IfOk, OnOk};
-ghost use Rattle.model_merge.specs.Keyed as keyed;
-ghost use Rattle.model_merge.specs.Merging.{key_of_plugin};
+ghost use Rattle.model_merge.specs.Merging as merging;
 ghost use Rattle.profile_injection.specs.Contents.{all_behind, all_built, base_behind, base_behind_at, build_behind, build_behind_at, no_plugins};
 ghost use Rattle.profile_injection.specs.Injection.{profiles_at};
 
-use model_merge::{Item, copies, settled};
+use model_merge::{Item, copies, settled_plugins};
 use model_types::{BuildBase, ModelBase, Plugin, Profile};
 use mvn_shared::{List, Mem, Shared};
 use std::alloc::Global;
@@ -19,15 +18,15 @@ fn push_all<T: Item>(list: &mut List<T>, items: &List<T>) -> Mem<()>
     Ok(())
 }
 
-// Plugins, of equal names the last one, behind others.
+// Plugins, each settled, behind others.
 fn push_plugins(
     alloc: Global,
     list: &mut List<Shared<Plugin>>,
     plugins: &List<Shared<Plugin>>,
 ) -> Mem<()>
-    ensures { OnOk result (list.new ≡ list.old ++ keyed.settled key_of_plugin plugins.now) }
+    ensures { OnOk result (list.new ≡ list.old ++ merging.settled_plugins plugins.now) }
 {
-    push_all(list, &settled(alloc, plugins.as_slice())?)
+    push_all(list, &settled_plugins(alloc, plugins.as_slice())?)
 }
 
 // What a profile has, behind what others have.
@@ -132,8 +131,8 @@ pub(crate) fn gathered_base(own: &ModelBase, profiles: &[Profile], places: &[u32
     base_of(own, profiles, places)
 }
 
-/// The plugins of profiles at some places, of equal names in one profile the last one. Costs the lists,
-/// on the average; the items are shared.
+/// The plugins of profiles at some places, those of each profile settled. Costs the lists, on the average;
+/// the items are shared.
 #[tactic(auto, using(crate::proofs::Gathering::builds_behind))]
 pub(crate) fn gathered_build(alloc: Global, profiles: &[Profile], places: &[u32]) -> Mem<BuildBase>
     ensures { IfOk result (λ build. build

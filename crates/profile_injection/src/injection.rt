@@ -1,11 +1,13 @@
-ghost use Rattle.std.specs.Prelude.{◌≡◌, IfOk};
+ghost use Rattle.std.specs.Prelude.{◌≡◌, map, IfOk};
+ghost use Rattle.model_merge.specs.Keyed as merging;
+ghost use Rattle.model_merge.specs.Merging.{key_of_plugin, merged_plugin, settled_plugin};
 ghost use Rattle.profile_injection.specs.Contents.{absorbed_build, settled_base};
 ghost use Rattle.profile_injection.specs.Injection.{inject, inject_base, inject_build, inject_build_base, profiles_at};
 
 use crate::contents::{gathered_base, gathered_build};
-use model_merge::{absorbed, copies, settled};
-use model_types::{Build, BuildBase, ModelBase, Profile, RawModel};
-use mvn_shared::{Mem, Shared};
+use model_merge::{absorbed, copies, each_settled, settled};
+use model_types::{Build, BuildBase, ModelBase, Plugin, Profile, RawModel};
+use mvn_shared::{List, Mem, Shared};
 use std::alloc::Global;
 
 // Of equal keys the last one counts.
@@ -38,16 +40,25 @@ fn inject_base(
     settled_base(alloc, &gathered_base(own, profiles, places)?)
 }
 
-// A build's plugins, merged with further ones.
+// Plugins, each settled and merged with further ones.
+fn absorbed_plugins(
+    alloc: Global,
+    own: &List<Shared<Plugin>>,
+    further: &List<Shared<Plugin>>,
+) -> Mem<List<Shared<Plugin>>>
+    ensures { IfOk result (λ list. list ≡ merging.absorbed key_of_plugin merged_plugin
+        (map settled_plugin own.now) further.now) }
+{
+    let own = each_settled(alloc, own.as_slice())?;
+    absorbed(alloc, own.as_slice(), further.as_slice())
+}
+
+// A build's plugins, each settled and merged with further ones.
 fn absorbed_build(alloc: Global, own: &BuildBase, further: &BuildBase) -> Mem<BuildBase>
     ensures { IfOk result (λ build. build ≡ absorbed_build own.now further.now) }
 {
-    let plugins = absorbed(alloc, own.plugins.as_slice(), further.plugins.as_slice())?;
-    let managed_plugins = absorbed(
-        alloc,
-        own.managed_plugins.as_slice(),
-        further.managed_plugins.as_slice(),
-    )?;
+    let plugins = absorbed_plugins(alloc, &own.plugins, &further.plugins)?;
+    let managed_plugins = absorbed_plugins(alloc, &own.managed_plugins, &further.managed_plugins)?;
     Ok(BuildBase {
         plugins,
         managed_plugins,

@@ -1,0 +1,7 @@
+mod Composed
+mod FirstOfEach
+mod Keys
+mod Merges
+mod Places
+mod Plugins
+mod Worked

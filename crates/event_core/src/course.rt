@@ -1,14 +1,12 @@
 // What a worker is at, and what may come next there.
-ghost use Rattle.std.specs.Prelude.{◌≡◌, ◌&&◌, nat_lt, ℕ, List, [], true, slice_get, Some, None, option_map, option_and_then};
+ghost use Rattle.std.specs.Prelude.{◌≡◌, nat_lt, ℕ, List, [], true, None};
 ghost use Rattle.event_core.specs.declared.outline.Outline.{Outline};
-ghost use Rattle.event_core.specs.Scripts.{done, head, is_gathered, is_to_install, may_end, published_by, read_by, settled, stage_of, wanted};
+ghost use Rattle.event_core.specs.Scripts.{settled};
 ghost use Rattle.event_core.specs.Standing.{after_deed, after_free, goals_of, is_empty, module_of, on_course, start_of};
-ghost use Rattle.event_core.specs.Enabled.{goal_in_range, is_due, is_this, may_end_so, needs_artifact, off_ends, on_ends};
+ghost use Rattle.event_core.specs.Enabled.{goal_in_range, is_due, is_this, may_end_so, off_ends, on_ends};
 ghost use Rattle.event_core.specs.Causes.{missing_due, publish_due, read_due, stage_at};
-ghost use Rattle.event_core.specs.declared.outline.ModuleOutline.{ModuleOutline};
-ghost use Rattle.event_core.specs.declared.script_place.ScriptPlace.{ScriptPlace};
 ghost use Rattle.event_core.specs.Climbing.{but};
-ghost use Rattle.event_core.specs.HeldAt.{CourseHolds, HoldsAt, HoldsBehind, HoldsThen, IsHeldThen};
+ghost use Rattle.event_core.specs.HeldAt.{CourseHolds, IsHeldThen};
 ghost use Rattle.event_core.specs.Outlines.{is_listed};
 ghost use Rattle.event_core.specs.Kept.{course_at, script_at};
 

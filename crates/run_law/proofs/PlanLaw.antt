@@ -1,24 +1,15 @@
 -- The law's premises hold together on the sample plan, and its run ends as in the sequential build; so does what a fault didn't touch.
-use Rattle.std.proofs.Common.{◌≡◌, ℕ, zero, suc, Bool, true, false, nat_eq, ◌||◌, List, [], ◌∷◌, Some, None, is_some, refl, arith, sym, ap, subst, ◌∙◌}
+use Rattle.std.proofs.Common.{◌≡◌, ℕ, zero, suc, Bool, true, false, nat_eq, ◌||◌, List, [], ◌∷◌, Some, None, is_some, refl, arith, sym, ap, subst}
 use Rattle.std.proofs.lemmas.Bool.{eqb-true, false≢true}
 use Rattle.mvn_shared.specs.Files.{Files, file_at}
-use Rattle.name_locks.specs.declared.mode.Mode.TheVariants.{Shared, Exclusive}
-use Rattle.goal_types.specs.declared.goal.GoalAnswer.TheVariants.{Produced}
-use Rattle.build_core.specs.declared.ending.Device.TheVariants.{Gate}
 use Rattle.build_core.specs.declared.ending.Ending.TheVariants as ending
 use Rattle.build_core.specs.declared.ending.State.TheVariants.{Ended}
-use Rattle.build_core.specs.declared.event.Event.TheVariants as event
 use Rattle.build_core.specs.OneThread.{answer_at}
-use Rattle.event_core.specs.declared.entry.RunEntry.{RunEntry}
-use Rattle.event_core.specs.Causes.{cause_now}
-use Rattle.event_core.specs.Outlines.{is_listed, outline_of}
-use Rattle.event_core.specs.Runs.{IsComplete, IsQuiet, IsRunOf, answers_in, events_of}
-use Rattle.event_core.specs.Standing.{after, upstream_of}
-use Rattle.event_core.specs.Worlds.{AllFit, HandTold}
+use Rattle.event_core.specs.Runs.{IsQuiet, answers_in}
+use Rattle.event_core.specs.Standing.{after}
 use Rattle.run_law.specs.Closed.{state_at}
 use Rattle.run_law.specs.Given.{Given, IsFitting, IsPresent, IsUntouched, IsWhole, is_fault, sequential, state_after, untouched}
 use Rattle.run_law.specs.SamplePlan.{plan, sound}
-use Rattle.run_law.proofs.Checks.{run_is}
 use Rattle.run_law.proofs.Extending.{extends_itself}
 use Rattle.run_law.proofs.Laws.{same_states, untouched_state}
 use Rattle.run_law.proofs.PlanRuns.{faulty, faulty_ends, faulty_fits, faulty_runs, whole, whole_ends, whole_fits, whole_quiet, whole_runs}

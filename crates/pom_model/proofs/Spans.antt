@@ -1,5 +1,5 @@
 -- The lines of the table under a kind of element are found where they stand, and nowhere else.
-use Rattle.std.proofs.Common.{◌≡◌, ℕ, Bor, zero, suc, ◌-◌, Bool, true, false, ◌&&◌, not, List, [], ◌∷◌, map, take, drop, find, Option, Some, is_some, option_map, refl, sym, ap, ◌∙◌, if◌then◌else◌}
+use Rattle.std.proofs.Common.{◌≡◌, ℕ, Bor, zero, suc, ◌-◌, ◌≤◌, arith, subst, Bool, true, false, ◌&&◌, not, List, [], ◌∷◌, map, take, drop, find, Option, Some, is_some, option_map, refl, sym, ap, ◌∙◌, if◌then◌else◌}
 use Rattle.std.specs.List.{filter}
 use Rattle.pom_text.specs.declared.node.Node.{Node}
 use Rattle.pom_model.specs.declared.table.Kind.{Kind}
@@ -86,7 +86,51 @@ map_taken f zero xs = refl
 map_taken f (suc n) [] = refl
 map_taken f (suc n) (x ∷ xs) = ap (λ l. f x ∷ l) (map_taken f n xs)
 
-pub cut_so : (k : Kind) (rows cut : List (Kind × Bor (List ℕ) × Kind × Times)) → map row_view rows ≡ table → cut ≡ take ((span k).1 - (span k).0) (drop (span k).0 rows) → map row_view cut ≡ rows_under k
-cut_so k rows cut all is =
-    let n = (span k).1 - (span k).0 in
-    ap (map row_view) is ∙ map_taken row_view n (drop (span k).0 rows) ∙ ap (take n) (map_dropped row_view (span k).0 rows) ∙ ap (λ t. take n (drop (span k).0 t)) all ∙ span_so k
+-- within the table
+record IsSpan (s : ℕ × ℕ) : Type 0 where
+  pub ordered : s.0 ≤ s.1
+  pub low : s.1 ≤ 89
+
+span_fits : (k : Kind) → IsSpan (span k)
+span_fits kind.Project = record { ordered = omega arith; low = omega arith }
+span_fits kind.Parent = record { ordered = omega arith; low = omega arith }
+span_fits kind.Modules = record { ordered = omega arith; low = omega arith }
+span_fits kind.Properties = record { ordered = omega arith; low = omega arith }
+span_fits kind.DependencyManagement = record { ordered = omega arith; low = omega arith }
+span_fits kind.Dependencies = record { ordered = omega arith; low = omega arith }
+span_fits kind.Dependency = record { ordered = omega arith; low = omega arith }
+span_fits kind.Exclusions = record { ordered = omega arith; low = omega arith }
+span_fits kind.Exclusion = record { ordered = omega arith; low = omega arith }
+span_fits kind.Build = record { ordered = omega arith; low = omega arith }
+span_fits kind.Resources = record { ordered = omega arith; low = omega arith }
+span_fits kind.TestResources = record { ordered = omega arith; low = omega arith }
+span_fits kind.Resource = record { ordered = omega arith; low = omega arith }
+span_fits kind.PluginManagement = record { ordered = omega arith; low = omega arith }
+span_fits kind.Plugins = record { ordered = omega arith; low = omega arith }
+span_fits kind.Plugin = record { ordered = omega arith; low = omega arith }
+span_fits kind.Executions = record { ordered = omega arith; low = omega arith }
+span_fits kind.Execution = record { ordered = omega arith; low = omega arith }
+span_fits kind.Goals = record { ordered = omega arith; low = omega arith }
+span_fits kind.Extensions = record { ordered = omega arith; low = omega arith }
+span_fits kind.Extension = record { ordered = omega arith; low = omega arith }
+span_fits kind.Configuration = record { ordered = omega arith; low = omega arith }
+span_fits kind.Profiles = record { ordered = omega arith; low = omega arith }
+span_fits kind.Profile = record { ordered = omega arith; low = omega arith }
+span_fits kind.ProfileBuild = record { ordered = omega arith; low = omega arith }
+span_fits kind.Activation = record { ordered = omega arith; low = omega arith }
+span_fits kind.ActivationProperty = record { ordered = omega arith; low = omega arith }
+span_fits kind.ActivationFile = record { ordered = omega arith; low = omega arith }
+span_fits kind.ActivationOs = record { ordered = omega arith; low = omega arith }
+span_fits kind.Leaf = record { ordered = omega arith; low = omega arith }
+
+pub span_ordered : (k : Kind) (s : ℕ × ℕ) → s ≡ span k → s.0 ≤ s.1
+span_ordered k s is = subst (λ p. p.0 ≤ p.1) (sym is) (span_fits k).ordered
+
+pub span_low : (k : Kind) (s : ℕ × ℕ) → s ≡ span k → s.1 ≤ 89
+span_low k s is = subst (λ p. p.1 ≤ 89) (sym is) (span_fits k).low
+
+pub cut_so : (k : Kind) (s : ℕ × ℕ) (rows cut : List (Kind × Bor (List ℕ) × Kind × Times)) → s ≡ span k → map row_view rows ≡ table → cut ≡ take (s.1 - s.0) (drop s.0 rows) → map row_view cut ≡ rows_under k
+cut_so k s rows cut same all is =
+    let n = s.1 - s.0 in
+    ap (map row_view) is ∙ map_taken row_view n (drop s.0 rows) ∙ ap (take n) (map_dropped row_view s.0 rows) ∙ ap (λ t. take n (drop s.0 t)) all
+    ∙ ap (λ p. take (p.1 - p.0) (drop p.0 table)) same ∙ span_so k

@@ -359,7 +359,7 @@ fn rows() -> &'static [Row]
 }
 
 /// The lines of the table under a kind of element, in its order. Constant time.
-#[tactic(auto, using(crate::proofs::Spans::cut_so))]
+#[tactic(auto, using(crate::proofs::Spans::span_ordered, crate::proofs::Spans::span_low, crate::proofs::Spans::cut_so))]
 pub(crate) fn rows_under(kind: Kind) -> &'static [Row]
     ensures { map row_view result.now ≡ rows_under kind }
 {

@@ -129,8 +129,8 @@ span_ordered k s is = subst (λ p. p.0 ≤ p.1) (sym is) (span_fits k).ordered
 pub span_low : (k : Kind) (s : ℕ × ℕ) → s ≡ span k → s.1 ≤ 89
 span_low k s is = subst (λ p. p.1 ≤ 89) (sym is) (span_fits k).low
 
-pub cut_so : (k : Kind) (s : ℕ × ℕ) (rows cut : List (Kind × Bor (List ℕ) × Kind × Times)) → s ≡ span k → map row_view rows ≡ table → cut ≡ take (s.1 - s.0) (drop s.0 rows) → map row_view cut ≡ rows_under k
-cut_so k s rows cut same all is =
+pub cut_so : (k : Kind) (s : ℕ × ℕ) (rows : List (Kind × Bor (List ℕ) × Kind × Times)) → s ≡ span k → map row_view rows ≡ table → map row_view (take (s.1 - s.0) (drop s.0 rows)) ≡ rows_under k
+cut_so k s rows same all =
     let n = s.1 - s.0 in
-    ap (map row_view) is ∙ map_taken row_view n (drop s.0 rows) ∙ ap (take n) (map_dropped row_view s.0 rows) ∙ ap (λ t. take n (drop s.0 t)) all
+    map_taken row_view n (drop s.0 rows) ∙ ap (take n) (map_dropped row_view s.0 rows) ∙ ap (λ t. take n (drop s.0 t)) all
     ∙ ap (λ p. take (p.1 - p.0) (drop p.0 table)) same ∙ span_so k

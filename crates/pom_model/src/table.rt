@@ -359,7 +359,7 @@ fn rows() -> &'static [Row]
 }
 
 /// The lines of the table under a kind of element, in its order. Constant time.
-#[tactic(auto, using(crate::proofs::Spans::span_ordered, crate::proofs::Spans::span_low, crate::proofs::Spans::cut_so))]
+#[tactic(auto, using(crate::proofs::Spans::span_ordered, crate::proofs::Spans::span_low))]
 pub(crate) fn rows_under(kind: Kind) -> &'static [Row]
     ensures { map row_view result.now ≡ rows_under kind }
 {
@@ -380,7 +380,6 @@ fn found_among(rows: &[Row], name: &str) -> Option<(Kind, Times)>
 }
 
 /// What the table says of an element, by what it stands in and its name. Costs comparing names.
-#[tactic(auto, using(crate::proofs::Spans::found_so))]
 pub(crate) fn found(under: Kind, name: &str) -> Option<(Kind, Times)>
     ensures { result ≡ found under name.now }
 {

@@ -2,3 +2,4 @@ pub mod Walks
 pub mod Settings
 pub mod Pairs
 pub mod Lacking
+pub mod Spans

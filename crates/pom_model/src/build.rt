@@ -1,5 +1,6 @@
-ghost use Rattle.std.specs.Prelude.{◌≡◌, flat_map, IfOk};
+ghost use Rattle.std.specs.Prelude.{◌≡◌, codes, flat_map, IfOk};
 ghost use Rattle.std.specs.Option.{option_copied};
+ghost use Rattle.pom_model.specs.Elements.{named, text_of};
 ghost use Rattle.pom_model.specs.Fields.{build, build_base, directories, directories_among, outputs, sources};
 
 use crate::element::{child, named, text_of};
@@ -10,13 +11,20 @@ use mvn_shared::{List, Mem, Shared, Text};
 use pom_text::Node;
 use std::alloc::Global;
 
+// The folder of one of a name.
+fn directory(alloc: Global, nodes: &[Node], k: u32, name: &str) -> Mem<Option<Text>>
+    ensures { IfOk result (λ text. text ≡ text_of nodes.now (codes "directory") (named nodes.now name.now k)) }
+{
+    text_of(alloc, nodes, named(nodes, k, name), "directory")
+}
+
 // The folders of those of a name among some.
 fn directories_among(alloc: Global, nodes: &[Node], name: &str, ks: &[u32]) -> Mem<List<Text>>
     ensures { IfOk result (λ list. list ≡ directories_among nodes.now name.now ks.now) }
 {
     let mut list = List::new(alloc);
     for k in ks {
-        if let Some(directory) = text_of(alloc, nodes, named(nodes, *k, name), "directory")? {
+        if let Some(directory) = directory(alloc, nodes, *k, name)? {
             list.push(directory)?;
         }
     }

@@ -42,6 +42,7 @@ fn os(alloc: Global, nodes: &[Node], node: Option<&Node>) -> Mem<Option<Os>>
 }
 
 // The text of a file's element, where a profile goes by a file.
+#[tactic(auto, unfolding(crate::specs::Fields::file_text))]
 fn file_text(alloc: Global, nodes: &[Node], node: &Node, name: &str) -> Mem<Option<Text>>
     ensures { IfOk result (λ text. text ≡ file_text nodes.now name.now node.now) }
 {

@@ -20,14 +20,21 @@ use std::alloc::Global;
 /// Where a parent is looked for first, where its child doesn't say.
 const PARENT_PATH: &str = "../pom.xml";
 
-// Where a parent is looked for first: an empty path is kept.
-fn relative_path(alloc: Global, nodes: &[Node], node: &Node) -> Mem<Text>
-    ensures { IfOk result (λ text. text ≡ path_text (child nodes.now (codes "relativePath") (Some node.now))) }
+// The path that an element states, where it is there: an empty path is kept.
+fn path_text(alloc: Global, path: Option<&Node>) -> Mem<Text>
+    ensures { IfOk result (λ text. text ≡ path_text (option_copied path.entry)) }
 {
-    match child(nodes, Some(node), "relativePath") {
+    match path {
         Some(path) => own_text(alloc, path),
         None => Text::from_str(alloc, PARENT_PATH),
     }
+}
+
+// Where a parent is looked for first.
+fn relative_path(alloc: Global, nodes: &[Node], node: &Node) -> Mem<Text>
+    ensures { IfOk result (λ text. text ≡ path_text (child nodes.now (codes "relativePath") (Some node.now))) }
+{
+    path_text(alloc, child(nodes, Some(node), "relativePath"))
 }
 
 // The POM that a POM builds on.

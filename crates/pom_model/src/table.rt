@@ -1,5 +1,6 @@
-ghost use Rattle.std.specs.Prelude.{◌≡◌, map, find, option_map};
-ghost use Rattle.pom_model.specs.Table.{found, is_row, kind_number, row_view, table};
+ghost use Rattle.std.specs.Prelude.{◌≡◌, length, map, find, option_map};
+ghost use Rattle.pom_model.specs.Spans.{is_named, rows_under, span};
+ghost use Rattle.pom_model.specs.Table.{found, kind_number, row_view, table};
 
 /// What an element of a POM is read as.
 #[derive(Clone, Copy)]
@@ -310,30 +311,77 @@ impl Kind {
     }
 }
 
-// What the first of these rows says of an element.
-fn found_among(rows: &[Row], under: Kind, name: &str) -> Option<(Kind, Times)>
-    ensures { result ≡ option_map (λ r. (r.inner, r.times)) (find (is_row under name.now) (map row_view rows.now)) }
+// Where the lines of a kind of element stand in the table, and where they end.
+fn span(kind: Kind) -> (usize, usize)
+    ensures { result ≡ span kind }
 {
-    for (kind, element, inner, times) in rows {
-        if kind.number() == under.number() && (*element == "*" || *element == name) {
+    match kind {
+        Kind::Project => (0, 12),
+        Kind::Parent => (12, 16),
+        Kind::Modules => (16, 17),
+        Kind::Properties => (17, 18),
+        Kind::DependencyManagement => (18, 19),
+        Kind::Dependencies => (19, 20),
+        Kind::Dependency => (20, 28),
+        Kind::Exclusions => (28, 29),
+        Kind::Exclusion => (29, 31),
+        Kind::Build => (31, 42),
+        Kind::Resources => (42, 43),
+        Kind::TestResources => (43, 44),
+        Kind::Resource => (44, 45),
+        Kind::PluginManagement => (45, 46),
+        Kind::Plugins => (46, 47),
+        Kind::Plugin => (47, 54),
+        Kind::Executions => (54, 55),
+        Kind::Execution => (55, 60),
+        Kind::Goals => (60, 61),
+        Kind::Extensions => (61, 62),
+        Kind::Extension => (62, 65),
+        Kind::Configuration => (65, 66),
+        Kind::Profiles => (66, 67),
+        Kind::Profile => (67, 74),
+        Kind::ProfileBuild => (74, 76),
+        Kind::Activation => (76, 81),
+        Kind::ActivationProperty => (81, 83),
+        Kind::ActivationFile => (83, 85),
+        Kind::ActivationOs => (85, 89),
+        Kind::Leaf => (89, 89),
+    }
+}
+
+// All lines of the table.
+#[tactic(auto, unfolding(crate::specs::Table::table))]
+fn rows() -> &'static [Row]
+    ensures rows { map row_view result.now ≡ table }
+    ensures len { length result.now ≡ 89 }
+{
+    TABLE.as_slice()
+}
+
+/// The lines of the table under a kind of element, in its order. Constant time.
+#[tactic(auto, using(crate::proofs::Spans::span_ordered, crate::proofs::Spans::span_low))]
+pub(crate) fn rows_under(kind: Kind) -> &'static [Row]
+    ensures { map row_view result.now ≡ rows_under kind }
+{
+    let (from, to) = span(kind);
+    &rows()[from..to]
+}
+
+// What the first of these lines says of an element of this name.
+fn found_among(rows: &[Row], name: &str) -> Option<(Kind, Times)>
+    ensures { result ≡ option_map (λ r. (r.inner, r.times)) (find (is_named name.now) (map row_view rows.now)) }
+{
+    for (_, element, inner, times) in rows {
+        if *element == "*" || *element == name {
             return Some((*inner, *times));
         }
     }
     None
 }
 
-/// All of its lines.
-#[tactic(auto, unfolding(crate::specs::Table::table))]
-pub(crate) fn rows() -> &'static [Row]
-    ensures { map row_view result.now ≡ table }
-{
-    TABLE.as_slice()
-}
-
-/// What the table says of an element, by what it stands in and its name. Constant time, besides comparing names.
-#[tactic(auto, unfolding(crate::specs::Table::found))]
+/// What the table says of an element, by what it stands in and its name. Costs comparing names.
 pub(crate) fn found(under: Kind, name: &str) -> Option<(Kind, Times)>
     ensures { result ≡ found under name.now }
 {
-    found_among(rows(), under, name)
+    found_among(rows_under(under), name)
 }

@@ -1,10 +1,11 @@
-ghost use Rattle.std.specs.Prelude.{◌≡◌, ◌<◌, ◌≤◌, ℕ, Some, map, length, option_map, is_some, slice_get, IfOk};
-ghost use Rattle.pom_model.specs.Faults.{begun, combines, ended, fault_within, first_fault, has_name, is_alone, is_combine, is_kind, is_required, missing, missing_name, read_child, version_fault};
+ghost use Rattle.std.specs.Prelude.{◌≡◌, ◌<◌, ◌≤◌, ℕ, Some, map, find, length, option_map, is_some, slice_get, IfOk};
+ghost use Rattle.pom_model.specs.Faults.{begun, combines, ended, fault_within, first_fault, has_name, is_alone, is_combine, is_kind, is_required, missing, read_child, version_fault};
+ghost use Rattle.pom_model.specs.Spans.{is_lacking};
 ghost use Rattle.pom_model.specs.Table.{row_view};
 
 use crate::element::{child, is_filled, named, text_or};
 use crate::fault::{Fault, Spot};
-use crate::table::{Kind, Row, Times, found, rows};
+use crate::table::{Kind, Row, Times, found, rows_under};
 use mvn_base::Rule;
 use mvn_shared::{Mem, Text};
 use pom_text::Node;
@@ -104,18 +105,12 @@ impl Times {
     }
 }
 
-// The first name of these rows that an element lacks.
-fn missing_name(
-    rows: &[Row],
-    nodes: &[Node],
-    kind: Kind,
-    node: &Node,
-    alone: bool,
-) -> Option<&'static str>
-    ensures { option_map (λ name. name.now) result ≡ missing_name (map row_view rows.now) nodes.now kind node.now alone }
+// The first name of these lines that an element lacks.
+fn missing_among(rows: &[Row], nodes: &[Node], node: &Node, alone: bool) -> Option<&'static str>
+    ensures { option_map (λ name. name.now) result ≡ option_map (λ r. r.name) (find (is_lacking nodes.now node.now alone) (map row_view rows.now)) }
 {
-    for (under, name, _, times) in rows {
-        if under.is(kind) && times.is_required(alone) && !is_filled(nodes, node, name) {
+    for (_, name, _, times) in rows {
+        if times.is_required(alone) && !is_filled(nodes, node, name) {
             return Some(*name);
         }
     }
@@ -123,12 +118,12 @@ fn missing_name(
 }
 
 // What an element lacks, first in the table's order.
-#[tactic(auto, unfolding(crate::specs::Faults::missing))]
+#[tactic(auto, using(crate::proofs::Spans::missing_so), unfolding(crate::specs::Faults::missing))]
 fn first_missing(alloc: Global, nodes: &[Node], kind: Kind, node: &Node) -> Mem<Option<Fault>>
     ensures { IfOk result (λ fault. fault ≡ missing nodes.now kind node.now) }
 {
     let alone = child(nodes, Some(node), "parent").is_none();
-    match missing_name(rows(), nodes, kind, node, alone) {
+    match missing_among(rows_under(kind), nodes, node, alone) {
         Some(name) => Ok(Some(Fault::at_path(alloc, Rule::MissingField, name)?)),
         None => Ok(None),
     }

@@ -1,5 +1,5 @@
 -- The lines of the table under a kind of element are found where they stand, and nowhere else.
-use Rattle.std.proofs.Common.{◌≡◌, ℕ, Bor, zero, suc, ◌-◌, ◌≤◌, arith, subst, Bool, true, false, ◌&&◌, not, List, [], ◌∷◌, map, take, drop, find, Option, Some, is_some, option_map, refl, sym, ap, ◌∙◌, if◌then◌else◌}
+use Rattle.std.proofs.Common.{◌≡◌, ℕ, Bor, zero, suc, ◌-◌, ◌≤◌, arith, subst, Bool, true, false, ◌&&◌, not, List, [], ◌∷◌, map, take, drop, find, Some, is_some, option_map, refl, sym, ap, ◌∙◌, if◌then◌else◌}
 use Rattle.std.specs.List.{filter}
 use Rattle.pom_text.specs.declared.node.Node.{Node}
 use Rattle.pom_model.specs.declared.table.Kind.{Kind}

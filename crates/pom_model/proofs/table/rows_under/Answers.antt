@@ -1,4 +1,3 @@
-use Rattle.std.proofs.Common.{refl}
 use Rattle.pom_model.proofs.Spans.{cut_so}
 use Rattle.pom_model.proofs.table.rows_under.Goals as goal
 

@@ -1,3 +1,4 @@
 pub mod Faults
 pub mod Spellings
 pub mod Options
+pub mod WordExamples

@@ -1,8 +1,8 @@
 -- What the words of a command line mean, read from the left: the first fault counts. Maven's command-line options, with own
 -- rules for what Maven leaves out.
-use Rattle.std.specs.Prelude.{ℕ, ◌+◌, ◌-◌, ◌*◌, Bool, true, false, not, ◌&&◌, ◌||◌, ◌==◌, nat_lt, List, [], ◌∷◌, ◌++◌, length, map, drop, fold, codes, Option, Some, None, is_some, Result, Ok, Err, if◌then◌else◌}
-use Rattle.std.specs.List.{list_any, list_all, slice_split}
-use Rattle.std.specs.Char.{is_ascii_digit}
+use Rattle.std.specs.Prelude.{ℕ, ◌+◌, ◌-◌, ◌*◌, Bool, true, false, not, ◌&&◌, ◌||◌, ◌==◌, nat_lt, List, [], ◌∷◌, ◌++◌, length, map, flat_map, take, drop, fold, codes, Option, Some, None, is_some, Result, Ok, Err, if◌then◌else◌}
+use Rattle.std.specs.List.{list_any, list_all, slice_split, prefix_len, suffix_len}
+use Rattle.std.specs.Char.{is_ascii_digit, is_ascii_whitespace}
 use Rattle.std.specs.Str.{is_utf8}
 use Rattle.mvn_base.specs.Phase.{phase_of}
 use Rattle.mvn_base.specs.declared.phase.Phase.{Phase}
@@ -45,6 +45,20 @@ number word = if list_all is_ascii_digit word && not (begins_with 48 word) then 
 abbrev pub parts : List ℕ → List (List ℕ)
 parts word = slice_split (λ b. b == 44) word
 
+-- a text without the white space round it
+unfoldable pub trimmed : List ℕ → List ℕ
+trimmed text = without_end (drop (prefix_len is_ascii_whitespace text) text)
+  where
+    without_end : List ℕ → List ℕ
+    without_end rest = take (length rest - suffix_len is_ascii_whitespace rest) rest
+
+-- the items of a list: its parts without the white space round them, where anything is left
+abbrev pub item : List ℕ → List (List ℕ)
+item part = if length (trimmed part) == 0 then [] else trimmed part ∷ []
+
+abbrev pub items : List ℕ → List (List ℕ)
+items value = flat_map item (parts value)
+
 -- one id more: `-id` and `!id` switch a profile off, `id` and `+id` on
 abbrev pub with_id : Choice → List ℕ → Choice
 with_id choice [] = record { on = choice.on ++ [] ∷ []; off = choice.off }
@@ -66,6 +80,10 @@ abbrev pub is_bad_selector : List ℕ → Bool
 is_bad_selector [] = true
 is_bad_selector (b ∷ selector) = b == 33 || b == 45 || b == 43
 
+-- no selectors, or one that is none
+abbrev pub are_bad_selectors : List (List ℕ) → Bool
+are_bad_selectors selectors = length selectors == 0 || list_any is_bad_selector selectors
+
 abbrev pub selector : ℕ → List ℕ → Word
 selector at text = record { place = at; text = text }
 
@@ -78,10 +96,10 @@ with_workers at value line = by (number value)
     by (Some n) = Ok (record line { workers = Some (record { place = at; value = n }) })
 
 abbrev pub with_profiles : List ℕ → Line → Line
-with_profiles value line = record line { choice = fold with_id line.choice (parts value) }
+with_profiles value line = record line { choice = fold with_id line.choice (items value) }
 
 abbrev pub with_define : ℕ → List ℕ → Line → Result Line WordFault
-with_define at value line = by (name_of value)
+with_define at value line = by (trimmed (name_of value))
   where
     by : List ℕ → Result Line WordFault
     by [] = fault at UnknownWord
@@ -89,12 +107,12 @@ with_define at value line = by (name_of value)
 
 abbrev pub with_projects : ℕ → List ℕ → Line → Result Line WordFault
 with_projects at value line =
-    if list_any is_bad_selector (parts value) then fault at BadSelector
-    else Ok (record line { projects = line.projects ++ map (selector at) (parts value) })
+    if are_bad_selectors (items value) then fault at BadSelector
+    else Ok (record line { projects = line.projects ++ map (selector at) (items value) })
 
 abbrev pub with_from : ℕ → List ℕ → Line → Result Line WordFault
 with_from at value line =
-    if is_bad_selector value then fault at BadSelector else Ok (record line { from = Some (selector at value) })
+    if is_bad_selector (trimmed value) then fault at BadSelector else Ok (record line { from = Some (selector at (trimmed value)) })
 
 unfoldable pub with_value : ℕ → Wanted → List ℕ → Line → Result Line WordFault
 with_value at Workers value line = with_workers at value line
@@ -136,14 +154,22 @@ phase_word at word line = by (phase_of word)
     by None = fault at UnknownPhase
     by (Some phase) = if is_some line.phase then fault at TwoPhases else first phase
 
--- a word that isn't an option by itself
-abbrev pub other_word : ℕ → List ℕ → Line → Result Line WordFault
-other_word at word line =
+-- a phase, or an option of one letter with its value behind it
+abbrev pub joined_word : ℕ → List ℕ → Line → Result Line WordFault
+joined_word at word line =
     if not (begins_with 45 word) then phase_word at word line
     else (if begins_with 84 (drop 1 word) then joined_value at Workers (drop 2 word) line
     else (if begins_with 80 (drop 1 word) then joined_value at Profiles (drop 2 word) line
     else (if begins_with 68 (drop 1 word) then joined_value at Define (drop 2 word) line
     else fault at UnknownWord)))
+
+-- a word that isn't an option by itself: `-P=x` and `--projects=x` are an option and its value
+abbrev pub other_word : ℕ → List ℕ → Line → Result Line WordFault
+other_word at word line = by (spelled (name_of word))
+  where
+    by : Option Spelling → Result Line WordFault
+    by (Some (Takes wanted)) = joined_value at wanted (value_of word) line
+    by other = joined_word at word line
 
 abbrev pub with_spelling : Spelling → Line → Line
 with_spelling (Takes wanted) line = record line { awaits = Some wanted }

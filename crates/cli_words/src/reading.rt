@@ -1,11 +1,11 @@
 ghost use Rattle.std.specs.Prelude.{◌≡◌, ◌≤◌, true, is_some};
 ghost use Rattle.cli_words.specs.Faults.{Answers};
-ghost use Rattle.cli_words.specs.Options.{is_there, joined_value, next_value, next_word, option_word, other_word, phase_word, with_spelling};
+ghost use Rattle.cli_words.specs.Options.{is_there, joined_value, joined_word, next_value, next_word, option_word, other_word, phase_word, with_spelling};
 
 use crate::fault::{WordError, WordKind, fault};
 use crate::line::Line;
 use crate::spelling::{Spelling, Wanted, spelled};
-use crate::value::text_of;
+use crate::value::{name_of, text_of, value_of};
 use mvn_base::{Phase, phase_of};
 use std::alloc::Global;
 
@@ -54,10 +54,10 @@ impl Line {
         }
     }
 
-    // A word that isn't an option by itself.
+    // A phase, or an option of one letter with its value behind it.
     #[tactic(auto, using(crate::proofs::Texts::third_boundary))]
-    fn other_word(self, alloc: Global, at: u32, word: &str) -> Result<Line, WordError>
-        ensures { Answers (other_word at word.now self) result }
+    fn joined_word(self, alloc: Global, at: u32, word: &str) -> Result<Line, WordError>
+        ensures { Answers (joined_word at word.now self) result }
     {
         match word.as_bytes() {
             [b'-', b'T', ..] => self.joined_value(alloc, at, Wanted::Workers, &word[2..]),
@@ -65,6 +65,18 @@ impl Line {
             [b'-', b'D', ..] => self.joined_value(alloc, at, Wanted::Define, &word[2..]),
             [b'-', ..] => Err(fault(at, WordKind::UnknownWord)),
             _ => self.phase_word(at, word),
+        }
+    }
+
+    // A word that isn't an option by itself.
+    fn other_word(self, alloc: Global, at: u32, word: &str) -> Result<Line, WordError>
+        ensures { Answers (other_word at word.now self) result }
+    {
+        match spelled(name_of(word)) {
+            Some(Spelling::Takes(wanted)) => {
+                self.joined_value(alloc, at, wanted, value_of(word))
+            }
+            _ => self.joined_word(alloc, at, word),
         }
     }
 

@@ -3,7 +3,7 @@ ghost use Rattle.std.specs.Option.{MatchOption};
 ghost use Rattle.std.specs.Str.{is_utf8};
 ghost use Rattle.std.specs.List.{list_all, slice_split};
 ghost use Rattle.std.specs.Char.{is_ascii_digit};
-ghost use Rattle.cli_words.specs.Options.{digit, digits_value, is_bad_selector, name_of, number, value_of};
+ghost use Rattle.cli_words.specs.Options.{digit, digits_value, is_bad_selector, items, name_of, number, trimmed, value_of};
 
 use std::alloc::{AllocError, Global};
 
@@ -44,11 +44,33 @@ pub(crate) fn number(word: &[u8]) -> Option<u32>
     }
 }
 
-/// The texts between commas. Costs the text's length.
-pub(crate) fn parts<'a>(alloc: Global, value: &'a str) -> Result<Vec<&'a str>, AllocError>
+// The texts between commas.
+fn parts<'a>(alloc: Global, value: &'a str) -> Result<Vec<&'a str>, AllocError>
     ensures { IfOk result (λ found. map (λ x. x.now) found.items ≡ slice_split (λ b. b == 44) value.now) }
 {
     value.split(',').collect(alloc)
+}
+
+/// A text without the white space round it. Costs the white space's length.
+pub(crate) fn trimmed(text: &str) -> &str
+    ensures { result.now ≡ trimmed text.now }
+{
+    text.trim_ascii()
+}
+
+/// The items of a list: the texts between commas without the white space round them, where anything is left. Costs the text's length.
+pub(crate) fn items<'a>(alloc: Global, value: &'a str) -> Result<Vec<&'a str>, AllocError>
+    ensures { IfOk result (λ found. map (λ x. x.now) found.items ≡ items value.now) }
+{
+    let mut items = Vec::new(alloc);
+    let parts = parts(alloc, value)?;
+    for part in &parts {
+        let item = trimmed(part);
+        if !item.is_empty() {
+            items.push(item)?;
+        }
+    }
+    Ok(items)
 }
 
 /// Whether a text is no selector: empty, or one that would leave a module out. Constant time.

@@ -1,13 +1,13 @@
 ghost use Rattle.std.specs.Prelude.{◌≡◌, ◌++◌, map, fold, Some, None, if◌then◌else◌, IfOk};
 ghost use Rattle.std.specs.List.{list_any};
 ghost use Rattle.cli_words.specs.Faults.{Answers};
-ghost use Rattle.cli_words.specs.Options.{is_bad_selector, parts, selector, with_define, with_from, with_id, with_profiles, with_projects, with_value, with_workers};
+ghost use Rattle.cli_words.specs.Options.{are_bad_selectors, is_bad_selector, items, selector, with_define, with_from, with_id, with_profiles, with_projects, with_value, with_workers};
 
 use crate::command_line::Word;
 use crate::fault::{WordError, WordKind, fault};
 use crate::line::{Count, Line};
 use crate::spelling::Wanted;
-use crate::value::{is_bad_selector, name_of, number, parts, value_of};
+use crate::value::{is_bad_selector, items, name_of, number, trimmed, value_of};
 use mvn_base::{Choice, Pair};
 use mvn_shared::{List, Mem, Text};
 use std::alloc::Global;
@@ -30,10 +30,11 @@ impl Line {
     fn with_from(mut self, alloc: Global, at: u32, value: &str) -> Result<Line, WordError>
         ensures { Answers (with_from at value.now self) result }
     {
-        if is_bad_selector(value) {
+        let selector = trimmed(value);
+        if is_bad_selector(selector) {
             return Err(fault(at, WordKind::BadSelector));
         }
-        let text = Text::from_str(alloc, value)?;
+        let text = Text::from_str(alloc, selector)?;
         self.from = Some(Word { place: at, text });
         Ok(self)
     }
@@ -63,7 +64,7 @@ impl Line {
     fn with_define(mut self, alloc: Global, at: u32, value: &str) -> Result<Line, WordError>
         ensures { Answers (with_define at value.now self) result }
     {
-        let name = name_of(value);
+        let name = trimmed(name_of(value));
         if name.is_empty() {
             return Err(fault(at, WordKind::UnknownWord));
         }
@@ -94,6 +95,13 @@ impl Line {
     }
 }
 
+// Whether there is no selector, or one of these is none.
+fn are_bad_selectors(selectors: &[&str]) -> bool
+    ensures { result ≡ are_bad_selectors (map (λ x. x.now) selectors.now) }
+{
+    selectors.is_empty() || any_bad_selector(selectors)
+}
+
 fn any_bad_selector(selectors: &[&str]) -> bool
     ensures { result ≡ list_any is_bad_selector (map (λ x. x.now) selectors.now) }
 {
@@ -105,17 +113,18 @@ fn any_bad_selector(selectors: &[&str]) -> bool
     false
 }
 
-// The selectors that stand in one more word, unless one of them is none.
+// The selectors that stand in one more word, unless there is none or one of them is none.
 fn with_selectors(
     alloc: Global,
     mut projects: List<Word>,
     at: u32,
     value: &str,
 ) -> Mem<Option<List<Word>>>
-    ensures { IfOk result (λ more. more ≡ (if list_any is_bad_selector (parts value.now) then None else Some (projects ++ map (selector at) (parts value.now)))) }
+    ensures { IfOk result (λ more. more ≡ (if are_bad_selectors (items value.now) then None
+        else Some (projects ++ map (selector at) (items value.now)))) }
 {
-    let selectors = parts(alloc, value)?;
-    if any_bad_selector(&selectors) {
+    let selectors = items(alloc, value)?;
+    if are_bad_selectors(&selectors) {
         return Ok(None);
     }
     for selector in &selectors {
@@ -127,9 +136,9 @@ fn with_selectors(
 
 // The profiles that stand in one more word.
 fn with_ids(alloc: Global, mut choice: Choice, value: &str) -> Mem<Choice>
-    ensures { IfOk result (λ more. more ≡ fold with_id choice (parts value.now)) }
+    ensures { IfOk result (λ more. more ≡ fold with_id choice (items value.now)) }
 {
-    let ids = parts(alloc, value)?;
+    let ids = items(alloc, value)?;
     for id in &ids {
         choice = with_id(alloc, choice, id)?;
     }

@@ -1,7 +1,7 @@
 // How a module stands, and how it ends. Guide to Working with Multiple Modules, "Fail at end"; own as a whole.
 
 /// What may fail while a module is built.
-#[derive(Clone, Copy, Debug, PartialEq, Eq, PartialOrd, Ord, Hash)]
+#[derive(Clone, Copy, PartialEq, Eq)]
 pub enum Device {
     Remote,
     Area,
@@ -10,7 +10,7 @@ pub enum Device {
 }
 
 /// How a module ended. Numbers of goals are places in the module's list of goals, numbers of files in the plan's list.
-#[derive(Clone, Copy, Debug, PartialEq, Eq, PartialOrd, Ord, Hash)]
+#[derive(Clone, Copy, PartialEq, Eq)]
 pub enum Ending {
     Built,
     /// This goal failed.
@@ -27,7 +27,7 @@ pub enum Ending {
 }
 
 /// How a module stands.
-#[derive(Clone, Copy, Debug, PartialEq, Eq, PartialOrd, Ord, Hash)]
+#[derive(Clone, Copy, PartialEq, Eq)]
 pub enum State {
     Waiting,
     /// This worker builds it.

@@ -5,7 +5,7 @@ use name_locks::Mode;
 
 /// One step of a run. Workers are numbered by their hands; modules, names and files are places in the plan's lists, goals
 /// places in the list of the worker's module.
-#[derive(Clone, Copy, Debug, PartialEq, Eq)]
+#[derive(Clone, Copy, PartialEq, Eq)]
 pub enum Event {
     /// The worker begins the module.
     Start { worker: u32, module: u32 },
@@ -25,7 +25,7 @@ pub enum Event {
 }
 
 /// What a goal of a module answered, as it is kept.
-#[derive(Clone, Debug, Drop)]
+#[derive(Clone, Drop)]
 pub struct Answered {
     pub module: u32,
     pub goal: u32,

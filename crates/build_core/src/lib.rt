@@ -8,6 +8,3 @@ pub mod plan;
 pub use ending::{Device, Ending, State};
 pub use event::{Answered, Event};
 pub use plan::{Entry, Origin, OwnFile, Plan, PlanModule};
-
-#[cfg(test)]
-mod tests;

@@ -48,14 +48,14 @@ pub struct PlanModule {
 }
 
 /// A file that a module is installed as: the output of a slot.
-#[derive(Clone, Copy, Debug, PartialEq, Eq)]
+#[derive(Clone, Copy, PartialEq, Eq)]
 pub struct OwnFile {
     pub slot: Slot,
     pub file: u32,
 }
 
 /// Where the bytes of an entry of a classpath come from.
-#[derive(Clone, Copy, Debug, PartialEq, Eq)]
+#[derive(Clone, Copy, PartialEq, Eq)]
 pub enum Origin {
     /// The repository.
     File(u32),
@@ -66,7 +66,7 @@ pub enum Origin {
 }
 
 /// An entry of a module's classpaths.
-#[derive(Clone, Debug, Drop)]
+#[derive(Clone, Drop)]
 pub struct Entry {
     pub name: FileName,
     /// Whether it is on the classpath of the main sources.

@@ -2,14 +2,14 @@ use mvn_base::{Choice, Pair, Phase};
 use mvn_shared::{List, Text};
 
 /// A selector of modules, and the number of the word where it stands. Guide to Working with Multiple Modules.
-#[derive(Clone, Debug, Drop, PartialEq, Eq)]
+#[derive(Clone, Drop, PartialEq, Eq)]
 pub struct Word {
     pub place: u32,
     pub text: Text,
 }
 
 /// What a command line asks for.
-#[derive(Debug, Drop)]
+#[derive(Drop)]
 pub struct CommandLine {
     /// How many modules may be built at once, 1 where nothing is said. Parallel Builds in Maven 3.
     pub workers: u32,

@@ -15,6 +15,3 @@ pub use fault::{WordError, WordFault, WordKind};
 pub use line::{Count, Line};
 pub use spelling::{Spelling, Wanted};
 pub use whole::options;
-
-#[cfg(test)]
-mod tests;

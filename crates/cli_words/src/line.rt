@@ -4,14 +4,14 @@ use mvn_base::{Choice, Pair, Phase};
 use mvn_shared::List;
 
 /// A number of workers, and the word where it stands.
-#[derive(Clone, Copy, Debug)]
+#[derive(Clone, Copy)]
 pub struct Count {
     pub place: u32,
     pub value: u32,
 }
 
 /// What the words so far say.
-#[derive(Debug, Drop)]
+#[derive(Drop)]
 pub struct Line {
     /// The value that the next word is, where an option stands before it.
     pub awaits: Option<Wanted>,

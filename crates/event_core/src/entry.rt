@@ -3,7 +3,7 @@ use goal_types::GoalAnswer;
 use mvn_shared::Bytes;
 
 /// What an event of a run carries.
-#[derive(Clone, Debug, Drop)]
+#[derive(Clone, Drop)]
 pub enum Carried {
     /// Nothing, or what isn't told.
     Nothing,
@@ -14,7 +14,7 @@ pub enum Carried {
 }
 
 /// An event of a run, with what it carries. Own.
-#[derive(Clone, Debug, Drop)]
+#[derive(Clone, Drop)]
 pub struct RunEntry {
     pub event: Event,
     pub carried: Carried,

@@ -24,6 +24,3 @@ pub use outline::{ModuleOutline, Outline};
 pub use progress::Progress;
 pub use refused::NotEnabled;
 pub use run::Core;
-
-#[cfg(test)]
-mod tests;

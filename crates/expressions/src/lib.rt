@@ -8,6 +8,3 @@ mod splitting;
 pub use named::Values;
 pub use part::Part;
 pub use splitting::parts;
-
-#[cfg(test)]
-mod tests;

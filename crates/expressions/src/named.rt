@@ -10,7 +10,7 @@ use std::alloc::Global;
 use std::marker::Model;
 
 /// Values by name, of equal names the last. Contracts see it as the list of its names and values.
-#[derive(Debug, Drop)]
+#[derive(Drop)]
 pub struct Values {
     entries: IndexMap<Text, Text>,
 }

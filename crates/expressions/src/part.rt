@@ -1,7 +1,7 @@
 use mvn_shared::Text;
 
 /// A piece of a text: as it stands, or the name between `${` and the next `}`. POM Reference, "Properties".
-#[derive(Debug, Drop)]
+#[derive(Drop)]
 pub enum Part {
     Plain(Text),
     Name(Text),

@@ -4,6 +4,3 @@
 pub mod builtin;
 
 pub use builtin::Builtin;
-
-#[cfg(test)]
-mod tests;

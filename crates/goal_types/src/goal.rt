@@ -79,7 +79,7 @@ pub struct GoalRequest {
 }
 
 /// What a goal answers.
-#[derive(Clone, Debug, Drop)]
+#[derive(Clone, Drop)]
 pub enum GoalAnswer {
     Done,
     Produced(Bytes),

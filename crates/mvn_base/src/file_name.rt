@@ -13,7 +13,7 @@ use std::marker::Model;
 
 /// The name of a file of a repository: a path of valid names, so that it leads nowhere else. It is made from
 /// coordinates alone. Maven's repository layout.
-#[derive(Clone, Debug, Drop, PartialEq, Eq, PartialOrd, Ord, Hash)]
+#[derive(Clone, Drop, PartialEq, Eq)]
 pub struct FileName {
     path: Text,
 }

@@ -27,6 +27,3 @@ pub use refusal::{Place, PomId, Refusal};
 pub use rule::Rule;
 pub use setting::Setting;
 pub use type_rule::{TypeRule, handler};
-
-#[cfg(test)]
-mod tests;

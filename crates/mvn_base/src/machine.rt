@@ -4,7 +4,7 @@ use mvn_shared::{List, Text};
 use std::alloc::AllocError;
 
 /// A name and its value, as of a property or a variable.
-#[derive(Debug, Drop, PartialEq, Eq)]
+#[derive(Drop, PartialEq, Eq)]
 pub struct Pair {
     pub name: Text,
     pub value: Text,
@@ -21,14 +21,14 @@ impl Clone for Pair {
 }
 
 /// The profiles that are switched on and off by name. Introduction to Build Profiles.
-#[derive(Debug, Drop)]
+#[derive(Drop)]
 pub struct Choice {
     pub on: List<Text>,
     pub off: List<Text>,
 }
 
 /// What a project may ask of the machine that builds it. POM Reference, "Properties" and "Profiles".
-#[derive(Debug, Drop)]
+#[derive(Drop)]
 pub struct Machine {
     /// The project's root folder, as a path of the system.
     pub root: Text,

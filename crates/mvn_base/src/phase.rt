@@ -5,7 +5,7 @@ ghost use Rattle.mvn_base.specs.Phase.{phase_name, phase_of};
 use std::fmt;
 
 /// A phase of the default lifecycle, in order. Introduction to the Build Lifecycle, "Lifecycle Reference".
-#[derive(Clone, Copy, Debug, PartialEq, Eq, PartialOrd, Ord, Hash)]
+#[derive(Clone, Copy, PartialEq, Eq)]
 pub enum Phase {
     Validate,
     Initialize,

@@ -4,7 +4,7 @@ use mvn_shared::{List, Mem, Text};
 use std::alloc::AllocError;
 
 /// An element of a plugin's configuration: its name, its own text and its children. POM Reference, "Plugins".
-#[derive(Debug, Drop)]
+#[derive(Drop)]
 pub struct Setting {
     pub name: Text,
     pub text: Text,

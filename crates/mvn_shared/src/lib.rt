@@ -15,6 +15,3 @@ pub use list::List;
 pub use memory::{Mem, OutOfMemory};
 pub use shared::Shared;
 pub use text::{Text, TextError};
-
-#[cfg(test)]
-mod tests;

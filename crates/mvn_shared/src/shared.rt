@@ -7,7 +7,7 @@ use std::ops::Deref;
 use std::sync::Arc;
 
 /// A value with any number of owners. Contracts see the value alone, so that what is shared equals what it shares.
-#[derive(Debug, Drop)]
+#[derive(Drop)]
 pub struct Shared<T> {
     inside: Arc<T>,
 }

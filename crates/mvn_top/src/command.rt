@@ -5,7 +5,7 @@ ghost use Rattle.mvn_top.specs.Commands.{command_of};
 use mvn_shared::Bytes;
 
 /// What the words ask for: a phase of the default lifecycle. Introduction to the Build Lifecycle.
-#[derive(Clone, Copy, Debug, PartialEq, Eq)]
+#[derive(Clone, Copy, PartialEq, Eq)]
 pub enum Command {
     Validate,
     Install,

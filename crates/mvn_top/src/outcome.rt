@@ -21,7 +21,7 @@ use pom_text::{PomText, TextFault, read_text};
 use std::alloc::Global;
 
 /// What a call answers: the text that it writes, and the exit status.
-#[derive(Debug, Drop)]
+#[derive(Drop)]
 pub struct Outcome {
     pub text: Bytes,
     pub status: u8,

@@ -11,7 +11,7 @@ use std::alloc::Global;
 pub const POM_PATH: &str = "pom.xml";
 
 /// What reading the project's POM gave.
-#[derive(Debug, Drop)]
+#[derive(Drop)]
 pub enum Reading {
     /// The tree failed.
     Faulty,

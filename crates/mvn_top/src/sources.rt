@@ -20,7 +20,7 @@ const FOLDERS: [&str; 4] = [
 ];
 
 /// Why the sources can't be read.
-#[derive(Clone, Copy, Debug, PartialEq, Eq)]
+#[derive(Clone, Copy, PartialEq, Eq)]
 pub enum SourcesFault {
     /// The tree failed.
     Failed,

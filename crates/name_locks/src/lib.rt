@@ -6,6 +6,3 @@ mod table;
 
 pub use mode::Mode;
 pub use table::{LockTable, Tried};
-
-#[cfg(test)]
-mod tests;

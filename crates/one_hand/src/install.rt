@@ -13,7 +13,7 @@ use mvn_base::FileName;
 use mvn_outside::{DeviceFault, Shelf};
 
 /// Why a file can't be put into the repository.
-#[derive(Clone, Copy, Debug, PartialEq, Eq)]
+#[derive(Clone, Copy, PartialEq, Eq)]
 pub enum InstallFault {
     /// The staging area failed.
     Area,

@@ -10,6 +10,3 @@ pub use goals::{GoalsRun, run_goals};
 pub use install::{InstallFault, install_files};
 pub use module_run::{ModuleRun, build_module};
 pub use outputs::{bytes_in, fits, with_output};
-
-#[cfg(test)]
-mod tests;

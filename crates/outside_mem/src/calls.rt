@@ -24,7 +24,7 @@ pub trait Failures {
 }
 
 /// No call fails: the count of faults is the constant 0.
-#[derive(Clone, Copy, Debug, Drop)]
+#[derive(Clone, Copy, Drop)]
 pub struct NoFailures;
 
 impl Failures for NoFailures {

@@ -19,6 +19,3 @@ pub use remote::{MemFile, MemRemote};
 pub use shelf::MemShelf;
 pub use sink::MemSink;
 pub use tree::MemTree;
-
-#[cfg(test)]
-mod tests;

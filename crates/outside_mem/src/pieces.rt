@@ -9,7 +9,7 @@ use mvn_shared::{Bytes, Mem};
 use std::collections::BTreeMap;
 
 /// A piece: its bytes so far, and whether it is sealed.
-#[derive(Debug, Drop)]
+#[derive(Drop)]
 pub struct Piece {
     pub sealed: bool,
     pub bytes: Bytes,

@@ -4,6 +4,3 @@
 mod joining;
 
 pub use joining::joined;
-
-#[cfg(test)]
-mod tests;

@@ -7,7 +7,7 @@ use mvn_shared::{List, Mem, Text};
 use std::alloc::Global;
 
 /// An attribute: its name and its value.
-#[derive(Clone, Copy, Debug)]
+#[derive(Clone, Copy)]
 pub(crate) struct Attribute<'a> {
     pub(crate) name: &'a [char],
     pub(crate) value: &'a [char],

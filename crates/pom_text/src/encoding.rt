@@ -9,7 +9,7 @@ use mvn_shared::Mem;
 use std::alloc::Global;
 
 /// An encoding that a POM may have.
-#[derive(Clone, Copy, Debug, PartialEq, Eq)]
+#[derive(Clone, Copy, PartialEq, Eq)]
 pub(crate) enum Encoding {
     Utf8,
     UsAscii,

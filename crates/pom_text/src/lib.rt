@@ -21,6 +21,3 @@ pub use fault::TextFault;
 pub use law::one_reading;
 pub use node::{Node, PomText};
 pub use read::read_text;
-
-#[cfg(test)]
-mod tests;

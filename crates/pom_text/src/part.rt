@@ -4,14 +4,14 @@ ghost use Rattle.pom_text.specs.Running.{begins_element};
 use mvn_shared::{List, Text};
 
 /// A start tag or an empty tag: its name and the names of its attributes.
-#[derive(Clone, Debug, Drop)]
+#[derive(Clone, Drop)]
 pub(crate) struct Tag {
     pub(crate) name: Text,
     pub(crate) attributes: List<Text>,
 }
 
 /// What a piece of a text says.
-#[derive(Debug, Drop)]
+#[derive(Drop)]
 pub(crate) enum Part {
     /// A comment or an instruction, which are skipped.
     Passed,

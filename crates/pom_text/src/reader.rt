@@ -16,7 +16,7 @@ use std::alloc::Global;
 const DEPTH: usize = 64;
 
 /// The elements of a text; or the rule that ends the reading, and what follows there.
-#[derive(Debug, Drop)]
+#[derive(Drop)]
 pub(crate) enum Reading<'a> {
     Whole(List<Node>),
     Halted(Rule, &'a [char]),

@@ -14,7 +14,7 @@ use std::alloc::Global;
 
 /// The elements that have begun, the numbers of those that have not ended, outermost first, and whether a carriage return in
 /// text stands directly before.
-#[derive(Debug, Drop)]
+#[derive(Drop)]
 pub(crate) struct Tree {
     pub(crate) nodes: Vec<Node>,
     pub(crate) path: Vec<u32>,

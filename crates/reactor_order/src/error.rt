@@ -1,13 +1,13 @@
 use mvn_shared::{List, OutOfMemory};
 
 /// Modules of which each has the next as an upstream, and the last the first.
-#[derive(Debug, Drop)]
+#[derive(Drop)]
 pub struct Cycle {
     pub list: List<u32>,
 }
 
 /// Why modules have no order.
-#[derive(Debug, Drop)]
+#[derive(Drop)]
 pub enum OrderError {
     Cycle(Cycle),
     Memory,

@@ -7,7 +7,7 @@ use mvn_shared::{List, Mem};
 use std::alloc::Global;
 
 /// The upstreams of each module, in the order of the edges.
-#[derive(Debug, Drop)]
+#[derive(Drop)]
 pub struct Graph {
     pub(crate) lists: Vec<List<u32>>,
 }

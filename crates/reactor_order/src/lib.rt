@@ -20,6 +20,3 @@ pub use kept::keep;
 pub use law::one_order;
 pub use ordered::order;
 pub use selected::select;
-
-#[cfg(test)]
-mod tests;

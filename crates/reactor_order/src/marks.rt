@@ -6,7 +6,7 @@ use mvn_shared::Mem;
 use std::alloc::Global;
 
 /// Marks on modules, and the list of those that are marked.
-#[derive(Debug, Drop)]
+#[derive(Drop)]
 pub struct Marks {
     pub(crate) marks: Vec<bool>,
     pub(crate) found: Vec<u32>,

@@ -12,7 +12,7 @@ use std::alloc::Global;
 use std::collections::BTreeSet;
 
 /// Modules that are placed one after another.
-#[derive(Debug, Drop)]
+#[derive(Drop)]
 pub struct Placing<'a> {
     pub(crate) n: u32,
     pub(crate) edges: &'a [(u32, u32)],

@@ -6,6 +6,3 @@ pub mod text;
 
 pub use row::{FullPart, ReportRow, RowEnd};
 pub use text::report;
-
-#[cfg(test)]
-mod tests;

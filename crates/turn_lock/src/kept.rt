@@ -2,7 +2,7 @@
 ghost use Rattle.std.specs.Prelude.{◌≡◌, length};
 
 /// Whose an entry of a log is: nobody's, or one worker's, which opens a module with it, goes on or closes it. Own.
-#[derive(Clone, Copy, Debug, PartialEq, Eq)]
+#[derive(Clone, Copy, PartialEq, Eq)]
 pub enum Role {
     Nobody,
     /// The worker opens the module.

@@ -11,6 +11,3 @@ pub use kept::{Kept, Role};
 pub use lock::{NewError, Pass, Turn, TurnLock};
 pub use plays::TurnRule;
 pub use view::View;
-
-#[cfg(test)]
-mod tests;

@@ -15,7 +15,7 @@ use std::thread::{Threads, join_mut};
 use std::time::{Clock, Duration};
 
 /// A number that a worker noted. Own.
-#[derive(Clone, Copy, Debug, PartialEq, Eq)]
+#[derive(Clone, Copy, PartialEq, Eq)]
 pub struct Note {
     pub worker: u32,
     pub number: u32,

@@ -8,7 +8,7 @@ use crate::kind::Kind;
 use std::cmp::Ordering;
 
 /// A token of a version: its kind, and where its content lies in the text.
-#[derive(Clone, Copy, Debug)]
+#[derive(Clone, Copy)]
 pub(crate) struct Cut {
     pub(crate) kind: Kind,
     pub(crate) start: usize,

@@ -5,7 +5,7 @@ use crate::version::Version;
 use std::cmp::Ordering;
 
 /// An end of an interval. POM Reference, "Dependency Version Requirement Specification".
-#[derive(Clone, Debug, Drop)]
+#[derive(Clone, Drop)]
 pub struct Bound {
     pub version: Version,
     /// Whether the interval has the version itself.
@@ -13,7 +13,7 @@ pub struct Bound {
 }
 
 /// What lies between two versions, or to one side of one; without bounds all versions.
-#[derive(Clone, Debug, Drop)]
+#[derive(Clone, Drop)]
 pub struct Interval {
     pub lower: Option<Bound>,
     pub upper: Option<Bound>,

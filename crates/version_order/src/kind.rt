@@ -3,7 +3,7 @@ ghost use Rattle.version_order.specs.Order.{rank};
 
 /// The kinds of a version's tokens, ascending, with the end of a version among them. POM Reference, "Version Order
 /// Specification".
-#[derive(Clone, Copy, Debug, PartialEq, Eq)]
+#[derive(Clone, Copy, PartialEq, Eq)]
 pub enum Kind {
     Alpha,
     Beta,

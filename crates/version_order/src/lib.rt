@@ -21,6 +21,3 @@ pub use law::spelled_and_read;
 pub use piece::Mark;
 pub use requirement::Requirement;
 pub use version::Version;
-
-#[cfg(test)]
-mod tests;

@@ -3,7 +3,7 @@ ghost use Rattle.version_order.specs.Pieces.{changes_after, front, is_change, is
 
 /// What stands before a piece of a version: a dot, a hyphen, or the change between a digit and another byte. POM
 /// Reference, "Version Order Specification".
-#[derive(Clone, Copy, Debug, PartialEq, Eq)]
+#[derive(Clone, Copy, PartialEq, Eq)]
 pub enum Mark {
     Dot,
     Hyphen,
@@ -11,7 +11,7 @@ pub enum Mark {
 }
 
 /// The first piece of a text: its length, and where the next begins, if there is one, and behind what.
-#[derive(Clone, Copy, Debug)]
+#[derive(Clone, Copy)]
 pub(crate) struct First {
     pub(crate) len: usize,
     pub(crate) to: usize,

@@ -7,7 +7,7 @@ use std::alloc::Global;
 
 /// Where a reader of a list of intervals has come to: before one; behind its opening bracket, and whether that is square;
 /// behind its comma, with the lower bound; behind its closing bracket. A word begins at `start`.
-#[derive(Debug, Drop)]
+#[derive(Drop)]
 pub(crate) enum Stand {
     Before,
     Lower { square: bool, start: usize },

@@ -19,7 +19,7 @@ use std::marker::Model;
 
 /// A version. Contracts see it as its text; versions compare by their tokens, so that `1.0` and `1` are one in the
 /// order. POM Reference, "Version Order Specification".
-#[derive(Debug, Drop)]
+#[derive(Drop)]
 pub struct Version {
     text: Text,
     // the text, its ASCII letters in lower case

@@ -29,8 +29,8 @@ text_of None = []
 text_of (Some text) = text
 
 -- an edge, with a version and a scope as they are stated
-unfoldable pub edge : ℕ → Key → Option (List ℕ) → Option (List ℕ) → Bool → List Exclusion → Edge
-edge position key version scope managed exclusions = record {
+unfoldable pub stated_edge : ℕ → Key → Option (List ℕ) → Option (List ℕ) → Bool → List Exclusion → Edge
+stated_edge position key version scope managed exclusions = record {
   position = position;
   key = key;
   requirement = text_of version;
@@ -46,7 +46,7 @@ edges_from f at (d ∷ dependencies) = f at d ++ edges_from f (suc at) dependenc
 
 -- a declaration of the project's own
 abbrev pub direct_edge : ℕ → Dependency → Edge
-direct_edge position d = edge position (key_of d) d.version d.scope false d.exclusions
+direct_edge position d = stated_edge position (key_of d) d.version d.scope false d.exclusions
 
 abbrev pub direct_edges : List Dependency → List Edge
 direct_edges dependencies = edges_from (λ at d. direct_edge at d ∷ []) 0 dependencies
@@ -72,11 +72,11 @@ is_excluded cut d = list_any (excludes d) cut
 -- a declaration below the project that isn't managed, and one that is: there the managed version and scope come first,
 -- and the managed exclusions last
 abbrev pub plain_edge : ℕ → Key → Dependency → List Exclusion → Edge
-plain_edge position key d cut = edge position key d.version d.scope false (cut ++ d.exclusions)
+plain_edge position key d cut = stated_edge position key d.version d.scope false (cut ++ d.exclusions)
 
 abbrev pub managed_edge : ℕ → Key → Dependency → List Exclusion → Dependency → Edge
 managed_edge position key d cut m =
-    edge position key (option_or m.version d.version) (option_or m.scope d.scope) (is_some m.scope)
+    stated_edge position key (option_or m.version d.version) (option_or m.scope d.scope) (is_some m.scope)
     (cut ++ d.exclusions ++ m.exclusions)
 
 abbrev pub by_management : ℕ → Dependency → List Exclusion → Option Dependency → Edge

@@ -1,7 +1,7 @@
 ghost use Rattle.std.specs.Prelude.{◌≡◌, IfOk};
 ghost use Rattle.collector.specs.Edges.{direct_edge, direct_edges};
 
-use crate::edge::{Edge, edge};
+use crate::edge::{Edge, stated_edge};
 use model_merge::Keyed;
 use model_types::Dependency;
 use mvn_shared::{List, Mem, Shared};
@@ -13,7 +13,7 @@ fn direct_edge(alloc: Global, position: usize, dependency: &Dependency) -> Mem<E
 {
     let key = dependency.key(alloc)?;
     let exclusions = Shared::new(alloc, dependency.exclusions.clone()?)?;
-    edge(
+    stated_edge(
         alloc,
         position,
         key,

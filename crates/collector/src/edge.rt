@@ -1,6 +1,6 @@
 ghost use Rattle.std.specs.Prelude.{◌≡◌, IfOk};
 ghost use Rattle.std.specs.Option.{option_or};
-ghost use Rattle.collector.specs.Edges.{edge, text_of};
+ghost use Rattle.collector.specs.Edges.{stated_edge, text_of};
 
 use crate::scope::{Scope, scope_of};
 use model_types::Exclusion;
@@ -41,7 +41,7 @@ pub fn first_of<'a>(first: &'a Option<Text>, second: &'a Option<Text>) -> &'a Op
 }
 
 // An edge, with a version and a scope as they are stated.
-pub fn edge(
+pub fn stated_edge(
     alloc: Global,
     position: usize,
     key: Key,
@@ -50,7 +50,7 @@ pub fn edge(
     managed_scope: bool,
     exclusions: Shared<List<Exclusion>>,
 ) -> Mem<Edge>
-    ensures { IfOk result (λ made. made ≡ edge position key version.now scope.now managed_scope exclusions) }
+    ensures { IfOk result (λ made. made ≡ stated_edge position key version.now scope.now managed_scope exclusions) }
 {
     let requirement = text_of(alloc, version)?;
     Ok(Edge {

@@ -1,7 +1,7 @@
 ghost use Rattle.std.specs.Prelude.{◌≡◌, ◌++◌, IfOk, OnOk};
 ghost use Rattle.collector.specs.Edges.{edge_below, excludes, is_excluded, is_kept, is_named, managed_edge, plain_edge, transitive_edge, transitive_edges};
 
-use crate::edge::{Edge, edge, first_of};
+use crate::edge::{Edge, first_of, stated_edge};
 use crate::scope::is_scope;
 use managed_deps::ManagedSet;
 use model_merge::Keyed;
@@ -85,7 +85,7 @@ fn plain_edge(
     ensures { IfOk result (λ made. made ≡ plain_edge position key dependency.now cut.now) }
 {
     let exclusions = gathered(alloc, cut, &dependency.exclusions)?;
-    edge(
+    stated_edge(
         alloc,
         position,
         key,
@@ -109,7 +109,7 @@ fn managed_edge(
 {
     let own = gathered(alloc, cut, &dependency.exclusions)?;
     let exclusions = gathered(alloc, &own, &managed.exclusions)?;
-    edge(
+    stated_edge(
         alloc,
         position,
         key,

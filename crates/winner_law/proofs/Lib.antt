@@ -1,0 +1,4 @@
+pub mod Firsts
+pub mod Apart
+pub mod Direct
+pub mod Ascends

@@ -1,6 +1,6 @@
 -- What the dependencies of one POM lead to. Introduction to the Dependency Mechanism, "Transitive Dependencies",
 -- "Dependency Management" and "Excluded Dependencies".
-use Rattle.std.specs.Prelude.{ℕ, suc, Bool, true, false, not, ◌&&◌, ◌||◌, List, [], ◌∷◌, ◌++◌, codes, Option, Some, None, is_some, if◌then◌else◌}
+use Rattle.std.specs.Prelude.{ℕ, ◌+◌, Bool, true, false, not, ◌&&◌, ◌||◌, List, [], ◌∷◌, ◌++◌, codes, Option, Some, None, is_some, if◌then◌else◌}
 use Rattle.std.specs.List.{list_any}
 use Rattle.std.specs.Option.{option_or}
 use Rattle.std.specs.Str.{bytes_eq}
@@ -42,7 +42,7 @@ stated_edge position key version scope managed exclusions = record {
 -- a list's edges, where each declaration has some by its place
 abbrev pub edges_from : (ℕ → Dependency → List Edge) → ℕ → List Dependency → List Edge
 edges_from f at [] = []
-edges_from f at (d ∷ dependencies) = f at d ++ edges_from f (suc at) dependencies
+edges_from f at (d ∷ dependencies) = f at d ++ edges_from f (at + 1) dependencies
 
 -- a declaration of the project's own
 abbrev pub direct_edge : ℕ → Dependency → Edge

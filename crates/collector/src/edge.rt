@@ -37,10 +37,14 @@ fn text_of(alloc: Global, text: &Option<Text>) -> Mem<Text>
 pub fn first_of<'a>(first: &'a Option<Text>, second: &'a Option<Text>) -> &'a Option<Text>
     ensures { result.now ≡ option_or first.now second.now }
 {
-    if first.is_some() { first } else { second }
+    match first {
+        Some(_) => first,
+        None => second,
+    }
 }
 
 // An edge, with a version and a scope as they are stated.
+#[tactic(auto, unfolding(crate::specs::Edges::stated_edge))]
 pub fn stated_edge(
     alloc: Global,
     position: usize,

@@ -1,5 +1,5 @@
 -- How winners grow, path by path.
-use Rattle.std.proofs.Common.{◌≡◌, ◌≤◌, ◌<◌, ◌+◌, ℕ, zero, suc, Bool, true, false, List, [], ◌∷◌, ◌++◌, length, Option, Some, None, is_some, Result, Ok, Err, refl, sym, ap, subst, ◌∙◌, cond, arith, if◌then◌else◌, append-nil, append_assoc, All, inl, inr}
+use Rattle.std.proofs.Common.{◌≡◌, ◌≤◌, ◌<◌, ◌+◌, ℕ, zero, suc, Bool, true, false, List, [], ◌∷◌, ◌++◌, length, Option, Some, None, is_some, Result, Ok, Err, refl, sym, ap, subst, ◌∙◌, cond, arith, if◌then◌else◌, append-nil, append_assoc, length-append, All, inl, inr}
 use Rattle.std.specs.Option.{option_or}
 use Rattle.std.specs.Prelude.{nat_lt}
 use Rattle.std.proofs.lemmas.Bool.{false≢true}
@@ -39,15 +39,8 @@ module _ (libraries : Libraries) where
       here : (n : ℕ) → n ≡ n + 0
       here n = omega arith
   reasons_behind place (p ∷ xs) ys =
-      ap (λ o. option_or (reason_of p) o) (reasons_behind (suc place) xs ys ∙ ap (λ n. option_or (first_reason libraries (suc place) xs) (first_reason libraries n ys)) (at_sum place (length xs)))
-      ∙ or_assoc (reason_of p) (first_reason libraries (suc place) xs) (first_reason libraries (place + length (p ∷ xs)) ys)
-    where
-      reason_of : Path → Option Reason
-      reason_of p = reason_at libraries place p
-
-  length_joined : (xs ys : List Path) → length (xs ++ ys) ≡ length xs + length ys
-  length_joined [] ys = refl
-  length_joined (x ∷ xs) ys = ap suc (length_joined xs ys)
+      ap (λ o. option_or (reason_at libraries place p) o) (reasons_behind (suc place) xs ys ∙ ap (λ n. option_or (first_reason libraries (suc place) xs) (first_reason libraries n ys)) (at_sum place (length xs)))
+      ∙ or_assoc (reason_at libraries place p) (first_reason libraries (suc place) xs) (first_reason libraries (place + length (p ∷ xs)) ys)
 
   -- nothing is added
   pub same_rows : (rows : List Winner) → Grows libraries rows rows []
@@ -62,7 +55,7 @@ module _ (libraries : Libraries) where
       ap (λ l. first_reason libraries (length won) l) (firsts_joined won xs ys)
       ∙ reasons_behind (length won) first (firsts (won ++ first) ys)
       ∙ ap (λ o. option_or o (first_reason libraries (length won + length first) (firsts (won ++ first) ys))) grown.free
-      ∙ ap (λ n. first_reason libraries n (firsts (won ++ first) ys)) (sym (length_joined won first))
+      ∙ ap (λ n. first_reason libraries n (firsts (won ++ first) ys)) (sym (length-append won first))
       ∙ ap (λ w. first_reason libraries (length w) (firsts w ys)) (sym grown.wins)
 
   grown_more : (old mid new : List Winner) (xs ys : List Path) → Grows libraries old mid xs → Grows libraries mid new ys → Grows libraries old new (xs ++ ys)
@@ -74,26 +67,25 @@ module _ (libraries : Libraries) where
         versions = λ all. more.versions (grown.versions all);
       }
 
-  module _ {T U : Type 0} where
-    -- paths are added, and then others
-    pub add_more : (old mid new : List Winner) (xs ys : List Path) (result : Result T MediationFault) → Grows libraries old mid xs → Adds libraries mid new ys result → Adds libraries old new (xs ++ ys) result
-    add_more old mid new xs ys (Ok x) grown more = grown_more old mid new xs ys grown more
-    add_more old mid new xs ys (Err (Refused rule place)) grown more = reasons_after old mid xs ys grown ∙ more
-    add_more old mid new xs ys (Err Lookup) grown more = tt
-    add_more old mid new xs ys (Err Memory) grown more = tt
+  -- paths are added, and then others
+  pub add_more : {T : Type 0} (old mid new : List Winner) (xs ys : List Path) (result : Result T MediationFault) → Grows libraries old mid xs → Adds libraries mid new ys result → Adds libraries old new (xs ++ ys) result
+  add_more old mid new xs ys (Ok x) grown more = grown_more old mid new xs ys grown more
+  add_more old mid new xs ys (Err (Refused rule place)) grown more = reasons_after old mid xs ys grown ∙ more
+  add_more old mid new xs ys (Err Lookup) grown more = tt
+  add_more old mid new xs ys (Err Memory) grown more = tt
 
-    early : (o rest : Option Reason) (r : Reason) → o ≡ Some r → option_or o rest ≡ Some r
-    early o rest r is = ap (λ o. option_or o rest) is
+  early : (o rest : Option Reason) (r : Reason) → o ≡ Some r → option_or o rest ≡ Some r
+  early o rest r is = ap (λ o. option_or o rest) is
 
-    -- what is refused stays refused, whatever comes behind it
-    pub refused_early : (old new other : List Winner) (xs ys : List Path) (fault : MediationFault) → Adds {T = T} libraries old new xs (Err fault) → Adds {T = U} libraries old other (xs ++ ys) (Err fault)
-    refused_early old new other xs ys (Refused rule place) is =
-        let won = paths_of old in
-        ap (λ l. first_reason libraries (length won) l) (firsts_joined won xs ys)
-        ∙ reasons_behind (length won) (firsts won xs) (firsts (won ++ firsts won xs) ys)
-        ∙ early (first_reason libraries (length won) (firsts won xs)) (first_reason libraries (length won + length (firsts won xs)) (firsts (won ++ firsts won xs) ys)) (rule, place) is
-    refused_early old new other xs ys Lookup is = tt
-    refused_early old new other xs ys Memory is = tt
+  -- what is refused stays refused, whatever comes behind it
+  pub refused_early : {T U : Type 0} (old new other : List Winner) (xs ys : List Path) (fault : MediationFault) → Adds {T = T} libraries old new xs (Err fault) → Adds {T = U} libraries old other (xs ++ ys) (Err fault)
+  refused_early old new other xs ys (Refused rule place) is =
+      let won = paths_of old in
+      ap (λ l. first_reason libraries (length won) l) (firsts_joined won xs ys)
+      ∙ reasons_behind (length won) (firsts won xs) (firsts (won ++ firsts won xs) ys)
+      ∙ early (first_reason libraries (length won) (firsts won xs)) (first_reason libraries (length won + length (firsts won xs)) (firsts (won ++ firsts won xs) ys)) (rule, place) is
+  refused_early old new other xs ys Lookup is = tt
+  refused_early old new other xs ys Memory is = tt
 
   one_kept : (won : List Path) (e : Edge) (front : Path) (b : Bool) → is_some (winner_of won e.key) ≡ b → firsts won ((e ∷ front) ∷ []) ≡ (if b then [] else (e ∷ front) ∷ [])
   one_kept won e front b is = ap (λ b. if b then [] else (e ∷ front) ∷ []) is
@@ -134,7 +126,7 @@ module _ (libraries : Libraries) where
       → chosen libraries (length rows) w.edge ≡ Ok w.version → new ≡ rows ++ w ∷ [] → Grows libraries rows new ((w.edge ∷ front) ∷ [])
   won rows new w front none leads is more = record {
     wins =
-        ap paths_of more ∙ path_more rows w ∙ ap (λ f. paths_of rows ++ (w.edge ∷ f) ∷ []) (above_is (paths_of rows) w.above front leads)
+        ap paths_of more ∙ path_more rows w ∙ ap (λ f. paths_of rows ++ (w.edge ∷ f) ∷ []) (above_is (paths_of rows) w.edge w.above front leads)
         ∙ ap (λ l. paths_of rows ++ l) (sym (one_kept (paths_of rows) w.edge front false (has_path rows w.edge.key ∙ none)));
     free = only rows w.edge front none ∙ ap reason is;
     versions = λ all. subst (All (IsPicked libraries)) (sym more) (All-push (IsPicked libraries) rows w all (picks (length rows) w.edge w.version is));

@@ -1,5 +1,5 @@
 -- Winners under their keys.
-use Rattle.std.proofs.Common.{◌≡◌, ◌≤◌, ◌<◌, ◌+◌, arith, ℕ, Bool, true, false, List, [], ◌∷◌, ◌++◌, map, length, find, Option, Some, None, is_some, slice_get, refl, sym, ap, ◌∙◌, if◌then◌else◌, cond}
+use Rattle.std.proofs.Common.{◌≡◌, ◌≤◌, ◌<◌, ◌+◌, arith, length-append, ℕ, Bool, true, false, List, [], ◌∷◌, ◌++◌, map, length, find, Option, Some, None, is_some, slice_get, refl, sym, ap, ◌∙◌, if◌then◌else◌, cond}
 use Rattle.std.specs.Map.{lookup}
 use Rattle.std.specs.Option.{option_map}
 use Rattle.std.proofs.lemmas.Bool.{false≢true}
@@ -40,12 +40,11 @@ keyed_last [] w = refl
 keyed_last (r ∷ rows) w = ap (λ l. (key_of r, r) ∷ l) (keyed_last rows w)
 
 length_last : (entries : List (Key × Winner)) (e : Key × Winner) → length (entries ++ e ∷ []) ≡ length entries + 1
-length_last [] e = refl
-length_last (x ∷ entries) e = ap (λ n. n + 1) (length_last entries e)
+length_last entries e = omega (arith, length-append entries (e ∷ []))
 
 counted : (entries : List (Key × Winner)) → length (seconds entries) ≡ length entries
 counted [] = refl
-counted (e ∷ entries) = ap (λ n. n + 1) (counted entries)
+counted (e ∷ entries) = omega (arith, counted entries)
 
 -- a winner more, of a key that has none
 pub put_new : (entries after : List (Key × Winner)) (key : Key) (w : Winner) → IsKept entries → key ≡ w.edge.key → row_of (seconds entries) w.edge.key ≡ None → after ≡ insert_entry same_key entries key w → after ≡ entries ++ (key_of w, w) ∷ []

@@ -1,5 +1,5 @@
 -- Winners as they are kept: each with its edge, its version and the place of the winner that it stands below.
-use Rattle.std.specs.Prelude.{◌≡◌, ◌≤◌, ℕ, suc, Bool, List, [], ◌∷◌, ◌++◌, flat_map, fold, find, length, map, slice_get, Option, Some, None, Result, Ok, Err, All}
+use Rattle.std.specs.Prelude.{◌≡◌, ◌≤◌, ℕ, suc, Bool, List, [], ◌∷◌, ◌++◌, flat_map, fold, find, length, map, slice_get, unwrap_or, Option, Some, None, Result, Ok, Err, All}
 use Rattle.std.specs.Option.{option_or}
 use Rattle.model_merge.specs.Keyed.{keyed, same_key}
 use Rattle.mvn_base.specs.declared.key.Key.{Key}
@@ -23,23 +23,20 @@ pub record IsKept (entries : List (Key × Winner)) : Type 0 where
   pub named : entries ≡ keyed key_of (map (λ e. e.1) entries)
   pub few : length entries ≤ 16384
 
--- a path among paths, at a place or at the project itself
-abbrev pub or_empty : Option Path → Path
-or_empty None = []
-or_empty (Some path) = path
+-- the path above an edge, at a place among paths or at the project itself; at a place that isn't there the edge would
+-- stand below itself, where no winner stands
+abbrev pub path_above : List Path → Edge → Option ℕ → Path
+path_above paths e None = []
+path_above paths e (Some place) = unwrap_or (slice_get paths place) (e ∷ [])
 
-abbrev pub path_above : List Path → Option ℕ → Path
-path_above paths None = []
-path_above paths (Some place) = or_empty (slice_get paths place)
-
--- it is there
+-- there is a path above
 abbrev pub Leads : List Path → Option ℕ → Path → Type 0
 Leads paths None front = front ≡ []
 Leads paths (Some place) front = slice_get paths place ≡ Some front
 
 -- each winner's path
 abbrev pub add_path : List Path → Winner → List Path
-add_path paths w = paths ++ (w.edge ∷ path_above paths w.above) ∷ []
+add_path paths w = paths ++ (w.edge ∷ path_above paths w.edge w.above) ∷ []
 
 abbrev pub paths_of : List Winner → List Path
 paths_of rows = fold add_path [] rows

@@ -14,11 +14,11 @@ use Rattle.model_merge.specs.Keyed.{same_key}
 use Rattle.winner_law.specs.Winners.{Ascends, Before, Graph, IsOrdered, Path, counting, firsts, next_edges, is_won, level, longer, positions, winners}
 
 -- each of a list, and each with each later one
-Each : (Path → Type 0) → List Path → Type 0
+abbrev Each : (Path → Type 0) → List Path → Type 0
 Each P [] = ⊤
 Each P (x ∷ xs) = P x × Each P xs
 
-Pairs : (Path → Path → Type 0) → List Path → Type 0
+abbrev Pairs : (Path → Path → Type 0) → List Path → Type 0
 Pairs R [] = ⊤
 Pairs R (x ∷ xs) = Each (R x) xs × Pairs R xs
 
@@ -55,7 +55,7 @@ pairs_first R won (p ∷ paths) all = by (is_won won p) (pairs_first R won paths
     by false rest further = (each_first (R p) (won ++ p ∷ []) paths all.0, further)
 
 -- paths of one length, by their positions
-Lex : Path → Path → Type 0
+abbrev Lex : Path → Path → Type 0
 Lex p q = slice_cmp nat_cmp (positions p) (positions q) ≡ Less
 
 less : (a b : ℕ) → a < b → nat_cmp a b ≡ Less
@@ -84,7 +84,7 @@ two_fronts (x ∷ xs) (y ∷ ys) a b same lt = by (nat_cmp x y) lt (two_fronts x
 
 count : (p : Path) → length (positions p) ≡ length p
 count [] = refl
-count (e ∷ p) = length-append (positions p) (e.position ∷ []) ∙ ap (λ n. n + 1) (count p) ∙ omega arith
+count (e ∷ p) = omega (arith, length-append (positions p) (e.position ∷ []), count p)
 
 -- the paths one edge longer than one
 tail_of : (e : Edge) (edges : List Edge) → Ascends (e ∷ edges) → Ascends edges

@@ -54,7 +54,8 @@ pub fn stated_edge(
     managed_scope: bool,
     exclusions: Shared<List<Exclusion>>,
 ) -> Mem<Edge>
-    ensures { IfOk result (λ made. made ≡ stated_edge position key version.now scope.now managed_scope exclusions) }
+    ensures { IfOk result (λ made. made
+        ≡ stated_edge position key version.now scope.now managed_scope exclusions) }
 {
     let requirement = text_of(alloc, version)?;
     Ok(Edge {

@@ -105,7 +105,8 @@ fn managed_edge(
     cut: &Shared<List<Exclusion>>,
     managed: &Dependency,
 ) -> Mem<Edge>
-    ensures { IfOk result (λ made. made ≡ managed_edge position key dependency.now cut.now managed.now) }
+    ensures { IfOk result (λ made. made
+        ≡ managed_edge position key dependency.now cut.now managed.now) }
 {
     let own = gathered(alloc, cut, &dependency.exclusions)?;
     let exclusions = gathered(alloc, &own, &managed.exclusions)?;
@@ -146,7 +147,8 @@ fn add_edge(
     managed: &ManagedSet,
     cut: &Shared<List<Exclusion>>,
 ) -> Mem<()>
-    ensures { OnOk result (list.new ≡ list.old ++ transitive_edge managed.now cut.now position dependency.now) }
+    ensures { OnOk result (list.new
+        ≡ list.old ++ transitive_edge managed.now cut.now position dependency.now) }
 {
     if is_kept(dependency) && !is_excluded(cut.as_slice(), dependency) {
         list.push(edge_below(alloc, position, dependency, managed, cut)?)?;

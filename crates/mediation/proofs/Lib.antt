@@ -1,4 +1,4 @@
 pub mod Kept
 pub mod Paths
 pub mod Growing
-pub mod Levels
+pub mod Lengths

@@ -1,11 +1,8 @@
 -- Winners have keys of their own.
-use Rattle.std.proofs.Common.{◌≡◌, ℕ, zero, suc, ◌<◌, Bool, true, false, List, [], ◌∷◌, ◌++◌, length, slice_index_or, flat_map, find, Option, Some, None, is_some, refl, sym, ap, subst, ◌∙◌, if◌then◌else◌, cond, arith, AllPairs, append-nil, append_assoc}
+use Rattle.std.proofs.Common.{◌≡◌, ℕ, zero, suc, ◌<◌, Bool, true, false, List, [], ◌∷◌, ◌++◌, length, slice_index_or, flat_map, find, Some, is_some, refl, sym, subst, if◌then◌else◌, cond, arith, append-nil, append_assoc}
 use Rattle.std.proofs.lemmas.Bool.{false≢true}
 use Rattle.std.proofs.lemmas.List.Quantifiers.{all_pairs_push}
-use Rattle.collector.specs.declared.edge.Edge.{Edge}
-use Rattle.mvn_base.specs.declared.key.Key.{Key}
-use Rattle.model_merge.specs.Keyed.{same_key}
-use Rattle.winner_law.specs.Winners.{Graph, Path, SharesNone, ends_at, firsts, is_won, level, longer, shares_end, winner_of, winners}
+use Rattle.winner_law.specs.Winners.{Graph, Path, SharesNone, ends_at, firsts, is_won, level, longer, shares_end, winners}
 
 -- where nothing is found, no item passes
 none_passes : (test : Path → Bool) (xs : List Path) → is_some (find test xs) ≡ false → (k : ℕ) (d : Path) → k < length xs → test (slice_index_or xs k d) ≡ false

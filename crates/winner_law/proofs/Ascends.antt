@@ -1,5 +1,5 @@
 -- Counting paths stand by length, and of one length by their positions.
-use Rattle.std.proofs.Common.{◌≡◌, ◌⊎◌, inl, inr, ℕ, zero, suc, ◌<◌, ◌≤◌, ◌+◌, Bool, true, false, List, [], ◌∷◌, ◌++◌, map, length, slice_index_or, flat_map, refl, sym, ap, subst, ◌∙◌, if◌then◌else◌, arith, AllPairs, length-append}
+use Rattle.std.proofs.Common.{◌≡◌, inl, inr, ℕ, zero, suc, ◌<◌, ◌≤◌, ◌+◌, Bool, true, false, List, [], ◌∷◌, ◌++◌, map, length, slice_index_or, flat_map, refl, sym, ap, ◌∙◌, if◌then◌else◌, arith, All, AllPairs, Option, Some, unwrap_or, subst, cond, length-append}
 use Rattle.std.specs.Bool.{⊤}
 use Rattle.std.specs.Cmp.Lexicographic.{slice_cmp}
 use Rattle.std.specs.Ordering.{nat_cmp, ordering_then}
@@ -7,11 +7,11 @@ use Rattle.std.specs.declared.cmp.Ordering.{Ordering}
 use Rattle.std.specs.declared.cmp.Ordering.TheVariants.{Less, Equal, Greater}
 use Rattle.std.proofs.lemmas.Cmp.{by_ranked, ranked}
 use Rattle.std.proofs.lemmas.List.Kept.{AllPairs-cons}
-use Rattle.std.proofs.lemmas.List.Elements.{All-from_recursion}
 use Rattle.collector.specs.declared.edge.Edge.{Edge}
 use Rattle.mvn_base.specs.declared.key.Key.{Key}
-use Rattle.model_merge.specs.Keyed.{same_key}
-use Rattle.winner_law.specs.Winners.{Ascends, Before, Graph, IsOrdered, Path, counting, firsts, next_edges, is_won, level, longer, positions, winners}
+use Rattle.std.proofs.lemmas.Bool.{false≢true}
+use Rattle.winner_law.proofs.Firsts.{first_counts}
+use Rattle.winner_law.specs.Winners.{Ascends, Before, Graph, IsAtMost, IsOrdered, Path, counting, ends_at, firsts, is_won, level, longer, next_edges, positions, winner_of, winners}
 
 -- each of a list, and each with each later one
 abbrev Each : (Path → Type 0) → List Path → Type 0
@@ -186,3 +186,18 @@ pairs_are R (x ∷ xs) all = AllPairs-cons R x xs (each_is (R x) xs all.0) (pair
 
 pub ascending : (graph : Graph) (n : ℕ) → IsOrdered graph → AllPairs Before (counting graph n)
 ascending graph n ordered = pairs_are Before (counting graph n) (counting_pairs graph ordered n)
+
+-- of paths that stand in order the first of a key is the least of that key
+least_each : (key : Key) (paths : List Path) (w : Path) → Pairs Before paths → winner_of paths key ≡ Some w → Each (IsAtMost key w) paths
+least_each key [] w pairs is = tt
+least_each key (p ∷ paths) w pairs is = by (ends_at key p) refl is (least_each key paths w pairs.1)
+  where
+    by : (b : Bool) → ends_at key p ≡ b → cond b (Some p) (winner_of paths key) ≡ Some w → (winner_of paths key ≡ Some w → Each (IsAtMost key w) paths) → IsAtMost key w p × Each (IsAtMost key w) paths
+    by true t is rest =
+        let same : p ≡ w = ap (λ o. unwrap_or o p) is in
+        (λ _. inl (sym same), each_map (Before p) (IsAtMost key w) paths (λ q before _. inr (subst (λ x. Before x q) same before)) pairs.0)
+    by false t is rest = (λ e. absurd (false≢true (sym t ∙ e)), rest is)
+
+pub least : (graph : Graph) (n : ℕ) (key : Key) (w : Path) → IsOrdered graph → winner_of (winners graph n) key ≡ Some w → All (IsAtMost key w) (counting graph n)
+least graph n key w ordered is =
+    each_is (IsAtMost key w) (counting graph n) (least_each key (counting graph n) w (counting_pairs graph ordered n) (sym (first_counts graph n key) ∙ is))

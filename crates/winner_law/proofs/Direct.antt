@@ -1,10 +1,10 @@
 -- A declaration of the project's own wins.
-use Rattle.std.proofs.Common.{◌≡◌, ℕ, zero, suc, Bool, true, false, List, [], ◌∷◌, ◌++◌, map, flat_map, find, Option, Some, None, refl, sym, ap, ◌∙◌, cond}
+use Rattle.std.proofs.Common.{◌≡◌, ℕ, zero, suc, Bool, true, false, List, [], ◌∷◌, map, flat_map, find, Some, refl, ap, ◌∙◌, cond}
 use Rattle.std.specs.Option.{option_map, option_or}
 use Rattle.collector.specs.declared.edge.Edge.{Edge}
 use Rattle.mvn_base.specs.declared.key.Key.{Key}
 use Rattle.model_merge.specs.Keyed.{same_key}
-use Rattle.winner_law.specs.Winners.{Graph, Path, counting, ends_at, level, longer, winner_of, winners}
+use Rattle.winner_law.specs.Winners.{Graph, Path, counting, level, longer, winner_of, winners}
 use Rattle.winner_law.proofs.Firsts.{first_counts, found_behind, or_none}
 
 mapped : (key : Key) (path : Path) (edges : List Edge) → winner_of (map (λ e. e ∷ path) edges) key ≡ option_map (λ e. e ∷ path) (find (λ e. same_key key e.key) edges)

@@ -1,13 +1,12 @@
 -- The first of each key.
-use Rattle.std.proofs.Common.{◌≡◌, ℕ, zero, suc, Bool, true, false, ◌&&◌, List, [], ◌∷◌, ◌++◌, flat_map, find, Option, Some, None, is_some, refl, sym, ap, ◌∙◌, if◌then◌else◌, cond}
+use Rattle.std.proofs.Common.{◌≡◌, ℕ, zero, suc, Bool, true, false, ◌&&◌, List, [], ◌∷◌, ◌++◌, flat_map, Option, Some, None, is_some, refl, sym, ap, ◌∙◌, if◌then◌else◌, cond}
 use Rattle.std.specs.Option.{option_or}
 use Rattle.std.proofs.lemmas.Bool.{false≢true}
 use Rattle.std.specs.Str.{bytes_eq}
 use Rattle.std.proofs.lemmas.Slice.Eq.{bytes_eq-Decides}
-use Rattle.collector.specs.declared.edge.Edge.{Edge}
 use Rattle.mvn_base.specs.declared.key.Key.{Key}
 use Rattle.model_merge.specs.Keyed.{same_key}
-use Rattle.winner_law.specs.Winners.{Graph, Path, counting, ends_at, firsts, is_won, level, longer, winner_of, winners}
+use Rattle.winner_law.specs.Winners.{Graph, Path, counting, ends_at, firsts, level, longer, winner_of, winners}
 
 -- what is found in two lists
 pub found_behind : (key : Key) (xs ys : List Path) → winner_of (xs ++ ys) key ≡ option_or (winner_of xs key) (winner_of ys key)

@@ -1,6 +1,6 @@
 -- Which declaration of a dependency counts. Introduction to the Dependency Mechanism, "Dependency mediation": the nearest,
 -- and of those the first.
-use Rattle.std.specs.Prelude.{◌≡◌, ◌⊎◌, ℕ, zero, suc, ◌<◌, Bool, true, false, List, [], ◌∷◌, ◌++◌, map, length, flat_map, find, Option, Some, None, is_some, if◌then◌else◌, AllPairs}
+use Rattle.std.specs.Prelude.{◌≡◌, ◌⊎◌, ℕ, zero, suc, ◌<◌, Bool, true, false, List, [], ◌∷◌, ◌++◌, map, length, flat_map, find, Option, is_some, if◌then◌else◌, AllPairs}
 use Rattle.std.specs.Cmp.Lexicographic.{slice_cmp}
 use Rattle.std.specs.Ordering.{nat_cmp}
 use Rattle.std.specs.declared.cmp.Ordering.TheVariants.{Less}
@@ -61,7 +61,8 @@ abbrev mutual
 
   pub winners : Graph → ℕ → List Path
   winners graph zero = []
-  winners graph (suc n) = winners graph n ++ firsts (winners graph n) (flat_map (longer graph) (level graph n))
+  winners graph (suc n) =
+      winners graph n ++ firsts (winners graph n) (flat_map (longer graph) (level graph n))
 
 -- the counting paths up to a length: those one edge longer than a winner, or than the project alone
 abbrev pub counting : Graph → ℕ → List Path
@@ -75,7 +76,13 @@ positions (e ∷ path) = positions path ++ e.position ∷ []
 
 -- the shorter path comes first, and of one length the one that is declared first
 abbrev pub Before : Path → Path → Type 0
-Before p q = (length p < length q) ⊎ ((length p ≡ length q) × (slice_cmp nat_cmp (positions p) (positions q) ≡ Less))
+Before p q =
+    (length p < length q)
+    ⊎ ((length p ≡ length q) × (slice_cmp nat_cmp (positions p) (positions q) ≡ Less))
+
+-- a path of a key comes before another of it, or is it
+abbrev pub IsAtMost : Key → Path → Path → Type 0
+IsAtMost key p q = ends_at key q ≡ true → (p ≡ q) ⊎ Before p q
 
 -- what an end leads to stands in the order of its declarations
 abbrev pub Ascends : List Edge → Type 0

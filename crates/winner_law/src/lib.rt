@@ -4,4 +4,4 @@
 
 pub mod law;
 
-pub use law::{first_declaration_wins, nearest_and_first};
+pub use law::{declarations_ascend, first_declaration_wins, nearest_and_first};

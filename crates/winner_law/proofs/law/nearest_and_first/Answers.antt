@@ -1,5 +1,5 @@
 use Rattle.winner_law.proofs.Apart.{one_winner}
-use Rattle.winner_law.proofs.Ascends.{ascending}
+use Rattle.winner_law.proofs.Ascends.{ascending, least}
 use Rattle.winner_law.proofs.Direct.{direct_stands}
 use Rattle.winner_law.proofs.Firsts.{first_counts}
 use Rattle.winner_law.proofs.law.nearest_and_first.Goals as goal
@@ -15,3 +15,6 @@ returns-clause-one c = one_winner
 
 pub returns-clause-direct : goal.returns-clause-direct
 returns-clause-direct c = direct_stands
+
+pub returns-clause-least : goal.returns-clause-least
+returns-clause-least c = least

@@ -1,6 +1,4 @@
-use model_types::{
-    Build, BuildBase, Dependency, Exclusion, Model, ModelBase, Outputs, Sources,
-};
+use model_types::{Build, BuildBase, Dependency, Exclusion, Model, ModelBase, Outputs, Sources};
 use mvn_base::{Gav, PomId};
 use mvn_shared::{List, Mem, Shared, Text};
 use std::alloc::Global;

@@ -60,6 +60,5 @@ put_kept entries after key w kept named none room is = record {
   few = small (length after) (ap length (put_new entries after key w kept named none is) ∙ length_last entries (key_of w, w)) (counted entries);
 }
   where
-
     small : (n : ℕ) → n ≡ length entries + 1 → length (seconds entries) ≡ length entries → n ≤ 16384
     small n is same = omega arith

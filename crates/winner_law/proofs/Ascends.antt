@@ -1,5 +1,5 @@
 -- Counting paths stand by length, and of one length by their positions.
-use Rattle.std.proofs.Common.{◌≡◌, inl, inr, ℕ, zero, suc, ◌<◌, ◌≤◌, ◌+◌, Bool, true, false, List, [], ◌∷◌, ◌++◌, map, length, slice_index_or, flat_map, refl, sym, ap, ◌∙◌, if◌then◌else◌, arith, All, AllPairs, Option, Some, unwrap_or, subst, cond, length-append}
+use Rattle.std.proofs.Common.{◌≡◌, inl, inr, ℕ, zero, suc, ◌<◌, ◌≤◌, ◌+◌, Bool, true, false, List, [], ◌∷◌, ◌++◌, map, length, slice_index_or, flat_map, refl, sym, ap, ◌∙◌, if◌then◌else◌, arith, All, AllPairs, Some, unwrap_or, subst, cond, length-append}
 use Rattle.std.specs.Bool.{⊤}
 use Rattle.std.specs.Cmp.Lexicographic.{slice_cmp}
 use Rattle.std.specs.Ordering.{nat_cmp, ordering_then}

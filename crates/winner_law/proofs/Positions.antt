@@ -1,5 +1,5 @@
 -- The edges of a POM stand in the order of its declarations.
-use Rattle.std.proofs.Common.{◌≡◌, ◌⊎◌, inl, inr, ℕ, zero, suc, ◌<◌, ◌≤◌, ◌+◌, Bool, true, false, not, ◌&&◌, List, [], ◌∷◌, ◌++◌, length, slice_index_or, Option, Some, None, refl, sym, subst, arith, if◌then◌else◌, AllPairs}
+use Rattle.std.proofs.Common.{◌≡◌, ◌⊎◌, inl, inr, ℕ, zero, suc, ◌<◌, ◌≤◌, ◌+◌, Bool, true, false, not, ◌&&◌, List, [], ◌∷◌, ◌++◌, length, slice_index_or, Option, Some, None, refl, sym, subst, arith, if◌then◌else◌}
 use Rattle.std.specs.Bool.{⊤}
 use Rattle.std.proofs.lemmas.List.Kept.{AllPairs-cons}
 use Rattle.mvn_base.specs.declared.key.Key.{Key}
@@ -43,7 +43,7 @@ module _ (f : ℕ → Dependency → List Edge) (one : (at : ℕ) (d : Dependenc
       by edges (inl is) above rest = subst (λ l. Climbs (l ++ edges_from f (at + 1) ds)) (sym is) rest
       by edges (inr (e, is, place)) above rest =
           subst (λ l. Climbs (l ++ edges_from f (at + 1) ds)) (sym is)
-              (each_of_map (λ g. at + 1 ≤ g.position) (λ g. e.position < g.position) (edges_from f (at + 1) ds) (λ g le. omega (arith, place, le)) above, rest)
+          (each_of_map (λ g. at + 1 ≤ g.position) (λ g. e.position < g.position) (edges_from f (at + 1) ds) (λ g le. omega (arith, place, le)) above, rest)
 
 each_of_is : (P : Edge → Type 0) (xs : List Edge) → EachOf P xs → (k : ℕ) (d : Edge) → k < length xs → P (slice_index_or xs k d)
 each_of_is P [] all k d lt = absurd (omega arith)

@@ -34,7 +34,8 @@ far = edge_to 0 (codes "far") (codes "1")
 abbrev pub needs : List ℕ → List ℕ → List Edge
 needs artifact version = if bytes_eq artifact (codes "web") then base_one ∷ []
     else (if bytes_eq artifact (codes "near") then base_two ∷ []
-    else (if bytes_eq artifact (codes "base") && bytes_eq version (codes "2") then far ∷ [] else []))
+    else (if bytes_eq artifact (codes "base") && bytes_eq version (codes "2") then far ∷ []
+    else []))
 
 abbrev pub example : Graph
 example = record { direct = web ∷ near ∷ []; below = λ e. needs e.key.artifact e.requirement }

@@ -24,20 +24,17 @@ pub fn nearest_and_first()
     ensures direct { (graph : Graph) (n : ℕ) (key : Key) (e : Edge)
         → find (λ f. same_key key f.key) graph.direct ≡ Some e
         → winner_of (winners graph (suc n)) key ≡ Some (e ∷ []) }
-{
-}
+{}
 
 /// What a POM's dependencies lead to stands in the order of its declarations, as the laws of winners want it.
 pub fn declarations_ascend()
     ensures direct { (dependencies : Items Dependency) → Ascends (direct_edges dependencies) }
-    ensures transitive { (dependencies : Items Dependency) (managed : Items (Key × Dependency)) (cut : Items Exclusion)
-        → Ascends (transitive_edges dependencies managed cut) }
-{
-}
+    ensures transitive { (dependencies : Items Dependency) (managed : Items (Key × Dependency))
+        (cut : Items Exclusion) → Ascends (transitive_edges dependencies managed cut) }
+{}
 
 /// An example: a project needs `web` and `near`; both need `base`, `web` with 1 and `near` with 2, and only `base` 2
 /// needs `far`. Of the two that are equally near the first declaration wins, and `far` isn't there.
 pub fn first_declaration_wins()
     ensures { winners example 3 ≡ (web ∷ []) ∷ (near ∷ []) ∷ (base_one ∷ web ∷ []) ∷ [] }
-{
-}
+{}

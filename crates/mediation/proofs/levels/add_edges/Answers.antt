@@ -15,11 +15,11 @@ loop-edge-preserved g c =
     record {
       rest = λ libraries front fits leads new result adds.
           kept.rest libraries front fits leads new result
-              (subst (λ l. Adds libraries c.loop-edge.winners new (map (λ e. e ∷ front) l) result) (sym moved)
-                  (add_more libraries c.loop-edge.winners c.decide.new.winners new ((c.in-Some.edge ∷ front) ∷ []) (map (λ e. e ∷ front) (into_iter_items c.next.new.self)) result (grown libraries front fits leads) adds));
+          (subst (λ l. Adds libraries c.loop-edge.winners new (map (λ e. e ∷ front) l) result) (sym moved)
+          (add_more libraries c.loop-edge.winners c.decide.new.winners new ((c.in-Some.edge ∷ front) ∷ []) (map (λ e. e ∷ front) (into_iter_items c.next.new.self)) result (grown libraries front fits leads) adds));
       leads = λ libraries front fits leads.
           subst (λ p. Leads p c.args.above front) (sym (grown libraries front fits leads).wins)
-              (leads_more (paths_of c.loop-edge.winners) (firsts (paths_of c.loop-edge.winners) ((c.in-Some.edge ∷ front) ∷ [])) c.args.above front (kept.leads libraries front fits leads));
+          (leads_more (paths_of c.loop-edge.winners) (firsts (paths_of c.loop-edge.winners) ((c.in-Some.edge ∷ front) ∷ [])) c.args.above front (kept.leads libraries front fits leads));
       fit = λ libraries fits. c.in-Ok.ensures.same libraries (kept.fit libraries fits);
       faults = c.in-Ok.ensures.cause ∙ kept.faults;
     }

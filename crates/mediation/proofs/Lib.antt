@@ -1,4 +1,0 @@
-pub mod Kept
-pub mod Paths
-pub mod Growing
-pub mod Lengths

@@ -1,0 +1,12 @@
+//! What one POM's dependencies lead to: the edges of a node of the dependency graph.
+#![tactic(auto)]
+
+mod declared;
+mod edge;
+mod scope;
+mod transitive;
+
+pub use declared::direct_edges;
+pub use edge::Edge;
+pub use scope::Scope;
+pub use transitive::edges;

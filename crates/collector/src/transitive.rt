@@ -1,0 +1,178 @@
+ghost use Rattle.std.specs.Prelude.{◌≡◌, ◌++◌, IfOk, OnOk};
+ghost use Rattle.collector.specs.Edges.{edge_below, excludes, is_excluded, is_kept, is_named, managed_edge, plain_edge, transitive_edge, transitive_edges};
+
+use crate::edge::{Edge, first_of, stated_edge};
+use crate::scope::is_scope;
+use managed_deps::ManagedSet;
+use model_merge::Keyed;
+use model_types::{Dependency, Exclusion};
+use mvn_base::Key;
+use mvn_shared::{List, Mem, Shared};
+use std::alloc::Global;
+
+// Whether a declaration counts below the project itself.
+fn is_kept(dependency: &Dependency) -> bool
+    ensures { result ≡ is_kept dependency.now }
+{
+    let scope = &dependency.scope;
+    !(dependency.optional.as_str() == "true"
+        || is_scope(scope, "test")
+        || is_scope(scope, "provided")
+        || is_scope(scope, "system"))
+}
+
+// Whether a pattern names a text.
+fn is_named(pattern: &str, name: &str) -> bool
+    ensures { result ≡ is_named pattern.now name.now }
+{
+    pattern == "*" || pattern == name
+}
+
+// Whether an exclusion names a declaration.
+fn excludes(exclusion: &Exclusion, dependency: &Dependency) -> bool
+    ensures { result ≡ excludes dependency.now exclusion.now }
+{
+    is_named(exclusion.group.as_str(), dependency.group.as_str())
+        && is_named(exclusion.artifact.as_str(), dependency.artifact.as_str())
+}
+
+// Whether some exclusion does.
+fn is_excluded(cut: &[Exclusion], dependency: &Dependency) -> bool
+    ensures { result ≡ is_excluded cut.now dependency.now }
+{
+    for exclusion in cut {
+        if excludes(exclusion, dependency) {
+            return true;
+        }
+    }
+    false
+}
+
+// Exclusions more.
+fn add_all(list: &mut List<Exclusion>, more: &[Exclusion]) -> Mem<()>
+    ensures { OnOk result (list.new ≡ list.old ++ more.now) }
+{
+    for exclusion in more {
+        list.push(exclusion.clone()?)?;
+    }
+    Ok(())
+}
+
+// What is left out above, and what is added; shared where nothing is.
+fn gathered(
+    alloc: Global,
+    cut: &Shared<List<Exclusion>>,
+    more: &List<Exclusion>,
+) -> Mem<Shared<List<Exclusion>>>
+    ensures { IfOk result (λ list. list ≡ cut.now ++ more.now) }
+{
+    if more.is_empty() {
+        return cut.share();
+    }
+    let mut list = cut.value().clone()?;
+    add_all(&mut list, more.as_slice())?;
+    Shared::new(alloc, list)
+}
+
+// What a declaration leads to that isn't managed.
+fn plain_edge(
+    alloc: Global,
+    position: usize,
+    key: Key,
+    dependency: &Dependency,
+    cut: &Shared<List<Exclusion>>,
+) -> Mem<Edge>
+    ensures { IfOk result (λ made. made ≡ plain_edge position key dependency.now cut.now) }
+{
+    let exclusions = gathered(alloc, cut, &dependency.exclusions)?;
+    stated_edge(
+        alloc,
+        position,
+        key,
+        &dependency.version,
+        &dependency.scope,
+        false,
+        exclusions,
+    )
+}
+
+// What one leads to that is.
+fn managed_edge(
+    alloc: Global,
+    position: usize,
+    key: Key,
+    dependency: &Dependency,
+    cut: &Shared<List<Exclusion>>,
+    managed: &Dependency,
+) -> Mem<Edge>
+    ensures { IfOk result (λ made. made
+        ≡ managed_edge position key dependency.now cut.now managed.now) }
+{
+    let own = gathered(alloc, cut, &dependency.exclusions)?;
+    let exclusions = gathered(alloc, &own, &managed.exclusions)?;
+    stated_edge(
+        alloc,
+        position,
+        key,
+        first_of(&managed.version, &dependency.version),
+        first_of(&managed.scope, &dependency.scope),
+        managed.scope.is_some(),
+        exclusions,
+    )
+}
+
+// What a declaration leads to.
+fn edge_below(
+    alloc: Global,
+    position: usize,
+    dependency: &Dependency,
+    managed: &ManagedSet,
+    cut: &Shared<List<Exclusion>>,
+) -> Mem<Edge>
+    ensures { IfOk result (λ made. made ≡ edge_below position dependency.now managed.now cut.now) }
+{
+    let key = dependency.key(alloc)?;
+    match managed.find(&key) {
+        Some(found) => managed_edge(alloc, position, key, dependency, cut, found),
+        None => plain_edge(alloc, position, key, dependency, cut),
+    }
+}
+
+// One edge more, where the declaration stays.
+fn add_edge(
+    alloc: Global,
+    list: &mut List<Edge>,
+    position: usize,
+    dependency: &Dependency,
+    managed: &ManagedSet,
+    cut: &Shared<List<Exclusion>>,
+) -> Mem<()>
+    ensures { OnOk result (list.new
+        ≡ list.old ++ transitive_edge managed.now cut.now position dependency.now) }
+{
+    if is_kept(dependency) && !is_excluded(cut.as_slice(), dependency) {
+        list.push(edge_below(alloc, position, dependency, managed, cut)?)?;
+    }
+    Ok(())
+}
+
+/// What the dependencies of a POM below the project lead to. Left out are those that are optional, those of the scopes
+/// test, provided and system, and those that an exclusion from above names, `*` standing for any group or artifact. The
+/// version and the scope that the project manages replace the declaration's, and its exclusions are added. Costs the
+/// texts, a look-up each, and a comparison with each exclusion; what is left out above is shared where nothing is
+/// added. Introduction to the Dependency Mechanism, "Transitive Dependencies", "Dependency Management" and "Excluded
+/// Dependencies".
+pub fn edges(
+    alloc: Global,
+    dependencies: &[Shared<Dependency>],
+    managed: &ManagedSet,
+    cut: &Shared<List<Exclusion>>,
+) -> Mem<List<Edge>>
+    ensures { IfOk result (λ list. list ≡ transitive_edges dependencies.now managed.now cut.now) }
+{
+    let mut list = List::new(alloc);
+    for at in 0..dependencies.len() {
+        add_edge(alloc, &mut list, at, &dependencies[at], managed, cut)?;
+    }
+    Ok(list)
+}

@@ -1,0 +1,5 @@
+pub mod Firsts
+pub mod Apart
+pub mod Direct
+pub mod Ascends
+pub mod Positions

@@ -3,6 +3,8 @@
 #![tactic(auto)]
 
 #[cfg(test)]
+mod collected;
+#[cfg(test)]
 mod joined;
 #[cfg(test)]
 mod merged;

@@ -1,0 +1,3 @@
+pub mod Children
+mod Examples
+pub mod Present

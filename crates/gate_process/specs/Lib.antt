@@ -1,0 +1,11 @@
+pub use Rattle.child_outside.specs.Children
+pub use Rattle.child_outside.specs.Reading
+pub use Rattle.goal_types.specs.Answers
+pub use Rattle.goal_types.specs.Goals
+pub use Rattle.goal_types.specs.Requests
+pub use Rattle.mvn_outside.specs.Faults
+pub use Rattle.mvn_shared.specs.Cause
+pub mod Answering
+pub mod AnyGate
+pub mod Asking
+pub mod Gate

@@ -1,17 +1,17 @@
 -- The first entry of each key.
-use Rattle.std.proofs.Common.{◌≡◌, Bool, true, false, not, ◌||◌, List, [], ◌∷◌, ◌++◌, map, fold, Option, Some, None, is_some, refl, sym, ap, ◌∙◌, if◌then◌else◌}
+use Rattle.std.proofs.Common.{◌≡◌, Bool, true, false, ◌||◌, List, [], ◌∷◌, ◌++◌, map, fold, is_some, refl, sym, ap, ◌∙◌, if◌then◌else◌}
 use Rattle.mvn_base.specs.declared.key.Key.{Key}
 use Rattle.model_types.specs.declared.dependency.Dependency.{Dependency}
-use Rattle.model_merge.specs.Keyed.{item_of, keyed, same_key}
+use Rattle.model_merge.specs.Keyed.{keyed, same_key}
 use Rattle.model_merge.specs.Merging.{key_of_dependency}
 use Rattle.model_merge.proofs.UnderKeys.{find_keyed, same_key_is, values_keyed}
-use Rattle.managed_deps.specs.Managed.{add, find_pair, first_of_each}
+use Rattle.managed_deps.specs.Managed.{add, first_of_each}
 use Rattle.model_laws.specs.Keys.{each_once, has}
 use Rattle.model_laws.proofs.Keys.{has_found, once_append}
 use Rattle.model_laws.proofs.Merges.{nested, new_behind}
 
 -- one entry more, where its key isn't there
-added : List Dependency → Dependency → List Dependency
+abbrev added : List Dependency → Dependency → List Dependency
 added done d = if has key_of_dependency done (key_of_dependency d) then done else done ++ d ∷ []
 
 add_keyed : (done : List Dependency) (d : Dependency) → add (keyed key_of_dependency done) d ≡ keyed key_of_dependency (added done d)

@@ -1,14 +1,13 @@
 -- Lists whose items are told apart by a key: which keys they have, each once, and what is found under a key.
-use Rattle.std.proofs.Common.{◌≡◌, ℕ, Bool, true, false, not, ◌&&◌, ◌||◌, List, [], ◌∷◌, ◌++◌, map, fold, filter, Option, Some, None, is_some, is_none, refl, sym, ap, ◌∙◌, if◌then◌else◌}
-use Rattle.std.specs.List.{list_any, list_all}
-use Rattle.std.specs.Option.{option_or, option_map, option_map_or}
+use Rattle.std.proofs.Common.{◌≡◌, ℕ, Bool, true, false, not, ◌&&◌, ◌||◌, List, [], ◌∷◌, ◌++◌, map, fold, Option, Some, None, is_some, is_none, refl, sym, ap, ◌∙◌, if◌then◌else◌}
+use Rattle.std.specs.Option.{option_or}
 use Rattle.std.specs.Str.{bytes_eq}
 use Rattle.std.proofs.lemmas.Bool.{false≢true}
 use Rattle.std.proofs.lemmas.Slice.Eq.{bytes_eq-Decides}
 use Rattle.mvn_base.specs.declared.key.Key.{Key}
-use Rattle.model_merge.specs.Keyed.{absorb, absorbed, item_of, merged_lists, merged_over, others, overlaid, put, same_key, settled, underlaid, with_others}
+use Rattle.model_merge.specs.Keyed.{item_of, others, put, same_key, settled, with_others}
 use Rattle.model_merge.proofs.UnderKeys.{and_left, and_right, same_key_is}
-use Rattle.model_laws.specs.Keys.{both, each_once, has, last_of}
+use Rattle.model_laws.specs.Keys.{each_once, has, last_of}
 
 text_self : (t : List ℕ) → bytes_eq t t ≡ true
 text_self t = (bytes_eq-Decides t t).1 refl
@@ -145,14 +144,11 @@ module _ {T : Type 0} (key : T → Key) where
       none false = refl
   has_others items (x ∷ further) k = by (is_none (item_of key items (key x))) refl (same_key k (key x)) refl (has_others items further k)
     where
-      kept : Bool → List T
-      kept b = if b then x ∷ others key items further else others key items further
-
       same : same_key k (key x) ≡ true → not (has key items k) ≡ is_none (item_of key items (key x))
       same s = ap (λ k. not (has key items k)) (same_key_is k (key x) s) ∙ sym (found_has items (key x))
 
       by : (n : Bool) → is_none (item_of key items (key x)) ≡ n → (s : Bool) → same_key k (key x) ≡ s → has key (others key items further) k ≡ (not (has key items k) && has key further k)
-          → has key (kept n) k ≡ (not (has key items k) && (same_key k (key x) || has key further k))
+          → has key (if n then x ∷ others key items further else others key items further) k ≡ (not (has key items k) && (same_key k (key x) || has key further k))
       by true n true s rest = ap (λ b. b || has key (others key items further) k) s ∙ sym (ap (λ b. b && (same_key k (key x) || has key further k)) (same s ∙ n) ∙ ap (λ b. b || has key further k) s)
       by true n false s rest = ap (λ b. b || has key (others key items further) k) s ∙ rest ∙ ap (λ b. not (has key items k) && (b || has key further k)) (sym s)
       by false n true s rest =
@@ -269,15 +265,12 @@ module _ {T : Type 0} (key : T → Key) where
       none false = refl
   item_others items (x ∷ further) k = by (is_none (item_of key items (key x))) refl (same_key k (key x)) refl (item_others items further k)
     where
-      kept : Bool → List T
-      kept b = if b then x ∷ others key items further else others key items further
-
       same : same_key k (key x) ≡ true → is_none (item_of key items k) ≡ is_none (item_of key items (key x))
       same s = ap (λ k. is_none (item_of key items k)) (same_key_is k (key x) s)
 
       by : (n : Bool) → is_none (item_of key items (key x)) ≡ n → (s : Bool) → same_key k (key x) ≡ s
           → item_of key (others key items further) k ≡ (if is_none (item_of key items k) then item_of key further k else None)
-          → item_of key (kept n) k ≡ (if is_none (item_of key items k) then (if same_key k (key x) then Some x else item_of key further k) else None)
+          → item_of key (if n then x ∷ others key items further else others key items further) k ≡ (if is_none (item_of key items k) then (if same_key k (key x) then Some x else item_of key further k) else None)
       by true n true s rest =
           ap (λ b. if b then Some x else item_of key (others key items further) k) s
           ∙ sym (ap (λ b. if b then (if same_key k (key x) then Some x else item_of key further k) else None) (same s ∙ n) ∙ ap (λ b. if b then Some x else item_of key further k) s)

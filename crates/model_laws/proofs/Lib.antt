@@ -2,6 +2,5 @@ mod Composed
 mod FirstOfEach
 mod Keys
 mod Merges
-mod Places
 mod Plugins
 mod Worked

@@ -2,7 +2,8 @@
 use inheritance::inherited_plugins;
 use managed_deps::managed;
 use model_merge::{
-    Keyed, Mergeable, absorbed, copies, merged_execution, merged_lists, merged_over, merged_under,
+    Keyed, Mergeable, absorbed, copies, each_settled, merged_execution, merged_lists, merged_over,
+    merged_under, settled_plugin, settled_plugins,
 };
 use model_types::Plugin;
 use mvn_base::ModelError;
@@ -63,6 +64,21 @@ fn a_plugin_and_its_execution_are_merged(rt: HostRuntime) -> Result<(), Fail> {
     assert!(rt; Plugin::merged(rt.alloc(), plugin, plugin)?.inherited);
     let execution = plugin.executions.get(0).ok_or("no execution")?;
     assert!(rt; merged_execution(rt.alloc(), execution, execution)?.inherited);
+    Ok(())
+}
+
+const TWICE: &str =
+    "<build><plugins><plugin><artifactId>a</artifactId></plugin><plugin><artifactId>a</artifactId><version>1</version><executions><execution><id>e</id></execution><execution><id>e</id></execution></executions></plugin></plugins></build>";
+
+#[test]
+fn what_stands_twice_is_settled(rt: HostRuntime) -> Result<(), Fail> {
+    let twice = plugins(rt.alloc(), TWICE)?;
+    let each = each_settled(rt.alloc(), twice.as_slice())?;
+    assert_eq!(rt; shown(rt.alloc(), each.as_slice())?.as_str(), "aa!");
+    let settled = settled_plugins(rt.alloc(), twice.as_slice())?;
+    assert_eq!(rt; shown(rt.alloc(), settled.as_slice())?.as_str(), "a!");
+    let plugin = settled_plugin(rt.alloc(), twice.get(1).ok_or("no plugin")?)?;
+    assert_eq!(rt; plugin.executions.len(), 1);
     Ok(())
 }
 

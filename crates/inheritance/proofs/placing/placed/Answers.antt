@@ -1,7 +1,7 @@
 use Rattle.std.proofs.Common.{◌≡◌, ◌++◌, subst, rules}
 use Rattle.inheritance.specs.Others.{Stands, listed}
 use Rattle.inheritance.proofs.Leading.{inherited_whole}
-use Rattle.inheritance.proofs.placing.inherited_plugins.Goals as goal
+use Rattle.inheritance.proofs.placing.placed.Goals as goal
 
 pub returns : goal.returns
 returns c =

@@ -8,8 +8,8 @@ ghost use Rattle.version_laws.specs.Places.{GoesOn, EndsCrossed};
 /// A law of the place of a refused requirement: whatever stands behind the byte at it, the text is refused there; and the text up to
 /// it can be gone on with to a requirement, unless it ends in an interval whose bounds cross so far. It does nothing when it runs.
 pub fn refused_place()
-    ensures no_further { (text rest : List ℕ) (place : ℕ) → requirement text ≡ Err place → place < length text
-        → requirement (take (place + 1) text ++ rest) ≡ Err place }
+    ensures no_further { (text rest : List ℕ) (place : ℕ) → requirement text ≡ Err place
+        → place < length text → requirement (take (place + 1) text ++ rest) ≡ Err place }
     ensures so_far { (text : List ℕ) (place : ℕ) → requirement text ≡ Err place
         → GoesOn (take place text) ⊎ EndsCrossed (take place text) }
 {}

@@ -1,0 +1,6 @@
+-- What a spawner of the system tells.
+use Rattle.std.specs.Prelude.{ℕ}
+use Rattle.child_real.specs.declared.spawner.RealSpawner.{RealSpawner}
+
+abbrev pub spawner_faults : {R : Type 0} → RealSpawner R → ℕ
+spawner_faults spawner = spawner.faults

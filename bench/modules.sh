@@ -1,6 +1,7 @@
 #!/usr/bin/env bash
-# How the time of ordering modules grows with the edges and with the modules, as ratios in one run of the built program
-# `bench_modules`. The edges are read as text, which is part of it; a ratio of the sizes is what near linear costs.
+# How the time of ordering modules grows with the edges and with the modules, and that of keeping soft edges with their number, as
+# ratios in one run of the built program `bench_modules`. The edges are read as text, which is part of it, but for the soft ones; a ratio
+# of the sizes is what near linear costs.
 . "$(dirname "$0")/common.sh"
 want crates/bench_modules/out/bench_modules '(cd crates/bench_modules && rt run)'
 once() { "$program" < in > out; }
@@ -21,4 +22,10 @@ first=
 for modules in 12500 25000 50000 100000; do
   graph "$modules" "$modules" > in
   row 'modules with as many edges' "$modules" $(($(least 15) - base))
+done
+# soft edges from each module to the modules behind it, the first again behind the last, so that most of them close a cycle
+first=
+for edges in 128 256 512 1024; do
+  printf '1024\nsoft %s\n' "$edges" > in
+  row 'soft edges of each of 1024 modules' "$edges" $(($(least 5) - base))
 done

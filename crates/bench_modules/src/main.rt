@@ -1,9 +1,11 @@
 //! Tells in which order modules are built. The first line of standard input is their number, each further one an edge: a
-//! module and an upstream of it, with a space between. Prints the order, or the cycle, on one line.
+//! module and an upstream of it, with a space between. A line `soft K` gives each module K soft edges, to the modules that
+//! come behind it, the first again behind the last. Prints the order, or the cycle, on one line.
 #![tactic(auto)]
 
 use mvn_shared::List;
-use reactor_order::{OrderError, edges_below, order};
+use reactor_order::{OrderError, edges_below, keep, order};
+use std::alloc::{AllocError, Global};
 
 // The two numbers of an edge.
 fn edge(line: &str) -> Option<(u32, u32)> {
@@ -21,6 +23,31 @@ fn print_list(rt: &HostRuntime, label: &str, list: &List<u32>) -> anyhow::Result
     }
     println!(rt; "")?;
     Ok(())
+}
+
+// So many soft edges of each module, to the modules behind it.
+fn soft_edges(alloc: Global, n: u32, count: u32) -> Result<Vec<(u32, u32)>, AllocError> {
+    let mut edges = Vec::new(alloc);
+    for m in 0..n {
+        for k in 0..count {
+            edges.push((m, m.wrapping_add(k).wrapping_add(1) % n))?;
+        }
+    }
+    Ok(edges)
+}
+
+// The edges that are kept with these soft ones.
+fn kept(
+    alloc: Global,
+    n: u32,
+    firm: &[(u32, u32)],
+    count: u32,
+) -> anyhow::Result<List<(u32, u32)>> {
+    let soft = soft_edges(alloc, n, count)?;
+    if !edges_below(n, firm) || !edges_below(n, &soft) {
+        return Ok(List::of(Vec::from_slice(alloc, firm)?));
+    }
+    Ok(keep(alloc, n, firm, &soft)?)
 }
 
 fn print_order(rt: &HostRuntime, n: u32, edges: &[(u32, u32)]) -> anyhow::Result<()> {
@@ -41,16 +68,21 @@ fn print_order(rt: &HostRuntime, n: u32, edges: &[(u32, u32)]) -> anyhow::Result
 fn main(rt: HostRuntime) -> anyhow::Result<()> {
     let mut number = None;
     let mut edges = Vec::new(rt.alloc());
+    let mut soft = 0;
     for line in rt.lines(rt.alloc()) {
         let line = line?;
         match number {
             None => number = line.as_str().parse::<u32>().ok(),
             Some(_) => {
-                if let Some(edge) = edge(line.as_str()) {
+                if let Some(count) = line.as_str().strip_prefix("soft ") {
+                    soft = count.parse::<u32>().unwrap_or(0);
+                } else if let Some(edge) = edge(line.as_str()) {
                     edges.push(edge)?;
                 }
             }
         }
     }
-    print_order(&rt, number.unwrap_or(0), &edges)
+    let n = number.unwrap_or(0);
+    let kept = kept(rt.alloc(), n, &edges, soft)?;
+    print_order(&rt, n, kept.as_slice())
 }

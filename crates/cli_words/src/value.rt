@@ -46,7 +46,8 @@ pub(crate) fn number(word: &[u8]) -> Option<u32>
 
 // The texts between commas.
 fn parts<'a>(alloc: Global, value: &'a str) -> Result<Vec<&'a str>, AllocError>
-    ensures { IfOk result (λ found. map (λ x. x.now) found.items ≡ slice_split (λ b. b == 44) value.now) }
+    ensures { IfOk result (λ found.
+        map (λ x. x.now) found.items ≡ slice_split (λ b. b == 44) value.now) }
 {
     value.split(',').collect(alloc)
 }
@@ -118,7 +119,8 @@ pub(crate) fn value_of(word: &str) -> &str
 
 /// A word as a text, where it is UTF-8. Costs the word's length.
 pub(crate) fn text_of(word: &[u8]) -> Option<&str>
-    ensures { MatchOption result (is_utf8 word.now ≡ false) (λ text. (text.now ≡ word.now) × (is_utf8 word.now ≡ true)) }
+    ensures { MatchOption result (is_utf8 word.now ≡ false) (λ text. (text.now ≡ word.now) ×
+        (is_utf8 word.now ≡ true)) }
 {
     match std::str::from_utf8(word) {
         Ok(text) => Some(text),

@@ -9,6 +9,8 @@ ghost use Rattle.coordinate_laws.specs.Apart.{IsFileOf};
 /// `b.c`. It does nothing when it runs. Maven's repository layout; the names of locks are a
 /// project rule.
 pub fn one_coordinate()
-    ensures file { (name : List ℕ) (one other : Gav) → IsFileOf one name → IsFileOf other name → one ≡ other }
-    ensures lock { (one other : Gav) → IsValid one → IsValid other → lock_name one ≡ lock_name other → one ≡ other }
+    ensures file { (name : List ℕ) (one other : Gav) → IsFileOf one name → IsFileOf other name →
+        one ≡ other }
+    ensures lock { (one other : Gav) → IsValid one → IsValid other →
+        lock_name one ≡ lock_name other → one ≡ other }
 {}

@@ -37,7 +37,10 @@ impl Values {
 
     // One more, in the place of an earlier one of its name.
     fn add(&mut self, pair: &Pair) -> Mem<()>
-        ensures { OnOk result ((q : Items ℕ) → value_of self.new q ≡ option_or (if bytes_eq pair.now.name q then Some pair.now.value else None) (value_of self.old q)) }
+        ensures { OnOk result ((q : Items ℕ) →
+            value_of self.new q
+            ≡ option_or (if bytes_eq pair.now.name q then Some pair.now.value else None)
+            (value_of self.old q)) }
     {
         let name = pair.name.clone()?;
         let value = pair.value.clone()?;
@@ -47,7 +50,8 @@ impl Values {
 
     /// The values of a list. Costs its number and texts, on the average.
     pub fn of(alloc: Global, pairs: &[Pair]) -> Mem<Values>
-        ensures { IfOk result (λ values. (q : Items ℕ) → value_of values q ≡ last_named pairs.now q) }
+        ensures { IfOk result (λ values. (q : Items ℕ) →
+            value_of values q ≡ last_named pairs.now q) }
     {
         let mut values = Values::new(alloc);
         for pair in pairs {

@@ -67,7 +67,8 @@ fn push_name(alloc: Global, list: &mut List<Part>, name: &str) -> Mem<()>
 
 // What a text goes on with, behind a list, and what follows then.
 fn push_next<'a>(alloc: Global, list: &mut List<Part>, text: &'a str) -> Mem<Option<&'a str>>
-    ensures { IfOk result (λ further. Goes list.old list.new text.now (option_map (λ x. x.now) further)) }
+    ensures { IfOk result (λ further.
+        Goes list.old list.new text.now (option_map (λ x. x.now) further)) }
 {
     match next_of(text) {
         Next::Last => {

@@ -82,7 +82,8 @@ fn failure_text(alloc: Global, bytes: &[u8]) -> Mem<Text>
 
 // What a goal's failing source says, if there is one.
 fn failure_of(alloc: Global, goal: &Text, sources: &[SourceFile]) -> Mem<Option<Text>>
-    ensures { IfOk result (λ found. found ≡ option_map (λ s. failure_text s.bytes) (failure_in goal.now sources.now)) }
+    ensures { IfOk result (λ found.
+        found ≡ option_map (λ s. failure_text s.bytes) (failure_in goal.now sources.now)) }
 {
     let mut tail = Vec::from_slice(alloc, b"/fail-")?;
     tail.extend_from_slice(goal.as_bytes())?;
@@ -94,7 +95,8 @@ fn failure_of(alloc: Global, goal: &Text, sources: &[SourceFile]) -> Mem<Option<
 
 // Feeds the hasher with the bytes of sources.
 fn feed_sources<D: Digest>(hasher: &mut D, sources: &[SourceFile])
-    ensures { (m : List ℕ) → D.holds hasher.old m → D.holds hasher.new (m ++ flat_map (λ s. s.bytes) sources.now) }
+    ensures { (m : List ℕ) → D.holds hasher.old m →
+        D.holds hasher.new (m ++ flat_map (λ s. s.bytes) sources.now) }
 {
     for file in sources {
         hasher.update(file.bytes.as_slice());
@@ -103,7 +105,8 @@ fn feed_sources<D: Digest>(hasher: &mut D, sources: &[SourceFile])
 
 // Feeds the hasher with the bytes of a module's own outputs.
 fn feed_own<D: Digest>(hasher: &mut D, own: &[OwnBytes])
-    ensures { (m : List ℕ) → D.holds hasher.old m → D.holds hasher.new (m ++ flat_map (λ o. o.bytes) own.now) }
+    ensures { (m : List ℕ) → D.holds hasher.old m →
+        D.holds hasher.new (m ++ flat_map (λ o. o.bytes) own.now) }
 {
     for output in own {
         hasher.update(output.bytes.as_slice());
@@ -112,7 +115,8 @@ fn feed_own<D: Digest>(hasher: &mut D, own: &[OwnBytes])
 
 // Feeds the hasher with the bytes of the entries of a classpath.
 fn feed_entries<D: Digest>(hasher: &mut D, entries: &[PathEntry])
-    ensures { (m : List ℕ) → D.holds hasher.old m → D.holds hasher.new (m ++ flat_map (λ e. entry_bytes e.bytes) entries.now) }
+    ensures { (m : List ℕ) → D.holds hasher.old m →
+        D.holds hasher.new (m ++ flat_map (λ e. entry_bytes e.bytes) entries.now) }
 {
     for entry in entries {
         if let Some(found) = &entry.bytes {

@@ -77,7 +77,8 @@ fn says(value: &Value, key: &str, text: &str) -> bool
 
 // Whether the value has this number under this key.
 fn has_number(value: &Value, key: &str, number: u64) -> bool
-    ensures { result ≡ unwrap_or (option_map (λ n. n == number) (number_at key.now (view value.now))) false }
+    ensures { result
+        ≡ unwrap_or (option_map (λ n. n == number) (number_at key.now (view value.now))) false }
 {
     match value.get(key).and_then(Value::as_u64) {
         Some(found) => found == number,

@@ -179,7 +179,8 @@ const OTHER_GOAL: GoalRule = GoalRule {
 
 // The rule of the first of these rows that is this goal's.
 fn rule_among(rows: &[Row], plugin: &[u8], goal: &[u8]) -> Option<GoalRule>
-    ensures { result ≡ option_map (λ r. r.rule) (find (is_row plugin.now goal.now) (map row_view rows.now)) }
+    ensures { result
+        ≡ option_map (λ r. r.rule) (find (is_row plugin.now goal.now) (map row_view rows.now)) }
 {
     for (artifact, name, phase, slot, need) in rows {
         if plugin == artifact.as_bytes() && goal == name.as_bytes() {

@@ -131,7 +131,9 @@ fn request_object(
     classpath: Value,
     configuration: Value,
 ) -> Result<Value, AllocError>
-    ensures { IfOk result (λ value. view value ≡ request_object request.now plugin.now (view sources) (view own) (view classpath) (view configuration)) }
+    ensures { IfOk result (λ value.
+        view value ≡ request_object request.now plugin.now (view sources) (view own)
+        (view classpath) (view configuration)) }
 {
     json!(in alloc; {
         "artifactId": request.module.artifact.as_str(),
@@ -181,7 +183,8 @@ pub fn request_line(alloc: Global, request: &GoalRequest) -> Mem<Bytes>
 }
 
 fn push_sources(bytes: &mut Vec<u8>, sources: &[SourceFile]) -> Mem<()>
-    ensures { OnOk result (bytes.new.items ≡ bytes.old.items ++ flat_map (λ s. s.bytes) sources.now) }
+    ensures { OnOk result
+        (bytes.new.items ≡ bytes.old.items ++ flat_map (λ s. s.bytes) sources.now) }
 {
     for source in sources {
         bytes.extend_from_slice(source.bytes.as_slice())?;
@@ -199,7 +202,8 @@ fn push_own(bytes: &mut Vec<u8>, own: &[OwnBytes]) -> Mem<()>
 }
 
 fn push_entries(bytes: &mut Vec<u8>, entries: &[PathEntry]) -> Mem<()>
-    ensures { OnOk result (bytes.new.items ≡ bytes.old.items ++ flat_map (λ e. entry_bytes e.bytes) entries.now) }
+    ensures { OnOk result
+        (bytes.new.items ≡ bytes.old.items ++ flat_map (λ e. entry_bytes e.bytes) entries.now) }
 {
     for entry in entries {
         if let Some(found) = &entry.bytes {

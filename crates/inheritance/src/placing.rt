@@ -18,7 +18,8 @@ use std::collections::{HashMap, HashSet};
 
 // The executions that a child takes over.
 fn inherited_executions(alloc: Global, list: &[Shared<Execution>]) -> Mem<List<Shared<Execution>>>
-    ensures { IfOk result (λ kept. kept ≡ filter (λ (e : executions.Execution). e.inherited) list.now) }
+    ensures { IfOk result (λ kept.
+        kept ≡ filter (λ (e : executions.Execution). e.inherited) list.now) }
 {
     let mut kept = List::new(alloc);
     for execution in list {
@@ -65,7 +66,9 @@ fn inheritable(alloc: Global, parent: &[Shared<Plugin>]) -> Mem<List<Shared<Plug
 
 // One key more.
 fn add_key(alloc: Global, keys: &mut HashSet<Key>, plugin: &Shared<Plugin>) -> Mem<()>
-    ensures { OnOk result ((q : names.Key) → contains same_key keys.new q ≡ (same_key (key_of_plugin plugin.now) q || contains same_key keys.old q)) }
+    ensures { OnOk result ((q : names.Key) →
+        contains same_key keys.new q
+        ≡ (same_key (key_of_plugin plugin.now) q || contains same_key keys.old q)) }
 {
     keys.insert(plugin.key(alloc)?)?;
     Ok(())
@@ -107,7 +110,9 @@ fn add_before(
     key: Key,
     plugins: Vec<Shared<Plugin>>,
 ) -> Mem<()>
-    ensures { OnOk result ((q : names.Key) → listed before.new q ≡ (if same_key key q then listed before.old q ++ plugins.items else listed before.old q)) }
+    ensures { OnOk result ((q : names.Key) →
+        listed before.new q
+        ≡ (if same_key key q then listed before.old q ++ plugins.items else listed before.old q)) }
 {
     let list = match before.remove(&key) {
         Some(list) => list,
@@ -120,7 +125,10 @@ fn add_before(
 impl Others {
     // A shared plugin follows: the last ones stand in front of it.
     fn before_shared(self, alloc: Global, key: Key) -> Mem<Others>
-        ensures before { IfOk result (λ others. (q : names.Key) → listed others.before q ≡ (if same_key key q then listed self.before q ++ self.last.items else listed self.before q)) }
+        ensures before { IfOk result (λ others. (q : names.Key) →
+            listed others.before q
+            ≡ (if same_key key q then listed self.before q
+            ++ self.last.items else listed self.before q)) }
         ensures last { IfOk result (λ others. others.last.items ≡ []) }
     {
         let Others { mut before, last } = self;
@@ -143,7 +151,8 @@ impl Others {
 
     // The child's next plugin.
     fn next(self, alloc: Global, keys: &HashSet<Key>, plugin: Shared<Plugin>) -> Mem<Others>
-        ensures { (parent done : Items plugins.Plugin) → HasKeys parent keys.now → Stands parent done self.before self.last.items
+        ensures { (parent done : Items plugins.Plugin) → HasKeys parent keys.now →
+            Stands parent done self.before self.last.items
             → IfOk result (λ others. Stands parent (done ++ plugin ∷ []) others.before others.last.items) }
     {
         let key = plugin.key(alloc)?;
@@ -200,7 +209,8 @@ fn push_placed(
     before: &HashMap<Key, Vec<Shared<Plugin>>>,
     plugin: Shared<Plugin>,
 ) -> Mem<()>
-    ensures { OnOk result (list.new ≡ (list.old ++ listed before.now (key_of_plugin plugin)) ++ plugin ∷ []) }
+    ensures { OnOk result (list.new ≡ (list.old ++ listed before.now (key_of_plugin plugin))
+        ++ plugin ∷ []) }
 {
     let key = plugin.key(alloc)?;
     push_listed(list, before, &key)?;
@@ -213,7 +223,8 @@ fn in_place(
     before: &HashMap<Key, Vec<Shared<Plugin>>>,
     parent: List<Shared<Plugin>>,
 ) -> Mem<List<Shared<Plugin>>>
-    ensures { IfOk result (λ list. list ≡ flat_map (λ p. listed before.now (key_of_plugin p) ++ p ∷ []) parent) }
+    ensures { IfOk result (λ list.
+        list ≡ flat_map (λ p. listed before.now (key_of_plugin p) ++ p ∷ []) parent) }
 {
     let mut list = List::new(alloc);
     for plugin in parent.into_vec() {

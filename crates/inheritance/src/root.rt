@@ -91,7 +91,8 @@ fn no_pom(alloc: Global) -> PomId
 
 // The coordinates of a POM that states nothing but its packaging.
 fn packaged(alloc: Global, packaging: &str) -> Mem<Coordinates>
-    ensures { IfOk result (λ it. it ≡ (record { group = None; artifact = []; version = None; packaging = packaging.now })) }
+    ensures { IfOk result (λ it.
+        it ≡ (record { group = None; artifact = []; version = None; packaging = packaging.now })) }
 {
     let packaging = Text::from_str(alloc, packaging)?;
     Ok(Coordinates {

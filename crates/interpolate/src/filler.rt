@@ -96,7 +96,11 @@ fn unresolved(alloc: Global, text: &Text) -> Mem<Option<Text>>
 
 // A name's text with what its next part came to.
 fn grown(alloc: Global, step: Step, text: &Text) -> Result<Turn, FillFault>
-    ensures says { (known : Items pairs.Pair) (seen : Items (Items ℕ)) (part : pieces.Part) (filler : tables.Filler) → IsTable known (step.name ∷ seen) filler → IsStep known seen (Some part) step → part_value (value known (step.name ∷ seen)) part ≡ Ok text.now → Turns known seen step filler result }
+    ensures says { (known : Items pairs.Pair) (seen : Items (Items ℕ)) (part : pieces.Part)
+        (filler : tables.Filler) → IsTable known (step.name ∷ seen) filler →
+        IsStep known seen (Some part) step →
+        part_value (value known (step.name ∷ seen)) part ≡ Ok text.now →
+        Turns known seen step filler result }
     ensures count { (fresh : ℕ) → TurnCounts (into_iter_len step.rest + 1) fresh fresh result }
 {
     match step.with(alloc, text) {
@@ -117,7 +121,8 @@ fn with_step(waiting: Vec<Step>, step: Step) -> Mem<Vec<Step>>
 
 // The innermost name that waits, and the others.
 fn innermost(waiting: Vec<Step>) -> Option<(Step, Vec<Step>)>
-    ensures items { MatchOption result (waiting.items ≡ []) (λ e. waiting.items ≡ e.1.items ++ e.0 ∷ []) }
+    ensures items { MatchOption result (waiting.items ≡ []) (λ e.
+        waiting.items ≡ e.1.items ++ e.0 ∷ []) }
     ensures count { IfSome result (λ e. vec_len e.1 + 1 ≡ vec_len waiting) }
 {
     let mut waiting = waiting;
@@ -129,7 +134,11 @@ fn innermost(waiting: Vec<Step>) -> Option<(Step, Vec<Step>)>
 
 // The innermost name that waits goes on, with what it waited for.
 fn resumed(alloc: Global, outer: Step, waiting: Vec<Step>, text: &Text) -> Result<Whole, FillFault>
-    ensures says { (known : Items pairs.Pair) (name : Items ℕ) (whole : Items ℕ) (before : Items steps.Step) (filler : tables.Filler) → before ≡ outer ∷ reverse waiting.items → value known (names before) name ≡ Ok text.now → Waits known before name whole → IsTable known (names before) filler → Ends known whole filler result }
+    ensures says { (known : Items pairs.Pair) (name : Items ℕ) (whole : Items ℕ)
+        (before : Items steps.Step) (filler : tables.Filler) →
+        before ≡ outer ∷ reverse waiting.items → value known (names before) name ≡ Ok text.now →
+        Waits known before name whole → IsTable known (names before) filler →
+        Ends known whole filler result }
     ensures count { (fresh : ℕ) → WholeCounts (2 * fresh + (vec_len waiting + 1)) fresh result }
 {
     match outer.with(alloc, text) {
@@ -140,7 +149,9 @@ fn resumed(alloc: Global, outer: Step, waiting: Vec<Step>, text: &Text) -> Resul
 
 // One name more, with its text.
 fn add(fresh: &mut HashMap<Text, Text>, pair: Pair) -> Mem<()>
-    ensures { OnOk result ((q : Items ℕ) → get bytes_eq fresh.new q ≡ (if bytes_eq pair.name q then Some pair.value else get bytes_eq fresh.old q)) }
+    ensures { OnOk result ((q : Items ℕ) →
+        get bytes_eq fresh.new q
+        ≡ (if bytes_eq pair.name q then Some pair.value else get bytes_eq fresh.old q)) }
 {
     fresh.insert(pair.name, pair.value)?;
     Ok(())
@@ -165,16 +176,19 @@ impl Filler {
     // A name's text, which is no longer open.
     fn take(&mut self, name: &Text) -> Option<Text>
         ensures value { result ≡ fresh_in self.old name.now }
-        ensures fresh { (q : Items ℕ) → fresh_in self.new q ≡ (if bytes_eq name.now q then None else fresh_in self.old q) }
+        ensures fresh { (q : Items ℕ) →
+            fresh_in self.new q ≡ (if bytes_eq name.now q then None else fresh_in self.old q) }
         ensures begun { self.new.begun ≡ self.old.begun }
-        ensures count { fresh_count self.new + (if is_some result then 1 else 0) ≡ fresh_count self.old }
+        ensures count { fresh_count self.new + (if is_some result then 1 else 0)
+            ≡ fresh_count self.old }
     {
         self.fresh.remove(name)
     }
 
     // What is known of a name that is begun.
     fn set(&mut self, name: Text, value: Option<Text>) -> Mem<()>
-        ensures begun { OnOk result ((q : Items ℕ) → begun_in self.new q ≡ (if bytes_eq name q then Some value else begun_in self.old q)) }
+        ensures begun { OnOk result ((q : Items ℕ) →
+            begun_in self.new q ≡ (if bytes_eq name q then Some value else begun_in self.old q)) }
         ensures fresh { self.new.fresh ≡ self.old.fresh }
     {
         self.begun.insert(name, value)?;
@@ -184,7 +198,9 @@ impl Filler {
     // A name that is begun, where it can be named.
     #[tactic(auto, unfolding(crate::specs::Tables::IsTable))]
     fn begin(&mut self, alloc: Global, name: &Text) -> Result<Asked, FillFault>
-        ensures says { (known : Items pairs.Pair) (seen : Items (Items ℕ)) → IsTable known seen self.old → begun_in self.old name.now ≡ None → IsWay known seen name.now → Asks known seen name.now self.new result }
+        ensures says { (known : Items pairs.Pair) (seen : Items (Items ℕ)) →
+            IsTable known seen self.old → begun_in self.old name.now ≡ None →
+            IsWay known seen name.now → Asks known seen name.now self.new result }
         ensures count { AskCounts (fresh_count self.old) (fresh_count self.new) result }
     {
         let Some(text) = self.take(name) else {
@@ -211,7 +227,9 @@ impl Filler {
 
     // What a name gives.
     fn ask(&mut self, alloc: Global, name: &Text) -> Result<Asked, FillFault>
-        ensures says { (known : Items pairs.Pair) (seen : Items (Items ℕ)) → IsTable known seen self.old → IsWay known seen name.now → Asks known seen name.now self.new result }
+        ensures says { (known : Items pairs.Pair) (seen : Items (Items ℕ)) →
+            IsTable known seen self.old → IsWay known seen name.now →
+            Asks known seen name.now self.new result }
         ensures count { AskCounts (fresh_count self.old) (fresh_count self.new) result }
     {
         let state = self.state(name)?;
@@ -224,8 +242,11 @@ impl Filler {
 
     // A name in a name's text.
     fn named(&mut self, alloc: Global, step: Step, name: &Text) -> Result<Turn, FillFault>
-        ensures says { (known : Items pairs.Pair) (seen : Items (Items ℕ)) → IsTable known (step.name ∷ seen) self.old → IsStep known seen (Some (Name name.now)) step → Turns known seen step self.new result }
-        ensures count { TurnCounts (into_iter_len step.rest + 1) (fresh_count self.old) (fresh_count self.new) result }
+        ensures says { (known : Items pairs.Pair) (seen : Items (Items ℕ)) →
+            IsTable known (step.name ∷ seen) self.old →
+            IsStep known seen (Some (Name name.now)) step → Turns known seen step self.new result }
+        ensures count { TurnCounts (into_iter_len step.rest + 1) (fresh_count self.old)
+            (fresh_count self.new) result }
     {
         match self.ask(alloc, name) {
             Ok(Asked::Value(text)) => grown(alloc, step, &text),
@@ -236,8 +257,11 @@ impl Filler {
 
     // The next part of a name's text.
     fn turn(&mut self, alloc: Global, step: Step) -> Result<Turn, FillFault>
-        ensures says { (known : Items pairs.Pair) (seen : Items (Items ℕ)) → IsTable known (step.name ∷ seen) self.old → IsStep known seen None step → Turns known seen step self.new result }
-        ensures count { TurnCounts (into_iter_len step.rest) (fresh_count self.old) (fresh_count self.new) result }
+        ensures says { (known : Items pairs.Pair) (seen : Items (Items ℕ)) →
+            IsTable known (step.name ∷ seen) self.old → IsStep known seen None step →
+            Turns known seen step self.new result }
+        ensures count { TurnCounts (into_iter_len step.rest) (fresh_count self.old)
+            (fresh_count self.new) result }
     {
         let mut step = step;
         let next = step.rest.next();
@@ -250,7 +274,9 @@ impl Filler {
 
     // A name's text, up to a name that is begun or to its end.
     fn run(&mut self, alloc: Global, step: Step) -> Result<Stop, FillFault>
-        ensures says { (known : Items pairs.Pair) (seen : Items (Items ℕ)) → IsTable known (step.name ∷ seen) self.old → IsStep known seen None step → Stops known seen step.name self.new result }
+        ensures says { (known : Items pairs.Pair) (seen : Items (Items ℕ)) →
+            IsTable known (step.name ∷ seen) self.old → IsStep known seen None step →
+            Stops known seen step.name self.new result }
         ensures count { IfOk result (StopCounts (fresh_count self.old) (fresh_count self.new)) }
     {
         let mut step = step;
@@ -264,8 +290,13 @@ impl Filler {
 
     // A name whose text is at its end gives its value to the one that waits for it.
     fn end(&mut self, alloc: Global, step: Step, waiting: Vec<Step>) -> Result<Whole, FillFault>
-        ensures says { (known : Items pairs.Pair) (whole : Items ℕ) → value known (names (reverse waiting.items)) step.name ≡ Ok step.done → Waits known (reverse waiting.items) step.name whole → IsTable known (step.name ∷ names (reverse waiting.items)) self.old → Ends known whole self.new result }
-        ensures count { WholeCounts (2 * fresh_count self.old + vec_len waiting) (fresh_count self.new) result }
+        ensures says { (known : Items pairs.Pair) (whole : Items ℕ) →
+            value known (names (reverse waiting.items)) step.name ≡ Ok step.done →
+            Waits known (reverse waiting.items) step.name whole →
+            IsTable known (step.name ∷ names (reverse waiting.items)) self.old →
+            Ends known whole self.new result }
+        ensures count { WholeCounts (2 * fresh_count self.old + vec_len waiting)
+            (fresh_count self.new) result }
     {
         let Step { name, done, .. } = step;
         let value = copy(&done)?;
@@ -278,8 +309,11 @@ impl Filler {
 
     // The innermost name's text, up to a stop.
     fn turned(&mut self, alloc: Global, waiting: Vec<Step>, step: Step) -> Result<Whole, FillFault>
-        ensures says { (known : Items pairs.Pair) (whole : Items ℕ) → Goes known whole self.old (reverse waiting.items) step → Ends known whole self.new result }
-        ensures count { WholeCounts (2 * fresh_count self.old + vec_len waiting) (fresh_count self.new) result }
+        ensures says { (known : Items pairs.Pair) (whole : Items ℕ) →
+            Goes known whole self.old (reverse waiting.items) step →
+            Ends known whole self.new result }
+        ensures count { WholeCounts (2 * fresh_count self.old + vec_len waiting)
+            (fresh_count self.new) result }
     {
         let stop = match self.run(alloc, step) {
             Ok(stop) => stop,
@@ -299,7 +333,9 @@ impl Filler {
 
     // A name that is begun, up to its value.
     fn finished(&mut self, alloc: Global, step: Step) -> Result<Text, FillFault>
-        ensures { (known : Items pairs.Pair) → IsStep known [] None step → IsTable known (step.name ∷ []) self.old → Gives known (value known [] step.name) self.new result }
+        ensures { (known : Items pairs.Pair) → IsStep known [] None step →
+            IsTable known (step.name ∷ []) self.old →
+            Gives known (value known [] step.name) self.new result }
     {
         let mut waiting = Vec::new(alloc);
         let mut step = step;
@@ -319,7 +355,8 @@ impl Filler {
 
     /// The value of a name. Costs the texts that haven't been asked for before, and its own, on the average.
     pub(crate) fn value(&mut self, alloc: Global, name: &Text) -> Result<Text, FillFault>
-        ensures { (known : Items pairs.Pair) → IsTable known [] self.old → Gives known (value known [] name.now) self.new result }
+        ensures { (known : Items pairs.Pair) → IsTable known [] self.old →
+            Gives known (value known [] name.now) self.new result }
     {
         match self.ask(alloc, name)? {
             Asked::Value(text) => Ok(text),
@@ -335,7 +372,8 @@ impl Filler {
         done: Text,
         part: &Part,
     ) -> Result<Text, FillFault>
-        ensures { (known : Items pairs.Pair) → IsTable known [] self.old → Gives known (with_part place.now (value known []) done part.now) self.new result }
+        ensures { (known : Items pairs.Pair) → IsTable known [] self.old →
+            Gives known (with_part place.now (value known []) done part.now) self.new result }
     {
         match part {
             Part::Plain(text) => longer(alloc, place, done, text),
@@ -354,7 +392,8 @@ impl Filler {
         place: &str,
         text: &Text,
     ) -> Result<Text, FillFault>
-        ensures { (known : Items pairs.Pair) → IsTable known [] self.old → Gives known (text_of known place.now text.now) self.new result }
+        ensures { (known : Items pairs.Pair) → IsTable known [] self.old →
+            Gives known (text_of known place.now text.now) self.new result }
     {
         let list = parts(alloc, text)?;
         let mut done = Text::of(String::new(alloc));
@@ -375,7 +414,8 @@ impl Filler {
         place: &str,
         text: &Text,
     ) -> Result<Text, FillFault>
-        ensures { (known : Items pairs.Pair) → IsTable known [] self.old → Gives known (name_of known place.now text.now) self.new result }
+        ensures { (known : Items pairs.Pair) → IsTable known [] self.old →
+            Gives known (name_of known place.now text.now) self.new result }
     {
         let text = self.text(alloc, place, text)?;
         match unresolved(alloc, &text)? {

@@ -21,7 +21,8 @@ fn push_field(alloc: Global, list: &mut List<Pair>, name: &str, text: Option<&Te
 
 // The names that stand alone, behind a list.
 fn push_own(alloc: Global, list: &mut List<Pair>, raw: &RawModel, basedir: Option<&Text>) -> Mem<()>
-    ensures { OnOk result (list.new ≡ list.old ++ own_fields raw.now (option_copied basedir.entry)) }
+    ensures { OnOk result
+        (list.new ≡ list.old ++ own_fields raw.now (option_copied basedir.entry)) }
 {
     push_field(alloc, list, "basedir", basedir)?;
     push_field(alloc, list, "groupId", raw.coordinates.group.as_ref())?;
@@ -113,7 +114,8 @@ fn fields(alloc: Global, raw: &RawModel, basedir: Option<&Text>) -> Mem<List<Pai
 
 // A name behind a front.
 fn behind(alloc: Global, front: &str, pair: &Pair) -> Mem<Pair>
-    ensures { IfOk result (λ p. p ≡ record { name = front.now ++ pair.now.name; value = pair.now.value }) }
+    ensures { IfOk result (λ p.
+        p ≡ record { name = front.now ++ pair.now.name; value = pair.now.value }) }
 {
     let mut name = String::from_str(alloc, front)?;
     name.push_str(pair.name.as_str())?;
@@ -155,7 +157,8 @@ pub(crate) fn named(
     machine: &Machine,
     defines: &[Pair],
 ) -> Mem<List<Pair>>
-    ensures { IfOk result (λ list. list ≡ named raw.now (option_copied basedir.entry) machine.now defines.now) }
+    ensures { IfOk result (λ list.
+        list ≡ named raw.now (option_copied basedir.entry) machine.now defines.now) }
 {
     let fields = fields(alloc, raw, basedir)?;
     let mut list = List::new(alloc);

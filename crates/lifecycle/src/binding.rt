@@ -56,7 +56,9 @@ fn bound_execution(alloc: Global, row: &Row) -> Mem<Shared<Execution>>
 
 // Those of a plugin.
 fn bound_executions(alloc: Global, rows: &[Row], name: &Text) -> Mem<List<Shared<Execution>>>
-    ensures { IfOk result (λ list. list ≡ map bound_execution (filter (λ b. bytes_eq name.now b.plugin) (map row_view rows.now))) }
+    ensures { IfOk result (λ list.
+        list ≡ map bound_execution
+        (filter (λ b. bytes_eq name.now b.plugin) (map row_view rows.now))) }
 {
     let mut list = List::new(alloc);
     for row in rows {

@@ -117,7 +117,11 @@ fn push_call(
     execution: &Execution,
     goal: &Text,
 ) -> Mem<()>
-    ensures { OnOk result (calls.new ≡ calls.old ++ option_to_list (call_in (plugin.now, execution.now) goal.now (phase_at (plugin.now, execution.now) goal.now))) }
+    ensures { OnOk result
+        (calls.new ≡ calls.old
+        ++ option_to_list
+        (call_in (plugin.now, execution.now) goal.now
+        (phase_at (plugin.now, execution.now) goal.now))) }
 {
     let Some(phase) = phase_at(plugin, execution, goal) else {
         return Ok(());

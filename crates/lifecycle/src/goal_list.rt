@@ -32,7 +32,10 @@ fn push_bound_one(
     plugin: &Plugin,
     execution: &Execution,
 ) -> Mem<()>
-    ensures { OnOk result (calls.new ≡ calls.old ++ flat_map calls_of (filter (is_bound_by (row_view row.now)) ((plugin.now, execution.now) ∷ []))) }
+    ensures { OnOk result
+        (calls.new ≡ calls.old
+        ++ flat_map calls_of
+        (filter (is_bound_by (row_view row.now)) ((plugin.now, execution.now) ∷ []))) }
 {
     if !is_bound_by(row, plugin, execution) {
         return Ok(());
@@ -43,7 +46,9 @@ fn push_bound_one(
 // Those among a plugin's.
 #[tactic(auto, using(crate::proofs::Walking::flat_filter))]
 fn push_bound_in(alloc: Global, calls: &mut List<GoalCall>, row: &Row, plugin: &Plugin) -> Mem<()>
-    ensures { OnOk result (calls.new ≡ calls.old ++ flat_map calls_of (filter (is_bound_by (row_view row.now)) (executions_of plugin.now))) }
+    ensures { OnOk result
+        (calls.new ≡ calls.old
+        ++ flat_map calls_of (filter (is_bound_by (row_view row.now)) (executions_of plugin.now))) }
 {
     for execution in plugin.executions.as_slice() {
         push_bound_one(alloc, calls, row, plugin, execution)?;
@@ -59,7 +64,9 @@ fn push_bound(
     row: &Row,
     plugins: &[Shared<Plugin>],
 ) -> Mem<()>
-    ensures { OnOk result (calls.new ≡ calls.old ++ flat_map calls_of (filter (is_bound_by (row_view row.now)) (declared plugins.now))) }
+    ensures { OnOk result
+        (calls.new ≡ calls.old
+        ++ flat_map calls_of (filter (is_bound_by (row_view row.now)) (declared plugins.now))) }
 {
     for plugin in plugins {
         push_bound_in(alloc, calls, row, plugin)?;
@@ -75,7 +82,10 @@ fn push_all_bound(
     rows: &[Row],
     plugins: &[Shared<Plugin>],
 ) -> Mem<()>
-    ensures { OnOk result (calls.new ≡ calls.old ++ flat_map calls_of (flat_map (λ b. filter (is_bound_by b) (declared plugins.now)) (map row_view rows.now))) }
+    ensures { OnOk result
+        (calls.new ≡ calls.old
+        ++ flat_map calls_of
+        (flat_map (λ b. filter (is_bound_by b) (declared plugins.now)) (map row_view rows.now))) }
 {
     for row in rows {
         push_bound(alloc, calls, row, plugins)?;
@@ -103,7 +113,10 @@ fn push_free_one(
     plugin: &Plugin,
     execution: &Execution,
 ) -> Mem<()>
-    ensures { OnOk result (calls.new ≡ calls.old ++ flat_map calls_of (filter (is_free (map row_view rows.now)) ((plugin.now, execution.now) ∷ []))) }
+    ensures { OnOk result
+        (calls.new ≡ calls.old
+        ++ flat_map calls_of
+        (filter (is_free (map row_view rows.now)) ((plugin.now, execution.now) ∷ []))) }
 {
     if !is_free(rows, plugin, execution) {
         return Ok(());
@@ -114,7 +127,10 @@ fn push_free_one(
 // Those among a plugin's.
 #[tactic(auto, using(crate::proofs::Walking::flat_filter))]
 fn push_free_in(alloc: Global, calls: &mut List<GoalCall>, rows: &[Row], plugin: &Plugin) -> Mem<()>
-    ensures { OnOk result (calls.new ≡ calls.old ++ flat_map calls_of (filter (is_free (map row_view rows.now)) (executions_of plugin.now))) }
+    ensures { OnOk result
+        (calls.new ≡ calls.old
+        ++ flat_map calls_of
+        (filter (is_free (map row_view rows.now)) (executions_of plugin.now))) }
 {
     for execution in plugin.executions.as_slice() {
         push_free_one(alloc, calls, rows, plugin, execution)?;
@@ -130,7 +146,9 @@ fn push_free(
     rows: &[Row],
     plugins: &[Shared<Plugin>],
 ) -> Mem<()>
-    ensures { OnOk result (calls.new ≡ calls.old ++ flat_map calls_of (filter (is_free (map row_view rows.now)) (declared plugins.now))) }
+    ensures { OnOk result
+        (calls.new ≡ calls.old
+        ++ flat_map calls_of (filter (is_free (map row_view rows.now)) (declared plugins.now))) }
 {
     for plugin in plugins {
         push_free_in(alloc, calls, rows, plugin)?;
@@ -175,7 +193,9 @@ fn copy(call: &GoalCall) -> Mem<GoalCall>
 
 // The calls of a phase, behind a list.
 fn push_phase(list: &mut List<GoalCall>, calls: &[GoalCall], number: u32) -> Mem<()>
-    ensures { OnOk result (list.new ≡ list.old ++ filter (λ (c : goal_calls.GoalCall). nat_eq (phase_number c.phase) number) calls.now) }
+    ensures { OnOk result
+        (list.new ≡ list.old
+        ++ filter (λ (c : goal_calls.GoalCall). nat_eq (phase_number c.phase) number) calls.now) }
 {
     for call in calls {
         if u32::from(call.phase.number()) == number {
@@ -251,9 +271,11 @@ fn installs(phase: Phase, plugins: &[Shared<Plugin>]) -> bool
 /// and a look at each goal for each of the 23 phases and for each of at most eight bindings. Introduction to the Build Lifecycle.
 #[tactic(auto, unfolding(crate::specs::Goals::calls_through))]
 pub fn goals(alloc: Global, model: &Model, phase: Phase) -> Mem<GoalList>
-    ensures calls { IfOk result (λ list. list.calls ≡ calls_through phase model.now.packaging model.now.build.base.plugins) }
+    ensures calls { IfOk result (λ list.
+        list.calls ≡ calls_through phase model.now.packaging model.now.build.base.plugins) }
     ensures unbound { IfOk result (λ list. list.unbound ≡ unbound model.now.build.base.plugins) }
-    ensures installs { IfOk result (λ list. list.installs ≡ installs phase model.now.build.base.plugins) }
+    ensures installs { IfOk result (λ list.
+        list.installs ≡ installs phase model.now.build.base.plugins) }
 {
     let plugins = model.build.base.plugins.as_slice();
     let all = packaged_calls(alloc, &model.packaging, plugins)?;

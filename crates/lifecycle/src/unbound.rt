@@ -37,7 +37,10 @@ fn push_goal(
     execution: &Execution,
     goal: &Text,
 ) -> Mem<()>
-    ensures { OnOk result (list.new ≡ list.old ++ map (unbound_text (plugin.now, execution.now)) (filter (is_unbound (plugin.now, execution.now)) (goal.now ∷ []))) }
+    ensures { OnOk result
+        (list.new ≡ list.old
+        ++ map (unbound_text (plugin.now, execution.now))
+        (filter (is_unbound (plugin.now, execution.now)) (goal.now ∷ []))) }
 {
     if !is_unbound(plugin, execution, goal) {
         return Ok(());

@@ -18,13 +18,18 @@ pub fn put<S: Shelf>(
     name: &FileName,
 ) -> Result<(), DeviceFault>
     requires { map.get (S.Area.pieces area.old) piece ≡ Some true }
-    ensures published { OnOk result (Publishes (S.told shelf.old) (S.told shelf.new) (S.Area.contents area.old) piece name.now) }
-    ensures taken { OnOk result ((S.Area.pieces area.new ≡ map.remove (S.Area.pieces area.old) piece)
+    ensures published { OnOk result
+        (Publishes (S.told shelf.old) (S.told shelf.new)
+        (S.Area.contents area.old) piece name.now) }
+    ensures taken { OnOk result
+        ((S.Area.pieces area.new ≡ map.remove (S.Area.pieces area.old) piece)
         × (S.Area.contents area.new ≡ removed (S.Area.contents area.old) piece)) }
-    ensures err { OnErr result ((S.told shelf.new ≡ S.told shelf.old) × (S.Area.pieces area.new ≡ S.Area.pieces area.old)
+    ensures err { OnErr result ((S.told shelf.new ≡ S.told shelf.old) ×
+        (S.Area.pieces area.new ≡ S.Area.pieces area.old)
         × (S.Area.contents area.new ≡ S.Area.contents area.old)) }
     ensures area { S.Area.faults area.new ≡ S.Area.faults area.old }
-    ensures never { (S.never_fails shelf.new ≡ S.never_fails shelf.old) × (S.Area.never_fails area.new ≡ S.Area.never_fails area.old) }
+    ensures never { (S.never_fails shelf.new ≡ S.never_fails shelf.old) ×
+        (S.Area.never_fails area.new ≡ S.Area.never_fails area.old) }
     ensures cause { HasCause (S.faults shelf.old) (S.faults shelf.new) (device_failed result) }
 {
     shelf.publish(area, piece, name)

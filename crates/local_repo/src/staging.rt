@@ -12,8 +12,10 @@ use mvn_outside::{Area, DeviceFault};
 /// there unsealed. Own rule. Costs what the area's appends cost, and no memory of its own.
 pub fn stage<A: Area>(area: &mut A, bytes: &[u8]) -> Result<u64, DeviceFault>
     ensures fresh { IfOk result (λ piece. map.get (A.pieces area.old) piece ≡ None) }
-    ensures sealed { IfOk result (λ piece. A.pieces area.new ≡ map.insert (A.pieces area.old) piece true) }
-    ensures bytes { IfOk result (λ piece. A.contents area.new ≡ staged (A.contents area.old) piece bytes.now) }
+    ensures sealed { IfOk result (λ piece.
+        A.pieces area.new ≡ map.insert (A.pieces area.old) piece true) }
+    ensures bytes { IfOk result (λ piece.
+        A.contents area.new ≡ staged (A.contents area.old) piece bytes.now) }
     ensures err { OnErr result (KeepsPieces (A.pieces area.old) (A.pieces area.new)) }
     ensures never { A.never_fails area.new ≡ A.never_fails area.old }
     ensures cause { HasCause (A.faults area.old) (A.faults area.new) (device_failed result) }
@@ -30,7 +32,8 @@ pub fn stage<A: Area>(area: &mut A, bytes: &[u8]) -> Result<u64, DeviceFault>
 /// Removes all pieces, leftovers of a stopped run among them. After an `Err` some may be gone. Costs what the area's
 /// sweep costs.
 pub fn sweep<A: Area>(area: &mut A) -> Result<(), DeviceFault>
-    ensures ok { OnOk result ((A.pieces area.new ≡ map.empty) × (A.contents area.new ≡ emptied (A.contents area.old))) }
+    ensures ok { OnOk result ((A.pieces area.new ≡ map.empty) ×
+        (A.contents area.new ≡ emptied (A.contents area.old))) }
     ensures same { is_some (A.contents area.new) ≡ is_some (A.contents area.old) }
     ensures never { A.never_fails area.new ≡ A.never_fails area.old }
     ensures cause { HasCause (A.faults area.old) (A.faults area.new) (device_failed result) }

@@ -45,7 +45,8 @@ fn put(
     key: Key,
     dependency: Shared<Dependency>,
 ) -> Mem<()>
-    ensures { OnOk result (entries.new.entries ≡ insert_entry same_key entries.old.entries key dependency) }
+    ensures { OnOk result
+        (entries.new.entries ≡ insert_entry same_key entries.old.entries key dependency) }
 {
     entries.insert(key, dependency)?;
     Ok(())
@@ -142,7 +143,8 @@ pub fn managed(
     imports: &[List<Shared<Dependency>>],
 ) -> Mem<ManagedSet>
     ensures whole { IfOk result (λ set. set ≡ first_of_each (all_entries own.now imports.now)) }
-    ensures found { IfOk result (λ set. (key : keys.Key) → find_pair set key ≡ find_entry (all_entries own.now imports.now) key) }
+    ensures found { IfOk result (λ set. (key : keys.Key) →
+        find_pair set key ≡ find_entry (all_entries own.now imports.now) key) }
 {
     let set = firsts(alloc, own, imports)?;
     Ok(set)

@@ -38,7 +38,10 @@ fn add_place(
     name: &Text,
     place: usize,
 ) -> Mem<()>
-    ensures { OnOk result ((q : List ℕ) → places_in places.new q ≡ (if bytes_eq name.now q then places_in places.old q ++ place ∷ [] else places_in places.old q)) }
+    ensures { OnOk result ((q : List ℕ) →
+        places_in places.new q
+        ≡ (if bytes_eq name.now q then places_in places.old q
+        ++ place ∷ [] else places_in places.old q)) }
 {
     let mut list = match places.remove(name) {
         Some(list) => list,
@@ -51,7 +54,8 @@ fn add_place(
 
 // The places of the settings of each name, ascending.
 fn places_of(alloc: Global, settings: &[Setting]) -> Mem<HashMap<Text, Vec<usize>>>
-    ensures { IfOk result (λ places. (q : List ℕ) → places_in places q ≡ places_from q 0 settings.now) }
+    ensures { IfOk result (λ places. (q : List ℕ) →
+        places_in places q ≡ places_from q 0 settings.now) }
 {
     let mut places = HashMap::new(alloc);
     for place in 0..settings.len() {
@@ -64,7 +68,9 @@ fn places_of(alloc: Global, settings: &[Setting]) -> Mem<HashMap<Text, Vec<usize
 fn counted(counts: &mut HashMap<Text, usize>, name: &Text) -> Mem<usize>
     requires { count_in counts.old name.now < 2 ^ 63 }
     ensures number { IfOk result (λ number. number ≡ count_in counts.old name.now) }
-    ensures others { OnOk result ((q : List ℕ) → count_in counts.new q ≡ (if bytes_eq name.now q then count_in counts.old q + 1 else count_in counts.old q)) }
+    ensures others { OnOk result ((q : List ℕ) →
+        count_in counts.new q
+        ≡ (if bytes_eq name.now q then count_in counts.old q + 1 else count_in counts.old q)) }
 {
     let number = match counts.get(name) {
         Some(number) => *number,
@@ -86,7 +92,8 @@ fn place_at(places: &HashMap<Text, Vec<usize>>, name: &Text, number: usize) -> O
 
 // For each child's setting the place of the parent's that it is merged with.
 fn partner_places(alloc: Global, child: &[Setting], parent: &[Setting]) -> Mem<Vec<Option<usize>>>
-    ensures { IfOk result (λ list. map (λ o. option_and_then (slice_get parent.now) o) list.items ≡ partners [] (map name_of child.now) parent.now) }
+    ensures { IfOk result (λ list. map (λ o. option_and_then (slice_get parent.now) o) list.items
+        ≡ partners [] (map name_of child.now) parent.now) }
 {
     let places = places_of(alloc, parent)?;
     let mut counts = HashMap::new(alloc);
@@ -100,7 +107,8 @@ fn partner_places(alloc: Global, child: &[Setting], parent: &[Setting]) -> Mem<V
 
 // The names of settings.
 fn names_of(alloc: Global, settings: &[Setting]) -> Mem<HashSet<Text>>
-    ensures { IfOk result (λ names. (q : List ℕ) → contains bytes_eq names q ≡ list_any (λ n. bytes_eq n q) (map name_of settings.now)) }
+    ensures { IfOk result (λ names. (q : List ℕ) →
+        contains bytes_eq names q ≡ list_any (λ n. bytes_eq n q) (map name_of settings.now)) }
 {
     let mut names = HashSet::new(alloc);
     for setting in settings {
@@ -118,7 +126,9 @@ fn copy(setting: &Setting) -> Mem<Setting>
 
 // A parent's setting, behind a list where its name isn't among the child's.
 fn push_unnamed(list: &mut List<Setting>, names: &HashSet<Text>, setting: &Setting) -> Mem<()>
-    ensures { (child : List (List ℕ)) → ((q : List ℕ) → contains bytes_eq names.now q ≡ list_any (λ n. bytes_eq n q) child) → OnOk result (list.new ≡ list.old ++ unnamed child (setting.now ∷ [])) }
+    ensures { (child : List (List ℕ)) →
+        ((q : List ℕ) → contains bytes_eq names.now q ≡ list_any (λ n. bytes_eq n q) child) →
+        OnOk result (list.new ≡ list.old ++ unnamed child (setting.now ∷ [])) }
 {
     if names.contains(&setting.name) {
         return Ok(());
@@ -132,7 +142,9 @@ fn with_unnamed(
     names: &HashSet<Text>,
     parent: &[Setting],
 ) -> Mem<List<Setting>>
-    ensures { (child : List (List ℕ)) → ((q : List ℕ) → contains bytes_eq names.now q ≡ list_any (λ n. bytes_eq n q) child) → IfOk result (λ whole. whole ≡ list ++ unnamed child parent.now) }
+    ensures { (child : List (List ℕ)) →
+        ((q : List ℕ) → contains bytes_eq names.now q ≡ list_any (λ n. bytes_eq n q) child) →
+        IfOk result (λ whole. whole ≡ list ++ unnamed child parent.now) }
 {
     let mut list = list;
     for setting in parent {
@@ -173,7 +185,9 @@ fn merged_or(alloc: Global, child: &Setting, partner: Option<&Setting>) -> Mem<S
 
 // The partner of the child's setting at a place.
 fn partner_at<'a>(places: &[Option<usize>], at: usize, parent: &'a [Setting]) -> Option<&'a Setting>
-    ensures { option_copied result ≡ option_and_then (λ o. o) (slice_get (map (option_and_then (slice_get parent.now)) places.now) at) }
+    ensures { option_copied result
+        ≡ option_and_then (λ o. o)
+        (slice_get (map (option_and_then (slice_get parent.now)) places.now) at) }
 {
     match places.get(at) {
         Some(Some(place)) => parent.get(*place),

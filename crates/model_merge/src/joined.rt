@@ -11,7 +11,8 @@ use std::alloc::Global;
 
 // One item more: at the place of the one of its key, or at the end.
 fn put<T: Item>(alloc: Global, index: &mut IndexMap<Key, T>, item: T) -> Mem<()>
-    ensures { OnOk result ((items : List T) → index.old.entries ≡ keyed T.key_of items → index.new.entries ≡ keyed T.key_of (put T.key_of items item)) }
+    ensures { OnOk result ((items : List T) → index.old.entries ≡ keyed T.key_of items →
+        index.new.entries ≡ keyed T.key_of (put T.key_of items item)) }
 {
     let key = item.key(alloc)?;
     index.insert(key, item)?;
@@ -38,7 +39,8 @@ fn values_of<T: Item>(alloc: Global, index: IndexMap<Key, T>) -> Mem<List<T>>
 
 // The items of an index, in its order.
 fn items_of<T: Item>(alloc: Global, index: IndexMap<Key, T>) -> Mem<List<T>>
-    ensures { (items : List T) → index.entries ≡ keyed T.key_of items → IfOk result (λ list. list ≡ items) }
+    ensures { (items : List T) → index.entries ≡ keyed T.key_of items →
+        IfOk result (λ list. list ≡ items) }
 {
     values_of(alloc, index)
 }
@@ -54,14 +56,16 @@ pub fn settled<T: Item>(alloc: Global, items: &[T]) -> Mem<List<T>>
 
 // The item of a key.
 fn find<'a, T: Item>(index: &'a IndexMap<Key, T>, key: &Key) -> Option<&'a T>
-    ensures { (items : List T) → index.now.entries ≡ keyed T.key_of items → option_copied result ≡ item_of T.key_of items key.now }
+    ensures { (items : List T) → index.now.entries ≡ keyed T.key_of items →
+        option_copied result ≡ item_of T.key_of items key.now }
 {
     index.get(key)
 }
 
 // Whether an index lacks the key of an item.
 fn is_new<T: Item>(alloc: Global, index: &IndexMap<Key, T>, item: &T) -> Mem<bool>
-    ensures { (items : List T) → index.now.entries ≡ keyed T.key_of items → IfOk result (λ is_new. is_new ≡ is_none (item_of T.key_of items (T.key_of item.now))) }
+    ensures { (items : List T) → index.now.entries ≡ keyed T.key_of items →
+        IfOk result (λ is_new. is_new ≡ is_none (item_of T.key_of items (T.key_of item.now))) }
 {
     let key = item.key(alloc)?;
     Ok(find(index, &key).is_none())
@@ -69,7 +73,8 @@ fn is_new<T: Item>(alloc: Global, index: &IndexMap<Key, T>, item: &T) -> Mem<boo
 
 // Those of other items whose keys aren't there.
 fn others<T: Item>(alloc: Global, index: &IndexMap<Key, T>, further: List<T>) -> Mem<List<T>>
-    ensures { (items : List T) → index.now.entries ≡ keyed T.key_of items → IfOk result (λ list. list ≡ others T.key_of items further) }
+    ensures { (items : List T) → index.now.entries ≡ keyed T.key_of items →
+        IfOk result (λ list. list ≡ others T.key_of items further) }
 {
     let mut list = List::new(alloc);
     for item in further.into_vec() {
@@ -126,7 +131,8 @@ fn overlaid<T: Mergeable>(
     index: &IndexMap<Key, Shared<T>>,
     item: Shared<T>,
 ) -> Mem<Shared<T>>
-    ensures { (items : List T) → index.now.entries ≡ keyed T.key_of items → IfOk result (λ merged. merged ≡ overlaid T.key_of T.merge items item) }
+    ensures { (items : List T) → index.now.entries ≡ keyed T.key_of items →
+        IfOk result (λ merged. merged ≡ overlaid T.key_of T.merge items item) }
 {
     let key = item.key(alloc)?;
     match find(index, &key) {
@@ -141,7 +147,8 @@ fn all_overlaid<T: Mergeable>(
     index: &IndexMap<Key, Shared<T>>,
     parent: List<Shared<T>>,
 ) -> Mem<List<Shared<T>>>
-    ensures { (items : List T) → index.now.entries ≡ keyed T.key_of items → IfOk result (λ list. list ≡ map (overlaid T.key_of T.merge items) parent) }
+    ensures { (items : List T) → index.now.entries ≡ keyed T.key_of items →
+        IfOk result (λ list. list ≡ map (overlaid T.key_of T.merge items) parent) }
 {
     let mut list = List::new(alloc);
     for item in parent.into_vec() {
@@ -156,7 +163,8 @@ fn underlaid<T: Mergeable>(
     index: &IndexMap<Key, Shared<T>>,
     item: &Shared<T>,
 ) -> Mem<Shared<T>>
-    ensures { (items : List T) → index.now.entries ≡ keyed T.key_of items → IfOk result (λ merged. merged ≡ underlaid T.key_of T.merge items item.now) }
+    ensures { (items : List T) → index.now.entries ≡ keyed T.key_of items →
+        IfOk result (λ merged. merged ≡ underlaid T.key_of T.merge items item.now) }
 {
     let key = item.key(alloc)?;
     match find(index, &key) {
@@ -188,7 +196,8 @@ fn absorb<T: Mergeable>(
     index: &mut IndexMap<Key, Shared<T>>,
     item: &Shared<T>,
 ) -> Mem<()>
-    ensures { OnOk result ((items : List T) → index.old.entries ≡ keyed T.key_of items → index.new.entries ≡ keyed T.key_of (absorb T.key_of T.merge items item.now)) }
+    ensures { OnOk result ((items : List T) → index.old.entries ≡ keyed T.key_of items →
+        index.new.entries ≡ keyed T.key_of (absorb T.key_of T.merge items item.now)) }
 {
     let merged = underlaid(alloc, index, item)?;
     put(alloc, index, merged)

@@ -85,7 +85,8 @@ pub fn artifact_folder(alloc: Global, group: &Text, artifact: &Text) -> Mem<Text
 
 // A hyphen and the classifier, where there is one.
 fn push_classifier(path: &mut String, classifier: &str) -> Mem<()>
-    ensures { OnOk result (string_bytes path.new ≡ string_bytes path.old ++ classifier_part classifier.now) }
+    ensures { OnOk result
+        (string_bytes path.new ≡ string_bytes path.old ++ classifier_part classifier.now) }
 {
     if !classifier.is_empty() {
         path.push('-')?;
@@ -123,7 +124,8 @@ pub fn file_of(alloc: Global, gav: &Gav, classifier: &Text, extension: &Text) ->
 
 // The steps of a path.
 fn steps<'a>(alloc: Global, path: &'a str) -> Result<Vec<&'a str>, AllocError>
-    ensures { IfOk result (λ steps. map (λ x. x.now) steps.items ≡ slice_split (λ b. b == 47) path.now) }
+    ensures { IfOk result (λ steps.
+        map (λ x. x.now) steps.items ≡ slice_split (λ b. b == 47) path.now) }
 {
     path.split('/').collect(alloc)
 }

@@ -19,7 +19,8 @@ pub struct Key {
 
 // A colon and the classifier, where there is one.
 fn push_classifier(text: &mut String, classifier: &str) -> Mem<()>
-    ensures { OnOk result (string_bytes text.new ≡ string_bytes text.old ++ further_part classifier.now) }
+    ensures { OnOk result
+        (string_bytes text.new ≡ string_bytes text.old ++ further_part classifier.now) }
 {
     if !classifier.is_empty() {
         text.push(':')?;

@@ -23,9 +23,11 @@ pub trait Area {
     /// A new open piece without bytes.
     fn begin(&mut self) -> Result<u64, DeviceFault>
         ensures fresh { IfOk result (λ piece. map.get (pieces self.old) piece ≡ None) }
-        ensures open { IfOk result (λ piece. pieces self.new ≡ map.insert (pieces self.old) piece false) }
+        ensures open { IfOk result (λ piece.
+            pieces self.new ≡ map.insert (pieces self.old) piece false) }
         ensures empty { IfOk result (λ piece. contents self.new ≡ begun (contents self.old) piece) }
-        ensures err { OnErr result ((pieces self.new ≡ pieces self.old) × (contents self.new ≡ contents self.old)) }
+        ensures err { OnErr result ((pieces self.new ≡ pieces self.old) ×
+            (contents self.new ≡ contents self.old)) }
         ensures never { never_fails self.new ≡ never_fails self.old }
         ensures cause { HasCause (faults self.old) (faults self.new) (device_failed result) };
 
@@ -35,7 +37,8 @@ pub trait Area {
         requires { map.get (pieces self.old) piece ≡ Some false }
         ensures within { IfOk result (λ count. count ≤ length bytes.now) }
         ensures progress { IfOk result (λ count. 0 < length bytes.now → 0 < count) }
-        ensures takes { IfOk result (λ count. contents self.new ≡ extended (contents self.old) piece (take count bytes.now)) }
+        ensures takes { IfOk result (λ count.
+            contents self.new ≡ extended (contents self.old) piece (take count bytes.now)) }
         ensures pieces { pieces self.new ≡ pieces self.old }
         ensures err { OnErr result (contents self.new ≡ contents self.old) }
         ensures never { never_fails self.new ≡ never_fails self.old }
@@ -53,14 +56,17 @@ pub trait Area {
     /// Removes a piece.
     fn discard(&mut self, piece: u64) -> Result<(), DeviceFault>
         requires { IsTrue (is_some (map.get (pieces self.old) piece)) }
-        ensures ok { OnOk result ((pieces self.new ≡ map.remove (pieces self.old) piece) × (contents self.new ≡ removed (contents self.old) piece)) }
-        ensures err { OnErr result ((pieces self.new ≡ pieces self.old) × (contents self.new ≡ contents self.old)) }
+        ensures ok { OnOk result ((pieces self.new ≡ map.remove (pieces self.old) piece) ×
+            (contents self.new ≡ removed (contents self.old) piece)) }
+        ensures err { OnErr result ((pieces self.new ≡ pieces self.old) ×
+            (contents self.new ≡ contents self.old)) }
         ensures never { never_fails self.new ≡ never_fails self.old }
         ensures cause { HasCause (faults self.old) (faults self.new) (device_failed result) };
 
     /// Removes all pieces, leftovers of a stopped run among them. After an `Err` some may be gone.
     fn sweep(&mut self) -> Result<(), DeviceFault>
-        ensures ok { OnOk result ((pieces self.new ≡ map.empty) × (contents self.new ≡ emptied (contents self.old))) }
+        ensures ok { OnOk result ((pieces self.new ≡ map.empty) ×
+            (contents self.new ≡ emptied (contents self.old))) }
         ensures same { is_some (contents self.new) ≡ is_some (contents self.old) }
         ensures never { never_fails self.new ≡ never_fails self.old }
         ensures cause { HasCause (faults self.old) (faults self.new) (device_failed result) };

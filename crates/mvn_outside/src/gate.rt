@@ -23,7 +23,8 @@ pub trait Gate {
     /// Runs the goal. What it keeps of its own outputs has slots that outputs are kept in.
     fn call(&mut self, request: &GoalRequest) -> Result<GoalAnswer, DeviceFault>
         requires { HasOwnSlots request.now.own }
-        ensures answer { IfSome (answers self.old) (λ test. IfOk result (λ answer. test request.now answer ≡ true)) }
+        ensures answer { IfSome (answers self.old) (λ test.
+            IfOk result (λ answer. test request.now answer ≡ true)) }
         ensures same { answers self.new ≡ answers self.old }
         ensures never { never_fails self.new ≡ never_fails self.old }
         ensures cause { HasCause (faults self.old) (faults self.new) (device_failed result) };

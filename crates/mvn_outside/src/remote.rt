@@ -23,7 +23,8 @@ pub trait Remote {
 
     /// The bytes of a file of at most `limit` bytes; nothing where no file is there.
     fn fetch(&mut self, name: &FileName, limit: u64) -> Result<Option<Bytes>, ReadFault>
-        ensures reads { IfSome (files self.old) (λ files. Reads (told.file_at files name.now) limit result) }
+        ensures reads { IfSome (files self.old) (λ files.
+            Reads (told.file_at files name.now) limit result) }
         ensures within { IfOk result (λ found. IfSome found (λ bytes. length bytes ≤ limit)) }
         ensures same { files self.new ≡ files self.old }
         ensures never { never_fails self.new ≡ never_fails self.old }
@@ -33,7 +34,8 @@ pub trait Remote {
     fn versions(&mut self, group: &Text, artifact: &Text) -> Result<List<Text>, ListFault>
         requires group { is_group group.now ≡ true }
         requires artifact { is_name artifact.now ≡ true }
-        ensures lists { IfSome (files self.old) (λ files. ListsVersions files group.now artifact.now result) }
+        ensures lists { IfSome (files self.old) (λ files.
+            ListsVersions files group.now artifact.now result) }
         ensures same { files self.new ≡ files self.old }
         ensures never { never_fails self.new ≡ never_fails self.old }
         ensures cause { HasCause (faults self.old) (faults self.new) (list_failed result) };

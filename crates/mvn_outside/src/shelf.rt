@@ -47,14 +47,16 @@ pub trait Shelf {
 
     /// Whether a file has this name.
     fn has(&mut self, name: &FileName) -> Result<bool, DeviceFault>
-        ensures tells { IfSome (told self.old) (λ t. IfOk result (λ found. found ≡ is_some (file_at (files_now t) name.now))) }
+        ensures tells { IfSome (told self.old) (λ t.
+            IfOk result (λ found. found ≡ is_some (file_at (files_now t) name.now))) }
         ensures same { told self.new ≡ told self.old }
         ensures never { never_fails self.new ≡ never_fails self.old }
         ensures cause { HasCause (faults self.old) (faults self.new) (device_failed result) };
 
     /// The bytes of a file of at most `limit` bytes; nothing where no file has the name.
     fn read(&mut self, name: &FileName, limit: u64) -> Result<Option<Bytes>, ReadFault>
-        ensures reads { IfSome (told self.old) (λ t. Reads (file_at (files_now t) name.now) limit result) }
+        ensures reads { IfSome (told self.old) (λ t.
+            Reads (file_at (files_now t) name.now) limit result) }
         ensures within { IfOk result (λ found. IfSome found (λ bytes. length bytes ≤ limit)) }
         ensures same { told self.new ≡ told self.old }
         ensures never { never_fails self.new ≡ never_fails self.old }
@@ -64,7 +66,8 @@ pub trait Shelf {
     fn versions(&mut self, group: &Text, artifact: &Text) -> Result<List<Text>, ListFault>
         requires group { is_group group.now ≡ true }
         requires artifact { is_name artifact.now ≡ true }
-        ensures lists { IfSome (told self.old) (λ t. ListsVersions (files_now t) group.now artifact.now result) }
+        ensures lists { IfSome (told self.old) (λ t.
+            ListsVersions (files_now t) group.now artifact.now result) }
         ensures same { told self.new ≡ told self.old }
         ensures never { never_fails self.new ≡ never_fails self.old }
         ensures cause { HasCause (faults self.old) (faults self.new) (list_failed result) };
@@ -77,10 +80,14 @@ pub trait Shelf {
         name: &FileName,
     ) -> Result<(), DeviceFault>
         requires { map.get (Self.Area.pieces area.old) piece ≡ Some true }
-        ensures published { OnOk result (Publishes (told self.old) (told self.new) (Self.Area.contents area.old) piece name.now) }
-        ensures taken { OnOk result ((Self.Area.pieces area.new ≡ map.remove (Self.Area.pieces area.old) piece)
+        ensures published { OnOk result
+            (Publishes (told self.old) (told self.new)
+            (Self.Area.contents area.old) piece name.now) }
+        ensures taken { OnOk result
+            ((Self.Area.pieces area.new ≡ map.remove (Self.Area.pieces area.old) piece)
             × (Self.Area.contents area.new ≡ removed (Self.Area.contents area.old) piece)) }
-        ensures err { OnErr result ((told self.new ≡ told self.old) × (Self.Area.pieces area.new ≡ Self.Area.pieces area.old)
+        ensures err { OnErr result ((told self.new ≡ told self.old) ×
+            (Self.Area.pieces area.new ≡ Self.Area.pieces area.old)
             × (Self.Area.contents area.new ≡ Self.Area.contents area.old)) }
         ensures area { Self.Area.faults area.new ≡ Self.Area.faults area.old }
         ensures area_never { Self.Area.never_fails area.new ≡ Self.Area.never_fails area.old }

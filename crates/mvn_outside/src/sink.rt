@@ -20,7 +20,8 @@ pub trait Sink {
     fn write(&mut self, bytes: &[u8]) -> Result<usize, DeviceFault>
         ensures within { IfOk result (λ count. count ≤ length bytes.now) }
         ensures progress { IfOk result (λ count. 0 < length bytes.now → 0 < count) }
-        ensures takes { IfOk result (λ count. written self.new ≡ gains (written self.old) (take count bytes.now)) }
+        ensures takes { IfOk result (λ count.
+            written self.new ≡ gains (written self.old) (take count bytes.now)) }
         ensures err { OnErr result (written self.new ≡ written self.old) }
         ensures never { never_fails self.new ≡ never_fails self.old }
         ensures cause { HasCause (faults self.old) (faults self.new) (device_failed result) };

@@ -15,20 +15,25 @@ pub trait Tree: Files {
 
     /// The bytes of a file of at most `limit` bytes; nothing where no file is there. A folder is no file.
     fn read(&mut self, path: &Text, limit: u64) -> Result<Option<Bytes>, ReadFault>
-        ensures reads { IfSome (files self.old) (λ files. Reads (told.file_at files path.now) limit result) }
-        ensures fit { (world : List ℕ → Bool) → Self.fits self.old world → Self.fits self.new world }
+        ensures reads { IfSome (files self.old) (λ files.
+            Reads (told.file_at files path.now) limit result) }
+        ensures fit { (world : List ℕ → Bool) → Self.fits self.old world →
+            Self.fits self.new world }
         ensures within { IfOk result (λ found. IfSome found (λ bytes. length bytes ≤ limit)) }
         ensures same { Self.tells_same self.old self.new }
         ensures never { Self.never_fails self.new ≡ Self.never_fails self.old }
-        ensures cause { HasCause (Self.faults self.old) (Self.faults self.new) (read_failed result) };
+        ensures cause { HasCause (Self.faults self.old) (Self.faults self.new)
+            (read_failed result) };
 
     /// The paths of the files below a folder, ascending by bytes; none where it is a file or isn't there.
     fn list(&mut self, folder: &Text) -> Result<List<Text>, ListFault>
         ensures lists { IfSome (files self.old) (λ files. Lists files folder.now result) }
-        ensures fit { (world : List ℕ → Bool) → Self.fits self.old world → Self.fits self.new world }
+        ensures fit { (world : List ℕ → Bool) → Self.fits self.old world →
+            Self.fits self.new world }
         ensures same { Self.tells_same self.old self.new }
         ensures never { Self.never_fails self.new ≡ Self.never_fails self.old }
-        ensures cause { HasCause (Self.faults self.old) (Self.faults self.new) (list_failed result) };
+        ensures cause { HasCause (Self.faults self.old) (Self.faults self.new)
+            (list_failed result) };
 
     ghost same_files: { (before now : Self) → Self.tells_same before now → files now ≡ files before };
 

@@ -18,7 +18,8 @@ const MOST_VERSIONS: usize = 4096;
 fn versions_among(alloc: Global, names: &[Text], group: &Text, artifact: &Text) -> Mem<Vec<Text>>
     requires group { is_group group.now ≡ true }
     requires artifact { is_name artifact.now ≡ true }
-    ensures { IfOk result (λ versions. versions.items ≡ filter_map (version_in group.now artifact.now) names.now) }
+    ensures { IfOk result (λ versions.
+        versions.items ≡ filter_map (version_in group.now artifact.now) names.now) }
 {
     let mut versions = Vec::new(alloc);
     for name in names {

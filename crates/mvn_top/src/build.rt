@@ -34,7 +34,9 @@ fn unsettled(report: Bytes) -> Mem<Outcome>
 
 // What is answered where it is settled.
 fn settled_outcome(text: Bytes, ending: Ending) -> Mem<Outcome>
-    ensures clean { is_quiet ending ≡ true → IfOk result (λ answer. answer ≡ record { text = text; status = states_status (Ended ending ∷ []) }) }
+    ensures clean { is_quiet ending ≡ true →
+        IfOk result (λ answer.
+        answer ≡ record { text = text; status = states_status (Ended ending ∷ []) }) }
     ensures fault { is_quiet ending ≡ false → IfOk result (λ answer. answer.status ≡ 3) }
     ensures bound { IfOk result (λ answer. answer.status ≤ 3) }
     ensures memory { IfOk result (λ _. is_memory ending ≡ false) }
@@ -81,7 +83,8 @@ fn outcome_of(
     settled: Result<(), DeviceFault>,
 ) -> Mem<Outcome>
     requires bare { is_bare_ending ending ≡ true }
-    ensures clean { is_clean ending settled ≡ true → IfOk result (clean_outcome module.now answers.now ending) }
+    ensures clean { is_clean ending settled ≡ true →
+        IfOk result (clean_outcome module.now answers.now ending) }
     ensures fault { is_clean ending settled ≡ false → IfOk result (λ answer. answer.status ≡ 3) }
     ensures memory { IfOk result (λ _. lacks_memory ending settled ≡ false) }
     ensures bound { IfOk result (λ answer. answer.status ≤ 3) }
@@ -113,15 +116,27 @@ fn build_one<R, S: Shelf, G: Gate>(
     hand: &mut Hand<R, S::Area, G>,
 ) -> Call
     requires one { IsOne plan.now module.now }
-    ensures outcome { IfOk result.outcome (λ answer. answer.status < 3 → LeavesFiles (S.told shelf.old) (S.told shelf.new) (is_some (S.Area.contents hand.old.area)) (RanSo plan.now result.answers answer)) }
+    ensures outcome { IfOk result.outcome (λ answer. answer.status < 3 →
+        LeavesFiles (S.told shelf.old) (S.told shelf.new) (is_some (S.Area.contents hand.old.area))
+        (RanSo plan.now result.answers answer)) }
     ensures bound { IfOk result.outcome (λ answer. answer.status ≤ 3) }
-    ensures always { IfOk result.outcome (λ answer. answer.status < 3 → RanAlways plan.now result.answers answer) }
-    ensures count { IfOk result.outcome (λ answer. answer.status < 3 → HasAllAnswers module.now result.answers) }
+    ensures always { IfOk result.outcome (λ answer. answer.status < 3 →
+        RanAlways plan.now result.answers answer) }
+    ensures count { IfOk result.outcome (λ answer. answer.status < 3 →
+        HasAllAnswers module.now result.answers) }
     ensures once { PublishesOnce (S.told shelf.old) (S.told shelf.new) }
-    ensures settled { IfOk result.outcome (λ answer. answer.status < 3 → IfSome (S.told shelf.new) IsSettled) }
-    ensures answers { IfSome (G.answers hand.old.gate) (λ test. FitsRequests test plan.now module.now result.answers) }
-    ensures quiet { IfOk result.outcome (λ answer. answer.status < 3 → (S.faults shelf.new ≡ S.faults shelf.old) × (S.Area.faults hand.new.area ≡ S.Area.faults hand.old.area) × (G.faults hand.new.gate ≡ G.faults hand.old.gate)) }
-    ensures fault { IfOk result.outcome (λ answer. answer.status ≡ 3 → HasRisen (S.faults shelf.old) (S.faults shelf.new) ⊎ (HasRisen (S.Area.faults hand.old.area) (S.Area.faults hand.new.area) ⊎ HasRisen (G.faults hand.old.gate) (G.faults hand.new.gate))) }
+    ensures settled { IfOk result.outcome (λ answer. answer.status < 3 →
+        IfSome (S.told shelf.new) IsSettled) }
+    ensures answers { IfSome (G.answers hand.old.gate) (λ test.
+        FitsRequests test plan.now module.now result.answers) }
+    ensures quiet { IfOk result.outcome (λ answer. answer.status < 3 →
+        (S.faults shelf.new ≡ S.faults shelf.old) ×
+        (S.Area.faults hand.new.area ≡ S.Area.faults hand.old.area) ×
+        (G.faults hand.new.gate ≡ G.faults hand.old.gate)) }
+    ensures fault { IfOk result.outcome (λ answer. answer.status ≡ 3 →
+        HasRisen (S.faults shelf.old) (S.faults shelf.new) ⊎
+        (HasRisen (S.Area.faults hand.old.area) (S.Area.faults hand.new.area) ⊎
+        HasRisen (G.faults hand.old.gate) (G.faults hand.new.gate))) }
 {
     let run = build_module(alloc, plan, module, shelf, hand);
     let settled = settle(shelf);
@@ -161,15 +176,27 @@ fn build_swept<R, S: Shelf, G: Gate>(
     hand: &mut Hand<R, S::Area, G>,
 ) -> Call
     requires single { IsSingle plan.now }
-    ensures outcome { IfOk result.outcome (λ answer. answer.status < 3 → LeavesFiles (S.told shelf.old) (S.told shelf.new) (is_some (S.Area.contents hand.old.area)) (RanSo plan.now result.answers answer)) }
+    ensures outcome { IfOk result.outcome (λ answer. answer.status < 3 →
+        LeavesFiles (S.told shelf.old) (S.told shelf.new) (is_some (S.Area.contents hand.old.area))
+        (RanSo plan.now result.answers answer)) }
     ensures bound { IfOk result.outcome (λ answer. answer.status ≤ 3) }
-    ensures always { IfOk result.outcome (λ answer. answer.status < 3 → RanAlways plan.now result.answers answer) }
-    ensures count { IfOk result.outcome (λ answer. answer.status < 3 → CountFits plan.now result.answers) }
+    ensures always { IfOk result.outcome (λ answer. answer.status < 3 →
+        RanAlways plan.now result.answers answer) }
+    ensures count { IfOk result.outcome (λ answer. answer.status < 3 →
+        CountFits plan.now result.answers) }
     ensures once { PublishesOnce (S.told shelf.old) (S.told shelf.new) }
-    ensures settled { IfOk result.outcome (λ answer. answer.status < 3 → IfSome (S.told shelf.new) IsSettled) }
-    ensures answers { IfSome (G.answers hand.old.gate) (λ test. AnswersFit test plan.now result.answers) }
-    ensures quiet { IfOk result.outcome (λ answer. answer.status < 3 → (S.faults shelf.new ≡ S.faults shelf.old) × (S.Area.faults hand.new.area ≡ S.Area.faults hand.old.area) × (G.faults hand.new.gate ≡ G.faults hand.old.gate)) }
-    ensures fault { IfOk result.outcome (λ answer. answer.status ≡ 3 → HasRisen (S.faults shelf.old) (S.faults shelf.new) ⊎ (HasRisen (S.Area.faults hand.old.area) (S.Area.faults hand.new.area) ⊎ HasRisen (G.faults hand.old.gate) (G.faults hand.new.gate))) }
+    ensures settled { IfOk result.outcome (λ answer. answer.status < 3 →
+        IfSome (S.told shelf.new) IsSettled) }
+    ensures answers { IfSome (G.answers hand.old.gate) (λ test.
+        AnswersFit test plan.now result.answers) }
+    ensures quiet { IfOk result.outcome (λ answer. answer.status < 3 →
+        (S.faults shelf.new ≡ S.faults shelf.old) ×
+        (S.Area.faults hand.new.area ≡ S.Area.faults hand.old.area) ×
+        (G.faults hand.new.gate ≡ G.faults hand.old.gate)) }
+    ensures fault { IfOk result.outcome (λ answer. answer.status ≡ 3 →
+        HasRisen (S.faults shelf.old) (S.faults shelf.new) ⊎
+        (HasRisen (S.Area.faults hand.old.area) (S.Area.faults hand.new.area) ⊎
+        HasRisen (G.faults hand.old.gate) (G.faults hand.new.gate))) }
 {
     match plan.modules.as_slice() {
         [module] => build_one(alloc, plan, module, shelf, hand),
@@ -186,15 +213,27 @@ pub fn build_plan<R, S: Shelf, G: Gate>(
     hand: &mut Hand<R, S::Area, G>,
 ) -> Call
     requires single { IsSingle plan.now }
-    ensures outcome { IfOk result.outcome (λ answer. answer.status < 3 → LeavesFiles (S.told shelf.old) (S.told shelf.new) (is_some (S.Area.contents hand.old.area)) (RanSo plan.now result.answers answer)) }
+    ensures outcome { IfOk result.outcome (λ answer. answer.status < 3 →
+        LeavesFiles (S.told shelf.old) (S.told shelf.new) (is_some (S.Area.contents hand.old.area))
+        (RanSo plan.now result.answers answer)) }
     ensures bound { IfOk result.outcome (λ answer. answer.status ≤ 3) }
-    ensures always { IfOk result.outcome (λ answer. answer.status < 3 → RanAlways plan.now result.answers answer) }
-    ensures count { IfOk result.outcome (λ answer. answer.status < 3 → CountFits plan.now result.answers) }
+    ensures always { IfOk result.outcome (λ answer. answer.status < 3 →
+        RanAlways plan.now result.answers answer) }
+    ensures count { IfOk result.outcome (λ answer. answer.status < 3 →
+        CountFits plan.now result.answers) }
     ensures once { PublishesOnce (S.told shelf.old) (S.told shelf.new) }
-    ensures settled { IfOk result.outcome (λ answer. answer.status < 3 → IfSome (S.told shelf.new) IsSettled) }
-    ensures answers { IfSome (G.answers hand.old.gate) (λ test. AnswersFit test plan.now result.answers) }
-    ensures quiet { IfOk result.outcome (λ answer. answer.status < 3 → (S.faults shelf.new ≡ S.faults shelf.old) × (S.Area.faults hand.new.area ≡ S.Area.faults hand.old.area) × (G.faults hand.new.gate ≡ G.faults hand.old.gate)) }
-    ensures fault { IfOk result.outcome (λ answer. answer.status ≡ 3 → HasRisen (S.faults shelf.old) (S.faults shelf.new) ⊎ (HasRisen (S.Area.faults hand.old.area) (S.Area.faults hand.new.area) ⊎ HasRisen (G.faults hand.old.gate) (G.faults hand.new.gate))) }
+    ensures settled { IfOk result.outcome (λ answer. answer.status < 3 →
+        IfSome (S.told shelf.new) IsSettled) }
+    ensures answers { IfSome (G.answers hand.old.gate) (λ test.
+        AnswersFit test plan.now result.answers) }
+    ensures quiet { IfOk result.outcome (λ answer. answer.status < 3 →
+        (S.faults shelf.new ≡ S.faults shelf.old) ×
+        (S.Area.faults hand.new.area ≡ S.Area.faults hand.old.area) ×
+        (G.faults hand.new.gate ≡ G.faults hand.old.gate)) }
+    ensures fault { IfOk result.outcome (λ answer. answer.status ≡ 3 →
+        HasRisen (S.faults shelf.old) (S.faults shelf.new) ⊎
+        (HasRisen (S.Area.faults hand.old.area) (S.Area.faults hand.new.area) ⊎
+        HasRisen (G.faults hand.old.gate) (G.faults hand.new.gate))) }
 {
     match sweep(&mut hand.area) {
         Ok(()) => build_swept(alloc, plan, shelf, hand),

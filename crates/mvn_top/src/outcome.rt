@@ -122,7 +122,8 @@ fn of_model(alloc: Global, model: &RawModel) -> Mem<Result<Gav, Outcome>>
 
 // The module of what a POM says, or its refusal.
 fn of_read(alloc: Global, read: &Result<RawModel, ModelError>) -> Mem<Result<Gav, Outcome>>
-    ensures { (said : logic.Result models.RawModel refusals.Refusal) → Says said read.now → IfOk result (λ answer. answer ≡ of_raw said) }
+    ensures { (said : logic.Result models.RawModel refusals.Refusal) → Says said read.now →
+        IfOk result (λ answer. answer ≡ of_raw said) }
 {
     match read {
         Ok(model) => of_model(alloc, model),

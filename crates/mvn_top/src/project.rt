@@ -46,7 +46,8 @@ fn plan_module<T: Tree>(
 ) -> Mem<Result<Plan, Outcome>>
     requires names { IsValid gav }
     ensures gives { IfOk result (GivesModule (T.files tree.old) command gav pom) }
-    ensures cause { IfOk result (λ answer. HasCause (T.faults tree.old) (T.faults tree.new) (plan_failed answer)) }
+    ensures cause { IfOk result (λ answer.
+        HasCause (T.faults tree.old) (T.faults tree.new) (plan_failed answer)) }
 {
     match command {
         Command::Validate => plan_sources(alloc, command, gav, pom, Ok(List::new(alloc))),
@@ -77,7 +78,8 @@ pub fn plan_project<T: Tree>(
     tree: &mut T,
 ) -> Mem<Result<Plan, Outcome>>
     ensures gives { IfOk result (GivesProject (T.files tree.old) command) }
-    ensures cause { IfOk result (λ answer. HasCause (T.faults tree.old) (T.faults tree.new) (plan_failed answer)) }
+    ensures cause { IfOk result (λ answer.
+        HasCause (T.faults tree.old) (T.faults tree.new) (plan_failed answer)) }
 {
     let reading = read_pom(alloc, tree)?;
     match of_pom(alloc, &reading)? {

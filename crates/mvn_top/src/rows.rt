@@ -52,7 +52,8 @@ fn ending_row(
     ending: Ending,
 ) -> Mem<RowEnd>
     requires bare { is_bare_ending ending ≡ true }
-    ensures { (plan : Plan) → IfOk result (λ row. row ≡ ending_row plan module.now (nth_answer answers.now) ending) }
+    ensures { (plan : Plan) →
+        IfOk result (λ row. row ≡ ending_row plan module.now (nth_answer answers.now) ending) }
 {
     match ending {
         Ending::Built => Ok(RowEnd::Built),
@@ -78,7 +79,10 @@ pub fn module_report(
     ending: Ending,
 ) -> Mem<Bytes>
     requires bare { is_bare_ending ending ≡ true }
-    ensures { (plan : Plan) → IfOk result (λ text. text ≡ report_text (bare_row module.now (ending_row plan module.now (nth_answer answers.now) ending) ∷ [])) }
+    ensures { (plan : Plan) →
+        IfOk result (λ text.
+        text ≡ report_text
+        (bare_row module.now (ending_row plan module.now (nth_answer answers.now) ending) ∷ [])) }
 {
     let end = ending_row(alloc, module, answers, ending)?;
     let row = ReportRow {

@@ -92,7 +92,8 @@ fn coordinates(group: &Option<Text>, artifact: &Text, version: &Option<Text>) ->
 
 // So of a model's group of them.
 fn stated_coordinates(stated: &Coordinates) -> Mem<Option<Gav>>
-    ensures { IfOk result (λ gav. gav ≡ coordinates stated.now.group stated.now.artifact stated.now.version) }
+    ensures { IfOk result (λ gav.
+        gav ≡ coordinates stated.now.group stated.now.artifact stated.now.version) }
 {
     coordinates(&stated.group, &stated.artifact, &stated.version)
 }

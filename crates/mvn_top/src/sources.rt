@@ -42,7 +42,8 @@ fn names_with<T: Tree>(
     folder: &str,
     names: List<Text>,
 ) -> Result<List<Text>, SourcesFault>
-    ensures lists { IfSome (T.files tree.old) (λ files. ListsNames (names ++ names_below files folder.now) result) }
+    ensures lists { IfSome (T.files tree.old) (λ files.
+        ListsNames (names ++ names_below files folder.now) result) }
     ensures same { T.files tree.new ≡ T.files tree.old }
     ensures cause { HasCause (T.faults tree.old) (T.faults tree.new) (sources_failed result) }
 {
@@ -72,7 +73,8 @@ fn names_below<T: Tree>(
     tree: &mut T,
     folders: &[&str],
 ) -> Result<List<Text>, SourcesFault>
-    ensures lists { IfSome (T.files tree.old) (λ files. ListsNames (flat_map (λ f. names_below files f.now) folders.now) result) }
+    ensures lists { IfSome (T.files tree.old) (λ files.
+        ListsNames (flat_map (λ f. names_below files f.now) folders.now) result) }
     ensures same { T.files tree.new ≡ T.files tree.old }
     ensures cause { HasCause (T.faults tree.old) (T.faults tree.new) (sources_failed result) }
 {
@@ -102,8 +104,10 @@ fn push_source<T: Tree>(
     room: u64,
     sources: &mut List<SourceFile>,
 ) -> Result<u64, SourcesFault>
-    ensures reads { IfSome (T.files tree.old) (λ files. ReadsOne room sources.old (sources_at files (name.now ∷ [])) sources.new result) }
-    ensures left { IfOk result (λ left. left + sources_len sources.new ≡ room + sources_len sources.old) }
+    ensures reads { IfSome (T.files tree.old) (λ files.
+        ReadsOne room sources.old (sources_at files (name.now ∷ [])) sources.new result) }
+    ensures left { IfOk result (λ left.
+        left + sources_len sources.new ≡ room + sources_len sources.old) }
     ensures same { T.files tree.new ≡ T.files tree.old }
     ensures cause { HasCause (T.faults tree.old) (T.faults tree.new) (sources_failed result) }
 {
@@ -130,7 +134,8 @@ fn read_sources<T: Tree>(
     tree: &mut T,
     names: &[Text],
 ) -> Result<List<SourceFile>, SourcesFault>
-    ensures reads { IfSome (T.files tree.old) (λ files. ReadsSources (sources_at files names.now) result) }
+    ensures reads { IfSome (T.files tree.old) (λ files.
+        ReadsSources (sources_at files names.now) result) }
     ensures same { T.files tree.new ≡ T.files tree.old }
     ensures cause { HasCause (T.faults tree.old) (T.faults tree.new) (sources_failed result) }
 {

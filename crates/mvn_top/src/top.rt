@@ -27,16 +27,30 @@ fn build<T: Tree, R, S: Shelf, G: Gate>(
     shelf: &mut S,
     hand: &mut Hand<R, S::Area, G>,
 ) -> Call
-    ensures outcome { IfSome (T.files tree.old) (λ files. IfOk result.outcome (λ answer. answer.status < 3
+    ensures outcome { IfSome (T.files tree.old) (λ files.
+        IfOk result.outcome (λ answer. answer.status < 3
         → LeavesFiles (S.told shelf.old) (S.told shelf.new) (is_some (S.Area.contents hand.old.area)) (IsOutcome words.now files result.answers answer))) }
     ensures bound { IfOk result.outcome (λ answer. answer.status ≤ 3) }
-    ensures comes { IfOk result.outcome (λ answer. answer.status < 3 → ComesFrom (T.files tree.old) words.now result.answers answer) }
-    ensures count { IfSome (T.files tree.old) (λ files. IfOk result.outcome (λ answer. answer.status < 3 → (plan : Plan) → plan_of words.now files ≡ Ok plan → CountFits plan result.answers)) }
+    ensures comes { IfOk result.outcome (λ answer. answer.status < 3 →
+        ComesFrom (T.files tree.old) words.now result.answers answer) }
+    ensures count { IfSome (T.files tree.old) (λ files.
+        IfOk result.outcome (λ answer. answer.status < 3 → (plan : Plan) →
+        plan_of words.now files ≡ Ok plan → CountFits plan result.answers)) }
     ensures once { PublishesOnce (S.told shelf.old) (S.told shelf.new) }
-    ensures settled { IfOk result.outcome (λ answer. answer.status < 2 → IfSome (S.told shelf.new) IsSettled) }
-    ensures answers { IfSome (T.files tree.old) (λ files. IfSome (G.answers hand.old.gate) (λ test. (plan : Plan) → plan_of words.now files ≡ Ok plan → AnswersFit test plan result.answers)) }
-    ensures quiet { IfOk result.outcome (λ answer. answer.status < 3 → (T.faults tree.new ≡ T.faults tree.old) × (S.faults shelf.new ≡ S.faults shelf.old) × (S.Area.faults hand.new.area ≡ S.Area.faults hand.old.area) × (G.faults hand.new.gate ≡ G.faults hand.old.gate)) }
-    ensures fault { IfOk result.outcome (λ answer. answer.status ≡ 3 → HasRisen (T.faults tree.old) (T.faults tree.new) ⊎ (HasRisen (S.faults shelf.old) (S.faults shelf.new) ⊎ (HasRisen (S.Area.faults hand.old.area) (S.Area.faults hand.new.area) ⊎ HasRisen (G.faults hand.old.gate) (G.faults hand.new.gate)))) }
+    ensures settled { IfOk result.outcome (λ answer. answer.status < 2 →
+        IfSome (S.told shelf.new) IsSettled) }
+    ensures answers { IfSome (T.files tree.old) (λ files.
+        IfSome (G.answers hand.old.gate) (λ test. (plan : Plan) →
+        plan_of words.now files ≡ Ok plan → AnswersFit test plan result.answers)) }
+    ensures quiet { IfOk result.outcome (λ answer. answer.status < 3 →
+        (T.faults tree.new ≡ T.faults tree.old) × (S.faults shelf.new ≡ S.faults shelf.old) ×
+        (S.Area.faults hand.new.area ≡ S.Area.faults hand.old.area) ×
+        (G.faults hand.new.gate ≡ G.faults hand.old.gate)) }
+    ensures fault { IfOk result.outcome (λ answer. answer.status ≡ 3 →
+        HasRisen (T.faults tree.old) (T.faults tree.new) ⊎
+        (HasRisen (S.faults shelf.old) (S.faults shelf.new) ⊎
+        (HasRisen (S.Area.faults hand.old.area) (S.Area.faults hand.new.area) ⊎
+        HasRisen (G.faults hand.old.gate) (G.faults hand.new.gate)))) }
 {
     let Some(command) = command_of(words) else {
         return nothing(alloc, not_built(alloc));
@@ -51,9 +65,12 @@ fn build<T: Tree, R, S: Shelf, G: Gate>(
 // The status of a call once its answer is written.
 fn write_answer<O: Sink>(out: &mut O, answer: Mem<Outcome>) -> u8
     requires status { IfOk answer (λ wanted. wanted.status ≤ 3) }
-    ensures whole { IfOk answer (λ wanted. result < 3 → IsWhole wanted result (O.written out.old) (O.written out.new)) }
+    ensures whole { IfOk answer (λ wanted. result < 3 →
+        IsWhole wanted result (O.written out.old) (O.written out.new)) }
     ensures low { result < 3 → IsLow answer }
-    ensures ends { IfOk answer (λ wanted. Ends wanted result (O.written out.old) (O.written out.new) (O.faults out.old) (O.faults out.new)) }
+    ensures ends { IfOk answer (λ wanted.
+        Ends wanted result (O.written out.old) (O.written out.new) (O.faults out.old)
+        (O.faults out.new)) }
     ensures none { HasNone answer result (O.written out.old) (O.written out.new) }
     ensures fault { result ≡ 3 → IsFault answer ⊎ HasRisen (O.faults out.old) (O.faults out.new) }
     ensures quiet { result < 3 → O.faults out.new ≡ O.faults out.old }
@@ -109,14 +126,26 @@ fn call_hand<T: Tree, R, S: Shelf, G: Gate, O: Sink>(
 ) -> Ended<S>
     ensures outcome { IfSome (T.files tree.old) (λ files. result.status < 3
         → LeavesFiles (S.told shelf) (S.told result.shelf) (is_some (S.Area.contents hand.old.area)) (IsCall words.now files result.answers result.status (O.written out.old) (O.written out.new))) }
-    ensures ends { (wanted : Outcome) × (result.status < 3 → ComesFrom (T.files tree.old) words.now (kept_answers result.answers) wanted)
+    ensures ends { (wanted : Outcome) ×
+        (result.status < 3 →
+        ComesFrom (T.files tree.old) words.now (kept_answers result.answers) wanted)
         × Ends wanted result.status (O.written out.old) (O.written out.new) (O.faults out.old) (O.faults out.new) }
-    ensures count { IfSome (T.files tree.old) (λ files. result.status < 3 → (plan : Plan) → plan_of words.now files ≡ Ok plan → CountFits plan (kept_answers result.answers)) }
+    ensures count { IfSome (T.files tree.old) (λ files. result.status < 3 → (plan : Plan) →
+        plan_of words.now files ≡ Ok plan → CountFits plan (kept_answers result.answers)) }
     ensures once { PublishesOnce (S.told shelf) (S.told result.shelf) }
     ensures settled { result.status < 2 → IfSome (S.told result.shelf) IsSettled }
-    ensures answers { IfSome (T.files tree.old) (λ files. IfSome (G.answers hand.old.gate) (λ test. (plan : Plan) → plan_of words.now files ≡ Ok plan → AnswersFit test plan (kept_answers result.answers))) }
-    ensures quiet { result.status < 3 → (T.faults tree.new ≡ T.faults tree.old) × (S.faults result.shelf ≡ S.faults shelf) × (S.Area.faults hand.new.area ≡ S.Area.faults hand.old.area) × (G.faults hand.new.gate ≡ G.faults hand.old.gate) × (O.faults out.new ≡ O.faults out.old) }
-    ensures fault { result.status ≡ 3 → HasRisen (O.faults out.old) (O.faults out.new) ⊎ (HasRisen (T.faults tree.old) (T.faults tree.new) ⊎ (HasRisen (S.faults shelf) (S.faults result.shelf) ⊎ (HasRisen (S.Area.faults hand.old.area) (S.Area.faults hand.new.area) ⊎ HasRisen (G.faults hand.old.gate) (G.faults hand.new.gate)))) }
+    ensures answers { IfSome (T.files tree.old) (λ files.
+        IfSome (G.answers hand.old.gate) (λ test. (plan : Plan) →
+        plan_of words.now files ≡ Ok plan → AnswersFit test plan (kept_answers result.answers))) }
+    ensures quiet { result.status < 3 → (T.faults tree.new ≡ T.faults tree.old) ×
+        (S.faults result.shelf ≡ S.faults shelf) ×
+        (S.Area.faults hand.new.area ≡ S.Area.faults hand.old.area) ×
+        (G.faults hand.new.gate ≡ G.faults hand.old.gate) × (O.faults out.new ≡ O.faults out.old) }
+    ensures fault { result.status ≡ 3 → HasRisen (O.faults out.old) (O.faults out.new) ⊎
+        (HasRisen (T.faults tree.old) (T.faults tree.new) ⊎
+        (HasRisen (S.faults shelf) (S.faults result.shelf) ⊎
+        (HasRisen (S.Area.faults hand.old.area) (S.Area.faults hand.new.area) ⊎
+        HasRisen (G.faults hand.old.gate) (G.faults hand.new.gate)))) }
     ensures bound { result.status ≤ 4 }
     ensures trace { result.trace ≡ [] }
 {
@@ -164,20 +193,27 @@ pub fn mvn<T: Tree, R, S: Shelf, G: Gate, O: Sink>(
 
     // Below 3, where the tree, the repository and the area tell, the text, the status and the repository's files are those
     // of the build by one hand, of the files that they told and the answers that are kept.
-    ensures outcome { OfFirst hands.old (λ hand. IfSome (T.files tree.old) (λ files. result.status < 3
+    ensures outcome { OfFirst hands.old (λ hand.
+        IfSome (T.files tree.old) (λ files. result.status < 3
         → LeavesFiles (S.told shelf) (S.told result.shelf) (is_some (S.Area.contents hand.area)) (IsCall words.now files result.answers result.status (O.written out.old) (O.written out.new)))) }
 
     // Over any objects the answer comes from the words, from what reading the project gave, and from the build by one hand
     // of the plan for it. What is written is a part of its text from its front: the whole, unless the sink failed or memory
     // ran out.
-    ensures ends { (wanted : Outcome) × (result.status < 3 → ComesFrom (T.files tree.old) words.now (kept_answers result.answers) wanted)
+    ensures ends { (wanted : Outcome) ×
+        (result.status < 3 →
+        ComesFrom (T.files tree.old) words.now (kept_answers result.answers) wanted)
         × Ends wanted result.status (O.written out.old) (O.written out.new) (O.faults out.old) (O.faults out.new) }
 
     // The answers that are kept are the gate's, to the requests that the definition names.
-    ensures answers { OfFirst hands.old (λ hand. IfSome (T.files tree.old) (λ files. IfSome (G.answers hand.gate) (λ test. (plan : Plan) → plan_of words.now files ≡ Ok plan → AnswersFit test plan (kept_answers result.answers)))) }
+    ensures answers { OfFirst hands.old (λ hand.
+        IfSome (T.files tree.old) (λ files.
+        IfSome (G.answers hand.gate) (λ test. (plan : Plan) → plan_of words.now files ≡ Ok plan →
+        AnswersFit test plan (kept_answers result.answers)))) }
 
     // Below 3 there is one answer for each goal that the definition reaches.
-    ensures count { IfSome (T.files tree.old) (λ files. result.status < 3 → (plan : Plan) → plan_of words.now files ≡ Ok plan → CountFits plan (kept_answers result.answers)) }
+    ensures count { IfSome (T.files tree.old) (λ files. result.status < 3 → (plan : Plan) →
+        plan_of words.now files ≡ Ok plan → CountFits plan (kept_answers result.answers)) }
 
     // Each name is published at most once, and the settled number never falls; so at every moment, and after a stop, a name has
     // its old value or its new one.
@@ -188,9 +224,12 @@ pub fn mvn<T: Tree, R, S: Shelf, G: Gate, O: Sink>(
     ensures settled { result.status < 2 → IfSome (S.told result.shelf) IsSettled }
 
     // Below 3 no device failed, and at 3 one did.
-    ensures quiet { result.status < 3 → (T.faults tree.new ≡ T.faults tree.old) × (S.faults result.shelf ≡ S.faults shelf) × (O.faults out.new ≡ O.faults out.old)
+    ensures quiet { result.status < 3 → (T.faults tree.new ≡ T.faults tree.old) ×
+        (S.faults result.shelf ≡ S.faults shelf) × (O.faults out.new ≡ O.faults out.old)
         × OfFirsts hands.old hands.new (λ before now. (S.Area.faults now.area ≡ S.Area.faults before.area) × (G.faults now.gate ≡ G.faults before.gate)) }
-    ensures fault { OfFirsts hands.old hands.new (λ before now. result.status ≡ 3 → HasRisen (O.faults out.old) (O.faults out.new) ⊎ (HasRisen (T.faults tree.old) (T.faults tree.new)
+    ensures fault { OfFirsts hands.old hands.new (λ before now. result.status ≡ 3 →
+        HasRisen (O.faults out.old) (O.faults out.new) ⊎
+        (HasRisen (T.faults tree.old) (T.faults tree.new)
         ⊎ (HasRisen (S.faults shelf) (S.faults result.shelf) ⊎ (HasRisen (S.Area.faults before.area) (S.Area.faults now.area) ⊎ HasRisen (G.faults before.gate) (G.faults now.gate))))) }
     ensures bound { result.status ≤ 4 }
 

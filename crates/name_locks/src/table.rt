@@ -141,8 +141,10 @@ impl LockTable {
     pub fn take(&mut self, name: u32, worker: u32, mode: Mode) -> Tried
         requires seat { IsSeat self.old name worker }
         requires free { hold self.old name worker ≡ None }
-        ensures taken { result ≡ Taken → (blocker self.old name worker mode ≡ None) × (self.new ≡ with_hold self.old name worker (Some mode)) }
-        ensures busy { (h : ℕ) → result ≡ Busy h → (blocker self.old name worker mode ≡ Some h) × (self.new ≡ self.old) }
+        ensures taken { result ≡ Taken → (blocker self.old name worker mode ≡ None) ×
+            (self.new ≡ with_hold self.old name worker (Some mode)) }
+        ensures busy { (h : ℕ) → result ≡ Busy h → (blocker self.old name worker mode ≡ Some h) ×
+            (self.new ≡ self.old) }
     {
         match self.blocker(name, worker, mode) {
             Some(other) => Tried::Busy(other),

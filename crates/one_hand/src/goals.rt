@@ -32,7 +32,8 @@ fn keep_output(
     bytes: Bytes,
     own: &mut List<OwnBytes>,
 ) -> Option<Ending>
-    ensures end { IfSome (goals_end result own.new) (λ end. one_output budget number slot bytes own.old all_answered ≡ end) }
+    ensures end { IfSome (goals_end result own.new) (λ end.
+        one_output budget number slot bytes own.old all_answered ≡ end) }
     ensures stop { IsStop result }
     ensures cause { gate_stopped result ≡ false }
 {
@@ -61,7 +62,8 @@ fn keep_answer(
     answer: GoalAnswer,
     own: &mut List<OwnBytes>,
 ) -> Option<Ending>
-    ensures end { IfSome (goals_end result own.new) (λ end. one_goal budget number slot answer own.old all_answered ≡ end) }
+    ensures end { IfSome (goals_end result own.new) (λ end.
+        one_goal budget number slot answer own.old all_answered ≡ end) }
     ensures stop { IsStop result }
     ensures cause { gate_stopped result ≡ false }
 {
@@ -137,9 +139,11 @@ fn answer_all<G: Gate>(
     requires no_pom { HasNoPom module.now.goals }
     requires begun { IsBegun module.now request }
     ensures end { EndsAsDefined module.now result }
-    ensures count { IfSome (goals_end result.stop result.own) (λ _. HasAllAnswers module.now result.answers) }
+    ensures count { IfSome (goals_end result.stop result.own) (λ _.
+        HasAllAnswers module.now result.answers) }
     ensures stop { IsStop result.stop }
-    ensures answers { IfSome (G.answers gate.old) (λ test. AreAnswers test module.now result.answers) }
+    ensures answers { IfSome (G.answers gate.old) (λ test.
+        AreAnswers test module.now result.answers) }
     ensures told { G.answers gate.new ≡ G.answers gate.old }
     ensures never { G.never_fails gate.new ≡ G.never_fails gate.old }
     ensures cause { HasCause (G.faults gate.old) (G.faults gate.new) (gate_stopped result.stop) }
@@ -195,9 +199,11 @@ pub fn run_goals<G: Gate>(alloc: Global, gate: &mut G, module: &PlanModule) -> G
     requires few { length module.now.goals < 4294967296 }
     requires no_pom { HasNoPom module.now.goals }
     ensures end { EndsAsDefined module.now result }
-    ensures count { IfSome (goals_end result.stop result.own) (λ _. HasAllAnswers module.now result.answers) }
+    ensures count { IfSome (goals_end result.stop result.own) (λ _.
+        HasAllAnswers module.now result.answers) }
     ensures stop { IsStop result.stop }
-    ensures answers { IfSome (G.answers gate.old) (λ test. AreAnswers test module.now result.answers) }
+    ensures answers { IfSome (G.answers gate.old) (λ test.
+        AreAnswers test module.now result.answers) }
     ensures told { G.answers gate.new ≡ G.answers gate.old }
     ensures never { G.never_fails gate.new ≡ G.never_fails gate.old }
     ensures cause { HasCause (G.faults gate.old) (G.faults gate.new) (gate_stopped result.stop) }

@@ -29,12 +29,18 @@ fn publish_bytes<S: Shelf>(
     bytes: &[u8],
     name: &FileName,
 ) -> Result<(), InstallFault>
-    ensures ok { OnOk result (Adds (S.told shelf.old) (S.told shelf.new) (is_some (S.Area.contents area.old)) (record { name = name.now; bytes = bytes.now } ∷ [])) }
+    ensures ok { OnOk result
+        (Adds (S.told shelf.old) (S.told shelf.new) (is_some (S.Area.contents area.old))
+        (record { name = name.now; bytes = bytes.now } ∷ [])) }
     ensures err { OnErr result (S.told shelf.new ≡ S.told shelf.old) }
-    ensures tells { OnOk result (is_some (S.Area.contents area.new) ≡ is_some (S.Area.contents area.old)) }
-    ensures never { (S.never_fails shelf.new ≡ S.never_fails shelf.old) × (S.Area.never_fails area.new ≡ S.Area.never_fails area.old) }
-    ensures area_cause { HasCause (S.Area.faults area.old) (S.Area.faults area.new) (area_failed_in result) }
-    ensures shelf_cause { HasCause (S.faults shelf.old) (S.faults shelf.new) (shelf_failed_in result) }
+    ensures tells { OnOk result
+        (is_some (S.Area.contents area.new) ≡ is_some (S.Area.contents area.old)) }
+    ensures never { (S.never_fails shelf.new ≡ S.never_fails shelf.old) ×
+        (S.Area.never_fails area.new ≡ S.Area.never_fails area.old) }
+    ensures area_cause { HasCause (S.Area.faults area.old) (S.Area.faults area.new)
+        (area_failed_in result) }
+    ensures shelf_cause { HasCause (S.faults shelf.old) (S.faults shelf.new)
+        (shelf_failed_in result) }
 {
     let piece = match stage(area, bytes) {
         Ok(piece) => piece,
@@ -67,12 +73,18 @@ fn install_slot<S: Shelf>(
     slot: Slot,
     name: &FileName,
 ) -> Result<(), InstallFault>
-    ensures ok { OnOk result (Adds (S.told shelf.old) (S.told shelf.new) (is_some (S.Area.contents area.old)) (publish_of name.now (own_bytes module.now own.now slot))) }
+    ensures ok { OnOk result
+        (Adds (S.told shelf.old) (S.told shelf.new) (is_some (S.Area.contents area.old))
+        (publish_of name.now (own_bytes module.now own.now slot))) }
     ensures err { OnErr result (S.told shelf.new ≡ S.told shelf.old) }
-    ensures tells { OnOk result (is_some (S.Area.contents area.new) ≡ is_some (S.Area.contents area.old)) }
-    ensures never { (S.never_fails shelf.new ≡ S.never_fails shelf.old) × (S.Area.never_fails area.new ≡ S.Area.never_fails area.old) }
-    ensures area_cause { HasCause (S.Area.faults area.old) (S.Area.faults area.new) (area_failed_in result) }
-    ensures shelf_cause { HasCause (S.faults shelf.old) (S.faults shelf.new) (shelf_failed_in result) }
+    ensures tells { OnOk result
+        (is_some (S.Area.contents area.new) ≡ is_some (S.Area.contents area.old)) }
+    ensures never { (S.never_fails shelf.new ≡ S.never_fails shelf.old) ×
+        (S.Area.never_fails area.new ≡ S.Area.never_fails area.old) }
+    ensures area_cause { HasCause (S.Area.faults area.old) (S.Area.faults area.new)
+        (area_failed_in result) }
+    ensures shelf_cause { HasCause (S.faults shelf.old) (S.faults shelf.new)
+        (shelf_failed_in result) }
 {
     match own_bytes(module, own, slot) {
         Some(bytes) => publish_bytes(shelf, area, bytes, name),
@@ -90,11 +102,18 @@ pub fn install_files<S: Shelf>(
     own: &[OwnBytes],
 ) -> Result<(), InstallFault>
     requires names { HasNames plan.now module.now }
-    ensures ok { OnOk result (Adds (S.told shelf.old) (S.told shelf.new) (is_some (S.Area.contents area.old)) (own_publishes plan.now module.now own.now module.now.own)) }
-    ensures err { OnErr result ((count : ℕ) × Adds (S.told shelf.old) (S.told shelf.new) (is_some (S.Area.contents area.old)) (own_publishes plan.now module.now own.now (take count module.now.own))) }
-    ensures never { (S.never_fails shelf.new ≡ S.never_fails shelf.old) × (S.Area.never_fails area.new ≡ S.Area.never_fails area.old) }
-    ensures area_cause { HasCause (S.Area.faults area.old) (S.Area.faults area.new) (area_failed_in result) }
-    ensures shelf_cause { HasCause (S.faults shelf.old) (S.faults shelf.new) (shelf_failed_in result) }
+    ensures ok { OnOk result
+        (Adds (S.told shelf.old) (S.told shelf.new) (is_some (S.Area.contents area.old))
+        (own_publishes plan.now module.now own.now module.now.own)) }
+    ensures err { OnErr result ((count : ℕ) ×
+        Adds (S.told shelf.old) (S.told shelf.new) (is_some (S.Area.contents area.old))
+        (own_publishes plan.now module.now own.now (take count module.now.own))) }
+    ensures never { (S.never_fails shelf.new ≡ S.never_fails shelf.old) ×
+        (S.Area.never_fails area.new ≡ S.Area.never_fails area.old) }
+    ensures area_cause { HasCause (S.Area.faults area.old) (S.Area.faults area.new)
+        (area_failed_in result) }
+    ensures shelf_cause { HasCause (S.faults shelf.old) (S.faults shelf.new)
+        (shelf_failed_in result) }
 {
     for file in module.own.as_slice() {
         let name = &plan.files.as_slice()[file.file as usize];

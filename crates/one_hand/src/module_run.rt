@@ -40,12 +40,20 @@ fn end_module<S: Shelf>(
     own: &[OwnBytes],
 ) -> Ending
     requires names { HasNames plan.now module.now }
-    ensures end { is_quiet result ≡ true → LeavesFiles (S.told shelf.old) (S.told shelf.new) (is_some (S.Area.contents area.old)) (EndsAfterGoals plan.now module.now own.now result) }
-    ensures always { is_quiet result ≡ true → (before : Files) → (after : Files) × EndsAfterGoals plan.now module.now own.now result before after }
-    ensures adds { (count : ℕ) × Adds (S.told shelf.old) (S.told shelf.new) (is_some (S.Area.contents area.old)) (own_publishes plan.now module.now own.now (take count module.now.own)) }
-    ensures never { (S.never_fails shelf.new ≡ S.never_fails shelf.old) × (S.Area.never_fails area.new ≡ S.Area.never_fails area.old) }
-    ensures area_cause { HasCause (S.Area.faults area.old) (S.Area.faults area.new) (is_area_fault result) }
-    ensures shelf_cause { HasCause (S.faults shelf.old) (S.faults shelf.new) (is_shelf_fault result) }
+    ensures end { is_quiet result ≡ true →
+        LeavesFiles (S.told shelf.old) (S.told shelf.new) (is_some (S.Area.contents area.old))
+        (EndsAfterGoals plan.now module.now own.now result) }
+    ensures always { is_quiet result ≡ true → (before : Files) → (after : Files) ×
+        EndsAfterGoals plan.now module.now own.now result before after }
+    ensures adds { (count : ℕ) ×
+        Adds (S.told shelf.old) (S.told shelf.new) (is_some (S.Area.contents area.old))
+        (own_publishes plan.now module.now own.now (take count module.now.own)) }
+    ensures never { (S.never_fails shelf.new ≡ S.never_fails shelf.old) ×
+        (S.Area.never_fails area.new ≡ S.Area.never_fails area.old) }
+    ensures area_cause { HasCause (S.Area.faults area.old) (S.Area.faults area.new)
+        (is_area_fault result) }
+    ensures shelf_cause { HasCause (S.faults shelf.old) (S.faults shelf.new)
+        (is_shelf_fault result) }
     ensures no_gate { is_gate_fault result ≡ false }
     ensures bare { is_bare_ending result ≡ true }
 {
@@ -74,17 +82,26 @@ pub fn build_module<R, S: Shelf, G: Gate>(
     hand: &mut Hand<R, S::Area, G>,
 ) -> ModuleRun
     requires bare { IsBare plan.now module.now }
-    ensures end { is_quiet result.ending ≡ true → LeavesFiles (S.told shelf.old) (S.told shelf.new) (is_some (S.Area.contents hand.old.area)) (EndsAfterFetch plan.now module.now result.answers result.own result.ending) }
-    ensures always { is_quiet result.ending ≡ true → (before : Files) → (after : Files) × EndsAfterFetch plan.now module.now result.answers result.own result.ending before after }
-    ensures adds { (count : ℕ) × Adds (S.told shelf.old) (S.told shelf.new) (is_some (S.Area.contents hand.old.area)) (own_publishes plan.now module.now result.own (take count module.now.own)) }
-    ensures answers { IfSome (G.answers hand.old.gate) (λ test. AreAnswers test module.now result.answers) }
+    ensures end { is_quiet result.ending ≡ true →
+        LeavesFiles (S.told shelf.old) (S.told shelf.new) (is_some (S.Area.contents hand.old.area))
+        (EndsAfterFetch plan.now module.now result.answers result.own result.ending) }
+    ensures always { is_quiet result.ending ≡ true → (before : Files) → (after : Files) ×
+        EndsAfterFetch plan.now module.now result.answers result.own result.ending before after }
+    ensures adds { (count : ℕ) ×
+        Adds (S.told shelf.old) (S.told shelf.new) (is_some (S.Area.contents hand.old.area))
+        (own_publishes plan.now module.now result.own (take count module.now.own)) }
+    ensures answers { IfSome (G.answers hand.old.gate) (λ test.
+        AreAnswers test module.now result.answers) }
     ensures count { is_quiet result.ending ≡ true → HasAllAnswers module.now result.answers }
     ensures bare { is_bare_ending result.ending ≡ true }
     ensures remote { hand.new.remote ≡ hand.old.remote }
     ensures told { G.answers hand.new.gate ≡ G.answers hand.old.gate }
-    ensures area_cause { HasCause (S.Area.faults hand.old.area) (S.Area.faults hand.new.area) (is_area_fault result.ending) }
-    ensures shelf_cause { HasCause (S.faults shelf.old) (S.faults shelf.new) (is_shelf_fault result.ending) }
-    ensures gate_cause { HasCause (G.faults hand.old.gate) (G.faults hand.new.gate) (is_gate_fault result.ending) }
+    ensures area_cause { HasCause (S.Area.faults hand.old.area) (S.Area.faults hand.new.area)
+        (is_area_fault result.ending) }
+    ensures shelf_cause { HasCause (S.faults shelf.old) (S.faults shelf.new)
+        (is_shelf_fault result.ending) }
+    ensures gate_cause { HasCause (G.faults hand.old.gate) (G.faults hand.new.gate)
+        (is_gate_fault result.ending) }
 {
     let GoalsRun { answers, own, stop } = run_goals(alloc, &mut hand.gate, module);
     match stop {

@@ -58,7 +58,8 @@ pub fn with_output(
 
 // The first output in the slot.
 fn output_in(own: &[OwnBytes], slot: Slot) -> Option<&OwnBytes>
-    ensures { option_map (λ o. o.now) result ≡ find (λ o. slot_number o.slot == slot_number slot) own.now }
+    ensures { option_map (λ o. o.now) result
+        ≡ find (λ o. slot_number o.slot == slot_number slot) own.now }
 {
     for output in own {
         if slot_number(output.slot) == slot_number(slot) {

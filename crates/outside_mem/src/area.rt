@@ -23,7 +23,8 @@ impl MemArea<Calls> {
     /// An area without pieces. The calls with the numbers fail, from 0 on.
     pub fn new(alloc: Global, failing: &List<u64>) -> Mem<MemArea<Calls>>
         ensures value { IfOk result (λ area. area_pieces area ≡ []) }
-        ensures never { failing.now ≡ [] → IfOk result (λ area. ⟦<MemArea<Calls> as Area>⟧.never_fails area ≡ true) }
+        ensures never { failing.now ≡ [] →
+            IfOk result (λ area. ⟦<MemArea<Calls> as Area>⟧.never_fails area ≡ true) }
     {
         let calls = Calls::new(alloc, failing)?;
         Ok(MemArea {

@@ -55,7 +55,8 @@ impl Calls {
 
     /// No call yet. The calls with these numbers will fail. Costs n log n.
     pub fn new(alloc: Global, failing: &List<u64>) -> Mem<Calls>
-        ensures failing { IfOk result (λ calls. (n : ℕ) → fails calls n ≡ list_any (λ m. n == m) failing.now) }
+        ensures failing { IfOk result (λ calls. (n : ℕ) →
+            fails calls n ≡ list_any (λ m. n == m) failing.now) }
         ensures none { failing.now ≡ [] → IfOk result (λ calls. never_fails calls ≡ true) }
         ensures count { IfOk result (λ calls. (fault_count calls ≡ 0) × (call_number calls ≡ 0)) }
     {

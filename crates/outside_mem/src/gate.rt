@@ -21,7 +21,8 @@ impl MemGate<Calls> {
     /// These answers, in order. The calls with the numbers fail, from 0 on.
     pub fn new(alloc: Global, answers: List<GoalAnswer>, failing: &List<u64>) -> Mem<MemGate<Calls>>
         ensures value { IfOk result (λ gate. gate_answers gate ≡ answers) }
-        ensures never { failing.now ≡ [] → IfOk result (λ gate. ⟦<MemGate<Calls> as Gate>⟧.never_fails gate ≡ true) }
+        ensures never { failing.now ≡ [] →
+            IfOk result (λ gate. ⟦<MemGate<Calls> as Gate>⟧.never_fails gate ≡ true) }
     {
         let calls = Calls::new(alloc, failing)?;
         Ok(MemGate {

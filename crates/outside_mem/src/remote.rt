@@ -41,7 +41,8 @@ impl MemRemote<Calls> {
     /// The repository of these files, of which a later one of a name counts. The calls with the numbers fail, from 0 on.
     pub fn new(alloc: Global, files: List<MemFile>, failing: &List<u64>) -> Mem<MemRemote<Calls>>
         ensures value { IfOk result (λ remote. remote_files remote ≡ files_named files) }
-        ensures never { failing.now ≡ [] → IfOk result (λ remote. ⟦<MemRemote<Calls> as Remote>⟧.never_fails remote ≡ true) }
+        ensures never { failing.now ≡ [] →
+            IfOk result (λ remote. ⟦<MemRemote<Calls> as Remote>⟧.never_fails remote ≡ true) }
     {
         let calls = Calls::new(alloc, failing)?;
         let files = file_map(alloc, files)?;
@@ -59,7 +60,8 @@ impl MemRemote<NoFailures> {
     /// The repository of these files, of which a later one of a name counts. No call fails.
     pub fn without_failures(alloc: Global, files: List<MemFile>) -> Mem<MemRemote<NoFailures>>
         ensures value { IfOk result (λ remote. remote_files remote ≡ files_named files) }
-        ensures never { IfOk result (λ remote. ⟦<MemRemote<NoFailures> as Remote>⟧.never_fails remote ≡ true) }
+        ensures never { IfOk result (λ remote.
+            ⟦<MemRemote<NoFailures> as Remote>⟧.never_fails remote ≡ true) }
     {
         let files = file_map(alloc, files)?;
         Ok(MemRemote {

@@ -36,7 +36,8 @@ impl MemShelf<Calls> {
         ensures opening { IfOk result (λ shelf. (shelf_told shelf).opening ≡ files_named files) }
         ensures publishes { IfOk result (λ shelf. (shelf_told shelf).publishes ≡ []) }
         ensures settled { IfOk result (λ shelf. (shelf_told shelf).settled ≡ 0) }
-        ensures never { failing.now ≡ [] → IfOk result (λ shelf. ⟦<MemShelf<Calls> as Shelf>⟧.never_fails shelf ≡ true) }
+        ensures never { failing.now ≡ [] →
+            IfOk result (λ shelf. ⟦<MemShelf<Calls> as Shelf>⟧.never_fails shelf ≡ true) }
     {
         let calls = Calls::new(alloc, failing)?;
         let opening = file_map(alloc, files.clone()?)?;
@@ -60,7 +61,8 @@ impl MemShelf<NoFailures> {
         ensures opening { IfOk result (λ shelf. (shelf_told shelf).opening ≡ files_named files) }
         ensures publishes { IfOk result (λ shelf. (shelf_told shelf).publishes ≡ []) }
         ensures settled { IfOk result (λ shelf. (shelf_told shelf).settled ≡ 0) }
-        ensures never { IfOk result (λ shelf. ⟦<MemShelf<NoFailures> as Shelf>⟧.never_fails shelf ≡ true) }
+        ensures never { IfOk result (λ shelf.
+            ⟦<MemShelf<NoFailures> as Shelf>⟧.never_fails shelf ≡ true) }
     {
         let opening = file_map(alloc, files.clone()?)?;
         let files = file_map(alloc, files)?;
@@ -87,7 +89,8 @@ impl<F> MemShelf<F> {
 
     // Puts the bytes under the name, and notes the publish; where memory is short nothing has changed.
     fn note(&mut self, name: &FileName, bytes: Bytes) -> Mem<()>
-        ensures ok { OnOk result (shelf_told self.new ≡ published (shelf_told self.old) name.now bytes) }
+        ensures ok { OnOk result
+            (shelf_told self.new ≡ published (shelf_told self.old) name.now bytes) }
         ensures err { OnErr result (shelf_told self.new ≡ shelf_told self.old) }
         ensures calls { shelf_calls self.new ≡ shelf_calls self.old }
     {

@@ -18,7 +18,8 @@ impl MemSink<Calls> {
     /// An empty sink. The writes with these numbers fail, from 0 on.
     pub fn new(alloc: Global, failing: &List<u64>) -> Mem<MemSink<Calls>>
         ensures value { IfOk result (λ sink. sink_bytes sink ≡ []) }
-        ensures never { failing.now ≡ [] → IfOk result (λ sink. ⟦<MemSink<Calls> as Sink>⟧.never_fails sink ≡ true) }
+        ensures never { failing.now ≡ [] →
+            IfOk result (λ sink. ⟦<MemSink<Calls> as Sink>⟧.never_fails sink ≡ true) }
     {
         let calls = Calls::new(alloc, failing)?;
         Ok(MemSink {

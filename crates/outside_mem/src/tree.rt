@@ -35,7 +35,8 @@ impl MemTree<Calls> {
     /// The tree of these files, of which a later one of a path counts. The calls with the numbers fail, from 0 on.
     pub fn new(alloc: Global, files: List<SourceFile>, failing: &List<u64>) -> Mem<MemTree<Calls>>
         ensures value { IfOk result (λ tree. tree_files tree ≡ files_of files) }
-        ensures never { failing.now ≡ [] → IfOk result (λ tree. ⟦<MemTree<Calls> as Files>⟧.never_fails tree ≡ true) }
+        ensures never { failing.now ≡ [] →
+            IfOk result (λ tree. ⟦<MemTree<Calls> as Files>⟧.never_fails tree ≡ true) }
     {
         let calls = Calls::new(alloc, failing)?;
         let files = tree_map(alloc, files)?;
@@ -53,7 +54,8 @@ impl MemTree<NoFailures> {
     /// The tree of these files, of which a later one of a path counts. No call fails.
     pub fn without_failures(alloc: Global, files: List<SourceFile>) -> Mem<MemTree<NoFailures>>
         ensures value { IfOk result (λ tree. tree_files tree ≡ files_of files) }
-        ensures never { IfOk result (λ tree. ⟦<MemTree<NoFailures> as Files>⟧.never_fails tree ≡ true) }
+        ensures never { IfOk result (λ tree.
+            ⟦<MemTree<NoFailures> as Files>⟧.never_fails tree ≡ true) }
     {
         let files = tree_map(alloc, files)?;
         Ok(MemTree {

@@ -5,3 +5,6 @@ pub mod Remote
 pub mod Shelf
 pub mod Sink
 pub mod Tree
+pub mod Ways
+pub mod Walk
+pub mod WayExamples

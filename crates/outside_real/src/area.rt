@@ -3,13 +3,14 @@ ghost use Rattle.std.specs.FinMap as map;
 
 use crate::count::counted;
 use crate::fault::fault_of;
-use crate::folders::{make_folders, sync_folders};
+use crate::folders::make_folders;
 use crate::piece::{new_piece, remove_piece, sweep_folder};
+use crate::settling::sync_folders;
+use crate::writing::write_some;
 use mvn_outside::{Area, DeviceFault};
 use mvn_shared::{Mem, Text};
 use std::collections::{BTreeMap, BTreeSet};
 use std::fs::{File, OpenFile};
-use std::io::{ErrorKind, Write};
 use std::rt;
 
 /// One worker's staging folder on a disk, which several programs may share. It tells which of its own pieces are there, and nothing of
@@ -24,27 +25,6 @@ pub struct RealArea<'a, R: rt::Files<File = File> + AllocGlobal + Clone + Drop> 
     files: BTreeMap<u64, File>,
     next: u64,
     faults: u64,
-}
-
-// One write to a stream: at least one byte where there is one. A call that a signal cut off is made again.
-fn write_some<F: Write>(file: &mut F, bytes: &[u8]) -> Result<usize, DeviceFault>
-    ensures within { IfOk result (λ count. count ≤ length bytes.now) }
-    ensures progress { IfOk result (λ count. 0 < length bytes.now → 0 < count) }
-{
-    for _ in 0..u64::MAX {
-        match file.write(bytes) {
-            Ok(count) => {
-                if count > 0 || bytes.is_empty() {
-                    return Ok(count);
-                }
-                return Err(DeviceFault::Failed);
-            }
-            Err(e) => if e.kind() != ErrorKind::Interrupted {
-                return Err(fault_of(&e));
-            },
-        }
-    }
-    Err(DeviceFault::Failed)
 }
 
 impl<'a, R: rt::Files<File = File> + AllocGlobal + Clone + Drop> RealArea<'a, R> {

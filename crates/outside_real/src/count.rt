@@ -5,8 +5,8 @@ ghost use Rattle.mvn_outside.specs.Faults.{device_failed, read_failed, list_fail
 
 use mvn_outside::{DeviceFault, ListFault, ReadFault};
 
-/// The count after one fault more.
-pub(crate) fn raised(faults: u64) -> u64
+// The count after one fault more.
+fn raised(faults: u64) -> u64
     ensures { HasRisen faults result }
 {
     faults.saturating_add(1)

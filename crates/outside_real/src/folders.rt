@@ -1,17 +1,17 @@
-// The folders of the system: their paths, and how their names come to the disk.
+// The folders of the system: their paths, and how they are made.
 ghost use Rattle.std.specs.Prelude.{◌≡◌, IfOk};
 ghost use Rattle.std.specs.String.{string_bytes};
 ghost use Rattle.outside_real.specs.Paths.{full_path, is_step, leads_below, is_in_staging, is_inside};
 
 use crate::fault::fault_of;
 use crate::look::is_folder;
+use crate::settling::note;
 use mvn_outside::DeviceFault;
 use mvn_shared::{Mem, Text};
 use std::alloc::Global;
 use std::collections::BTreeSet;
-use std::fs::{OpenFile, OpenOptions};
 use std::io::ErrorKind;
-use std::{io, rt};
+use std::rt;
 
 /// A path of the system: the folder, and a path below it.
 pub(crate) fn full_path(alloc: Global, root: &str, path: &str) -> Mem<String>
@@ -92,52 +92,6 @@ pub(crate) fn make_folders<R: rt::Files + AllocGlobal>(
             if e.kind() != ErrorKind::AlreadyExists {
                 return Err(fault_of(&e));
             }
-        }
-    }
-    Ok(())
-}
-
-// Notes a folder.
-fn note(changed: &mut BTreeSet<Text>, folder: Text) -> Result<(), DeviceFault> {
-    match changed.insert(folder) {
-        Ok(_) => Ok(()),
-        Err(_) => Err(DeviceFault::Memory),
-    }
-}
-
-/// Notes each folder on the way to a name below the root, the root among them: the name stays through a stop once the names in all
-/// of these are on the disk. Costs a path for each step of the name.
-pub(crate) fn note_way(
-    alloc: Global,
-    root: &str,
-    name: &str,
-    changed: &mut BTreeSet<Text>,
-) -> Result<(), DeviceFault> {
-    let mut rest = name;
-    for _ in 0..name.len() {
-        let Some((above, _)) = rest.rsplit_once('/') else {
-            break;
-        };
-        note(changed, Text::of(full_path(alloc, root, above)?))?;
-        rest = above;
-    }
-    note(changed, Text::from_str(alloc, root)?)
-}
-
-// Brings one folder's names to the disk.
-fn sync_folder<R: rt::Files>(rt: &R, path: &str) -> Result<(), io::Error> {
-    rt.open_file(OpenOptions::new().read(true), path)?
-        .sync_all()
-}
-
-/// Brings the names of these folders to the disk. Costs one call for each.
-pub(crate) fn sync_folders<R: rt::Files>(
-    rt: &R,
-    folders: &BTreeSet<Text>,
-) -> Result<(), DeviceFault> {
-    for folder in folders {
-        if let Err(e) = sync_folder(rt, folder.as_str()) {
-            return Err(fault_of(&e));
         }
     }
     Ok(())

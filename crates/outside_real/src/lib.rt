@@ -10,11 +10,13 @@ mod look;
 mod piece;
 mod reading;
 pub mod remote;
+mod settling;
 pub mod shelf;
 pub mod sink;
 pub mod tree;
 mod versions;
 mod walk;
+mod writing;
 
 pub use area::RealArea;
 pub use remote::RealRemote;

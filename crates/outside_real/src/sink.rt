@@ -1,6 +1,7 @@
-use crate::count::raised;
+use crate::count::counted;
+use crate::writing::write_some;
 use mvn_outside::{DeviceFault, Sink};
-use std::io::{ErrorKind, Write};
+use std::io::Write;
 
 /// A sink over a stream, such as standard output.
 #[derive(Drop)]
@@ -32,24 +33,8 @@ impl<W: Write + Drop> Sink for RealSink<W> {
 
     ghost no_faults = { λ _ e. cc };
 
-    // A stream that takes no byte has failed: its callers would wait for it.
     fn write(&mut self, bytes: &[u8]) -> Result<usize, DeviceFault> {
-        for _ in 0..u64::MAX {
-            match self.out.write(bytes) {
-                Ok(count) => {
-                    if count > 0 || bytes.is_empty() {
-                        return Ok(count);
-                    }
-                    break;
-                }
-                Err(e) => match e.kind() {
-                    ErrorKind::Interrupted => {}
-                    ErrorKind::OutOfMemory => return Err(DeviceFault::Memory),
-                    _ => break,
-                },
-            }
-        }
-        self.faults = raised(self.faults);
-        Err(DeviceFault::Failed)
+        let answer = write_some(&mut self.out, bytes);
+        counted(&mut self.faults, answer)
     }
 }

@@ -13,7 +13,9 @@ use std::{fs, rt};
 
 // The name that the POM of a version has in a repository.
 fn pom_of(alloc: Global, folder: &Text, artifact: &Text, version: &str) -> Mem<Text> {
-    Ok(Text::of(format!(in alloc; "{folder}/{version}/{artifact}-{version}.pom")?))
+    let file = format!(in alloc; "{artifact}-{version}.pom")?;
+    let inside = full_path(alloc, folder.as_str(), version)?;
+    Ok(Text::of(full_path(alloc, inside.as_str(), file.as_str())?))
 }
 
 // The POMs of an artifact's folder: for each name there, the file that the POM of this version has to be.

@@ -1,5 +1,8 @@
 // The files below a folder of the system. Links are followed; a folder isn't entered again on the way down from itself, so that a
 // circle of links ends where it closes.
+ghost use Rattle.std.specs.Prelude.{◌≡◌};
+ghost use Rattle.outside_real.specs.Walk.{behind, is_known_as, is_on_way};
+
 use crate::fault::fault_of;
 use crate::folders::full_path;
 use crate::look::found;
@@ -10,7 +13,7 @@ use std::alloc::Global;
 use std::fs::Metadata;
 use std::io::ErrorKind;
 use std::os::unix::fs::MetadataExt;
-use std::{fs, rt};
+use std::{fs, io, rt};
 
 /// How many folders are entered at most: links may lead to one another on ever more ways.
 const MOST_FOLDERS: usize = MOST_FILES;
@@ -30,12 +33,14 @@ fn below(alloc: Global, folder: &str, name: &str) -> Mem<Text> {
     if folder.is_empty() {
         return Text::from_str(alloc, name);
     }
-    Ok(Text::of(format!(in alloc; "{folder}/{name}")?))
+    Ok(Text::of(full_path(alloc, folder, name)?))
 }
 
-// What stands at the path of a name that was read in its folder, links followed; nothing where a link leads nowhere.
-fn behind<R: rt::Files>(rt: &R, path: &str) -> Result<Option<Metadata>, ListFault> {
-    match rt.metadata(path) {
+// What an answer of the system says of a name that was read in its folder: nothing stands there where a link leads nowhere.
+fn behind(answer: io::Result<Metadata>) -> Result<Option<Metadata>, ListFault>
+    ensures { result ≡ behind answer }
+{
+    match answer {
         Ok(metadata) => Ok(Some(metadata)),
         Err(e) => match e.kind() {
             ErrorKind::NotFound | ErrorKind::NotADirectory => Ok(None),
@@ -44,8 +49,18 @@ fn behind<R: rt::Files>(rt: &R, path: &str) -> Result<Option<Metadata>, ListFaul
     }
 }
 
-// Whether the folder at a place, or one of those that it was met in, is this one.
-fn is_on_way(folders: &[Folder], place: Option<usize>, metadata: &Metadata) -> bool {
+// Whether the system knows a folder by this device and number.
+fn is_known_as(folder: &Folder, device: u64, number: u64) -> bool
+    ensures { result ≡ is_known_as device number folder.now }
+{
+    folder.device == device && folder.number == number
+}
+
+// Whether the folder at a place, or one of those that it was met in, is known by this device and number.
+#[tactic(auto, using(crate::proofs::Steps::way_ends, crate::proofs::Steps::way_goes_on, crate::proofs::Steps::way_lost))]
+fn is_on_way(folders: &[Folder], place: Option<usize>, device: u64, number: u64) -> bool
+    ensures { result ≡ is_on_way folders.now place device number }
+{
     let mut next = place;
     for _ in 0..folders.len() {
         let Some(place) = next else {
@@ -54,7 +69,7 @@ fn is_on_way(folders: &[Folder], place: Option<usize>, metadata: &Metadata) -> b
         let Some(folder) = folders.get(place) else {
             return false;
         };
-        if folder.number == metadata.ino() && folder.device == metadata.dev() {
+        if is_known_as(folder, device, number) {
             return true;
         }
         next = folder.above;
@@ -88,7 +103,8 @@ impl<'a, R: rt::Files + AllocGlobal + Clone + Drop> Walk<'a, R> {
         above: Option<usize>,
         metadata: &Metadata,
     ) -> Result<(), ListFault> {
-        if is_on_way(self.folders.as_slice(), above, metadata) {
+        let (device, number) = (metadata.dev(), metadata.ino());
+        if is_on_way(self.folders.as_slice(), above, device, number) {
             return Ok(());
         }
         if self.folders.len() >= MOST_FOLDERS {
@@ -97,8 +113,8 @@ impl<'a, R: rt::Files + AllocGlobal + Clone + Drop> Walk<'a, R> {
         let folder = Folder {
             path,
             above,
-            device: metadata.dev(),
-            number: metadata.ino(),
+            device,
+            number,
         };
         self.folders.push(folder).map_err(|_| ListFault::Memory)
     }
@@ -106,7 +122,7 @@ impl<'a, R: rt::Files + AllocGlobal + Clone + Drop> Walk<'a, R> {
     // Takes in what stands at a path, links followed. What is neither a file nor a folder, as a link that leads nowhere, is left out.
     fn take(&mut self, path: Text, above: usize) -> Result<(), ListFault> {
         let full = full_path(self.rt.alloc(), self.root, path.as_str())?;
-        let Some(metadata) = behind(self.rt, full.as_str())? else {
+        let Some(metadata) = behind(self.rt.metadata(full.as_str()))? else {
             return Ok(());
         };
         if metadata.is_dir() {
@@ -159,8 +175,9 @@ impl<'a, R: rt::Files + AllocGlobal + Clone + Drop> Walk<'a, R> {
 }
 
 /// The files below a folder, as paths below the root, ascending by bytes; none where it is no folder. Links to files and folders are
-/// followed, as Maven follows them; where one leads back to a folder that it was met in, it is left out. `TooMany` where there are
-/// more than `most` files, or 65,536 folders. Costs one look at each entry, and a sort.
+/// followed, as Maven follows them; where one leads back to a folder that it was met in, it is left out. A folder that several links
+/// lead to is looked into for each of them, so that its files are listed under each of these paths, as Maven lists them. `TooMany`
+/// where there are more than `most` files, or 65,536 folders. Costs one look at each entry, and a sort.
 pub(crate) fn files_below<R: rt::Files + AllocGlobal + Clone + Drop>(
     rt: &R,
     root: &str,

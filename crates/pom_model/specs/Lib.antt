@@ -4,3 +4,4 @@ pub mod Elements
 pub mod Faults
 pub mod Fields
 pub mod Raw
+pub mod Naming

@@ -13,7 +13,8 @@ use std::alloc::Global;
 
 // The folder of one of a name.
 fn directory(alloc: Global, nodes: &[Node], k: u32, name: &str) -> Mem<Option<Text>>
-    ensures { IfOk result (λ text. text ≡ text_of nodes.now (codes "directory") (named nodes.now name.now k)) }
+    ensures { IfOk result (λ text.
+        text ≡ text_of nodes.now (codes "directory") (named nodes.now name.now k)) }
 {
     text_of(alloc, nodes, named(nodes, k, name), "directory")
 }
@@ -39,7 +40,8 @@ fn directories(
     outer: &str,
     name: &str,
 ) -> Mem<List<Text>>
-    ensures { IfOk result (λ list. list ≡ directories nodes.now outer.now name.now (option_copied node.entry)) }
+    ensures { IfOk result (λ list.
+        list ≡ directories nodes.now outer.now name.now (option_copied node.entry)) }
 {
     match child(nodes, node, outer) {
         Some(list) => directories_among(alloc, nodes, name, list.children.as_slice()),

@@ -72,7 +72,8 @@ pub(crate) fn own_text(alloc: Global, node: &Node) -> Mem<Text>
 // The text of the first element of a name, where it isn't empty.
 #[tactic(auto, unfolding(crate::specs::Elements::text_of))]
 fn filled<'a>(nodes: &'a [Node], node: Option<&'a Node>, name: &str) -> Option<&'a str>
-    ensures { option_map (λ text. text.now) result ≡ text_of nodes.now name.now (option_copied node.entry) }
+    ensures { option_map (λ text. text.now) result
+        ≡ text_of nodes.now name.now (option_copied node.entry) }
 {
     let child = child(nodes, node, name)?;
     non_empty(trimmed(child.text.as_str()))
@@ -108,7 +109,8 @@ pub(crate) fn text_or(
     name: &str,
     default: &str,
 ) -> Mem<Text>
-    ensures { IfOk result (λ text. text ≡ text_or nodes.now name.now default.now (option_copied node.entry)) }
+    ensures { IfOk result (λ text.
+        text ≡ text_or nodes.now name.now default.now (option_copied node.entry)) }
 {
     Text::from_str(alloc, filled_or(nodes, node, name, default))
 }

@@ -22,7 +22,8 @@ pub(crate) trait Item: Sized + Drop {
 
 // What is read of those of a name among some.
 fn list_among<T: Item>(alloc: Global, nodes: &[Node], name: &str, ks: &[u32]) -> Mem<List<T>>
-    ensures { IfOk result (λ list. list ≡ map (T.value nodes.now) (named_among nodes.now name.now ks.now)) }
+    ensures { IfOk result (λ list.
+        list ≡ map (T.value nodes.now) (named_among nodes.now name.now ks.now)) }
 {
     let mut list = List::new(alloc);
     for k in ks {
@@ -41,7 +42,8 @@ pub(crate) fn list_in<T: Item>(
     outer: &str,
     name: &str,
 ) -> Mem<List<T>>
-    ensures { IfOk result (λ list. list ≡ list_in T.value nodes.now outer.now name.now (option_copied node.entry)) }
+    ensures { IfOk result (λ list.
+        list ≡ list_in T.value nodes.now outer.now name.now (option_copied node.entry)) }
 {
     match child(nodes, node, outer) {
         Some(list) => list_among(alloc, nodes, name, list.children.as_slice()),

@@ -32,7 +32,8 @@ fn put(alloc: Global, entries: &mut IndexMap<Text, Text>, node: &Node) -> Mem<()
 
 // The pairs of these elements.
 fn pairs_among(alloc: Global, nodes: &[Node], ks: &[u32]) -> Mem<IndexMap<Text, Text>>
-    ensures { IfOk result (λ entries. entries.entries ≡ fold put_entry [] (all_in nodes.now ks.now)) }
+    ensures { IfOk result (λ entries.
+        entries.entries ≡ fold put_entry [] (all_in nodes.now ks.now)) }
 {
     let mut entries = IndexMap::new(alloc);
     for k in ks {

@@ -32,7 +32,8 @@ fn path_text(alloc: Global, path: Option<&Node>) -> Mem<Text>
 
 // Where a parent is looked for first.
 fn relative_path(alloc: Global, nodes: &[Node], node: &Node) -> Mem<Text>
-    ensures { IfOk result (λ text. text ≡ path_text (child nodes.now (codes "relativePath") (Some node.now))) }
+    ensures { IfOk result (λ text.
+        text ≡ path_text (child nodes.now (codes "relativePath") (Some node.now))) }
 {
     path_text(alloc, child(nodes, Some(node), "relativePath"))
 }

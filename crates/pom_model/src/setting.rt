@@ -14,7 +14,8 @@ const DEPTH: u32 = 64;
 
 // An element with its own text as it stands, and these in it.
 fn setting(node: &Node, children: List<Setting>) -> Mem<Setting>
-    ensures { (further : List ℕ → List settings.Setting) → children ≡ further node.now.children → IfOk result (λ setting. setting ≡ setting_of further node.now) }
+    ensures { (further : List ℕ → List settings.Setting) → children ≡ further node.now.children →
+        IfOk result (λ setting. setting ≡ setting_of further node.now) }
 {
     let name = node.name.clone()?;
     let text = node.text.clone()?;

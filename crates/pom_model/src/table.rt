@@ -369,7 +369,8 @@ pub(crate) fn rows_under(kind: Kind) -> &'static [Row]
 
 // What the first of these lines says of an element of this name.
 fn found_among(rows: &[Row], name: &str) -> Option<(Kind, Times)>
-    ensures { result ≡ option_map (λ r. (r.inner, r.times)) (find (is_named name.now) (map row_view rows.now)) }
+    ensures { result
+        ≡ option_map (λ r. (r.inner, r.times)) (find (is_named name.now) (map row_view rows.now)) }
 {
     for (_, element, inner, times) in rows {
         if *element == "*" || *element == name {

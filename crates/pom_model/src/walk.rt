@@ -76,7 +76,8 @@ fn begun(
     node: &Node,
 ) -> Mem<Option<Fault>>
     requires { read < 18446744073709551615 }
-    ensures { IfOk result (λ fault. fault ≡ begun nodes.now before.now read (kind, times) node.now) }
+    ensures { IfOk result (λ fault.
+        fault ≡ begun nodes.now before.now read (kind, times) node.now) }
 {
     let name = node.name.as_str();
     if !times.is_repeated() && has_name(nodes, name, before) {
@@ -107,7 +108,9 @@ impl Times {
 
 // The first name of these lines that an element lacks.
 fn missing_among(rows: &[Row], nodes: &[Node], node: &Node, alone: bool) -> Option<&'static str>
-    ensures { option_map (λ name. name.now) result ≡ option_map (λ r. r.name) (find (is_lacking nodes.now node.now alone) (map row_view rows.now)) }
+    ensures { option_map (λ name. name.now) result
+        ≡ option_map (λ r. r.name)
+        (find (is_lacking nodes.now node.now alone) (map row_view rows.now)) }
 {
     for (_, name, _, times) in rows {
         if times.is_required(alone) && !is_filled(nodes, node, name) {

@@ -8,14 +8,16 @@ use std::alloc::{AllocError, Global};
 
 // The parts of a path between slashes.
 fn by_slash<'a>(alloc: Global, path: &'a str) -> Result<Vec<&'a str>, AllocError>
-    ensures { IfOk result (λ parts. map (λ x. x.now) parts.items ≡ slice_split (λ b. nat_eq b 47) path.now) }
+    ensures { IfOk result (λ parts.
+        map (λ x. x.now) parts.items ≡ slice_split (λ b. nat_eq b 47) path.now) }
 {
     path.split('/').collect(alloc)
 }
 
 // The parts of a path between backslashes.
 fn by_backslash<'a>(alloc: Global, path: &'a str) -> Result<Vec<&'a str>, AllocError>
-    ensures { IfOk result (λ parts. map (λ x. x.now) parts.items ≡ slice_split (λ b. nat_eq b 92) path.now) }
+    ensures { IfOk result (λ parts.
+        map (λ x. x.now) parts.items ≡ slice_split (λ b. nat_eq b 92) path.now) }
 {
     path.split('\\').collect(alloc)
 }
@@ -44,7 +46,8 @@ fn go_up<'a>(done: &mut Vec<&'a str>) -> Mem<()>
 
 // One step more.
 fn add_step<'a>(done: &mut Vec<&'a str>, step: &'a str) -> Mem<()>
-    ensures { OnOk result (map (λ x. x.now) done.new.items ≡ add_step (map (λ x. x.now) done.old.items) step.now) }
+    ensures { OnOk result
+        (map (λ x. x.now) done.new.items ≡ add_step (map (λ x. x.now) done.old.items) step.now) }
 {
     if step == "" || step == "." {
         return Ok(());
@@ -58,7 +61,10 @@ fn add_step<'a>(done: &mut Vec<&'a str>, step: &'a str) -> Mem<()>
 
 // The steps of a part without slashes.
 fn add_part<'a>(alloc: Global, done: &mut Vec<&'a str>, part: &'a str) -> Mem<()>
-    ensures { OnOk result (map (λ x. x.now) done.new.items ≡ fold add_step (map (λ x. x.now) done.old.items) (slice_split (λ b. nat_eq b 92) part.now)) }
+    ensures { OnOk result
+        (map (λ x. x.now) done.new.items
+        ≡ fold add_step (map (λ x. x.now) done.old.items)
+        (slice_split (λ b. nat_eq b 92) part.now)) }
 {
     for step in by_backslash(alloc, part)?.as_slice() {
         add_step(done, *step)?;
@@ -68,7 +74,9 @@ fn add_part<'a>(alloc: Global, done: &mut Vec<&'a str>, part: &'a str) -> Mem<()
 
 // The steps of a path.
 fn add_path<'a>(alloc: Global, done: &mut Vec<&'a str>, path: &'a str) -> Mem<()>
-    ensures { OnOk result (map (λ x. x.now) done.new.items ≡ fold add_step (map (λ x. x.now) done.old.items) (steps path.now)) }
+    ensures { OnOk result
+        (map (λ x. x.now) done.new.items
+        ≡ fold add_step (map (λ x. x.now) done.old.items) (steps path.now)) }
 {
     for part in by_slash(alloc, path)?.as_slice() {
         add_part(alloc, done, *part)?;
@@ -78,7 +86,9 @@ fn add_path<'a>(alloc: Global, done: &mut Vec<&'a str>, path: &'a str) -> Mem<()
 
 // Each step behind a slash.
 fn push_further(path: &mut String, steps: &[&str]) -> Mem<()>
-    ensures { OnOk result (string_bytes path.new ≡ string_bytes path.old ++ flat_map (λ t. 47 ∷ t) (map (λ x. x.now) steps.now)) }
+    ensures { OnOk result
+        (string_bytes path.new ≡ string_bytes path.old
+        ++ flat_map (λ t. 47 ∷ t) (map (λ x. x.now) steps.now)) }
 {
     for step in steps {
         path.push('/')?;

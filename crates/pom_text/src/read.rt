@@ -152,8 +152,10 @@ fn read_bytes(alloc: Global, bytes: &[u8]) -> Result<PomText, TextFault>
 pub fn read_text(alloc: Global, bytes: &[u8]) -> Result<PomText, TextFault>
     ensures answer { Agrees (answer bytes.now) result }
     ensures right { IsAnswered bytes.now result }
-    ensures elements { (nodes : List nodes.Node) → IsText bytes.now nodes → AreElements nodes result }
-    ensures refusal { (rule : rules.Rule) (place : ℕ) → Refuses bytes.now rule place → IsRefusal rule place result }
+    ensures elements { (nodes : List nodes.Node) → IsText bytes.now nodes →
+        AreElements nodes result }
+    ensures refusal { (rule : rules.Rule) (place : ℕ) → Refuses bytes.now rule place →
+        IsRefusal rule place result }
 {
     read_bytes(alloc, bytes)
 }

@@ -1,3 +1,4 @@
 mod Asking
 mod Joins
 mod Prefixes
+mod Telling

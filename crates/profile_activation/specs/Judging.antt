@@ -19,12 +19,19 @@ use Rattle.profile_activation.specs.Known.{known_value}
 use Rattle.profile_activation.specs.declared.judge.Judge.{Judge}
 use Rattle.profile_activation.specs.declared.judge.Place.{Place}
 
--- in each world that fits the files the answer is this world's value, and the world fits them still; a
--- failure of theirs, and nothing else, raises the count of faults
-pub record Asks {F T : Type 0} (fits : F → (List ℕ → Bool) → Type 0) (faults : F → ℕ) (old now : F)
+-- from the first to the last by steps, each of which tells the same
+pub data TellsOn {F : Type 0} (same : F → F → Type 0) : F → F → Type 0 where
+  here : (files : F) → TellsOn same files files
+  onward : (first next last : F) → same first next → TellsOn same next last → TellsOn same first last
+
+-- in each world that fits the files the answer is this world's value, and the world fits them still; they
+-- tell what they told; a failure of theirs, and nothing else, raises the count of faults
+pub record Asks {F T : Type 0} (fits : F → (List ℕ → Bool) → Type 0) (faults : F → ℕ)
+    (alike : F → F → Type 0) (old now : F)
     (result : Result T DeviceFault) (value : (List ℕ → Bool) → T) : Type 0 where
   pub tells : (world : List ℕ → Bool) → fits old world → IfOk result (λ x. x ≡ value world)
   pub fit : (world : List ℕ → Bool) → fits old world → fits now world
+  pub same : TellsOn alike old now
   pub cause : HasCause (faults old) (faults now) (device_failed result)
 
 -- the answer is the value in every world, where no file is asked for

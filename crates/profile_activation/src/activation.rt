@@ -3,7 +3,7 @@ ghost use Rattle.std.specs.List.{list_any};
 ghost use Rattle.mvn_shared.specs.Cause.{HasCause};
 ghost use Rattle.mvn_outside.specs.Faults.{device_failed};
 ghost use Rattle.profile_activation.specs.Activation.{active, needs_files, places_from};
-ghost use Rattle.profile_activation.specs.Judging.{Alone, Asks, active_in, asks_for_any, is_chosen_by, is_placed};
+ghost use Rattle.profile_activation.specs.Judging.{Alone, Asks, TellsOn, active_in, asks_for_any, is_chosen_by, is_placed};
 
 use crate::judge::Judge;
 use model_types::{Profile, RawModel};
@@ -13,6 +13,7 @@ use mvn_shared::{List, Mem};
 use std::alloc::Global;
 
 // Which profiles are active by their ids or by their criteria.
+#[tactic(auto, using(crate::proofs::Telling::untold, crate::proofs::Telling::told_both))]
 fn chosen_among<F: Files>(
     alloc: Global,
     judge: &Judge<'_>,
@@ -20,7 +21,7 @@ fn chosen_among<F: Files>(
     files: &mut F,
 ) -> Result<List<bool>, DeviceFault>
     ensures each { IfOk result (λ list. length list ≡ length profiles.now) }
-    ensures asks { Asks F.fits F.faults files.old files.new result
+    ensures asks { Asks F.fits F.faults F.tells_same files.old files.new result
         (λ world. map (is_chosen_by judge.now world) profiles.now) }
     ensures alone { Alone (asks_for_any judge.now profiles.now) result
         (λ world. map (is_chosen_by judge.now world) profiles.now) }
@@ -74,7 +75,7 @@ fn active_among<F: Files>(
     files: &mut F,
 ) -> Result<List<u32>, DeviceFault>
     requires { length raw.now.profiles < 2 ^ 32 }
-    ensures asks { Asks F.fits F.faults files.old files.new result
+    ensures asks { Asks F.fits F.faults F.tells_same files.old files.new result
         (λ world. active_in judge.now world raw.now.profiles) }
     ensures alone { Alone (asks_for_any judge.now raw.now.profiles) result
         (λ world. active_in judge.now world raw.now.profiles) }
@@ -91,7 +92,7 @@ fn active_among<F: Files>(
 /// that fits the files the places are this world's; where no file counts they are the same in all, and
 /// `files` isn't asked. Failed only where the count of `files` rose. Costs the criteria, and a look at
 /// each property. Introduction to Build Profiles.
-#[tactic(auto, using(crate::proofs::Joins::same_answer))]
+#[tactic(auto, using(crate::proofs::Joins::same_answer, crate::proofs::Telling::untold))]
 pub fn active<F: Files>(
     alloc: Global,
     raw: &RawModel,
@@ -110,6 +111,7 @@ pub fn active<F: Files>(
     ensures untouched { needs_files choice.now raw.now.pom raw.now.profiles ≡ false
         → files.new ≡ files.old }
     ensures fit { (world : Items ℕ → Bool) → F.fits files.old world → F.fits files.new world }
+    ensures same { TellsOn F.tells_same files.old files.new }
     ensures cause { HasCause (F.faults files.old) (F.faults files.new) (device_failed result) }
 {
     let judge = Judge::of(alloc, raw, machine, defines, choice)?;

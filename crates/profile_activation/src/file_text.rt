@@ -11,8 +11,9 @@ use mvn_shared::{Mem, Text};
 use pom_paths::joined;
 use std::alloc::Global;
 
-/// The project's folder that a POM's folder is.
-pub(crate) fn basedir_of(alloc: Global, root: &Text, folder: &Text) -> Mem<Text>
+/// The folder of a POM as a path of the system, by the root and by the folder from the root on. Costs both texts. POM Reference,
+/// "Properties".
+pub fn basedir_of(alloc: Global, root: &Text, folder: &Text) -> Mem<Text>
     ensures { IfOk result (λ basedir. basedir ≡ basedir_of root.now folder.now) }
 {
     let mut basedir = String::from_str(alloc, root.as_str())?;

@@ -46,8 +46,10 @@ pub(crate) struct Judge<'a> {
 }
 
 // Whether a file stands at a path, where one is named.
+#[tactic(auto, using(crate::proofs::Telling::untold, crate::proofs::Telling::told_once))]
 fn has_file<F: Files>(files: &mut F, path: &Option<Text>) -> Result<bool, DeviceFault>
-    ensures { Asks F.fits F.faults files.old files.new result (λ world. stands world path.now) }
+    ensures { Asks F.fits F.faults F.tells_same files.old files.new result
+        (λ world. stands world path.now) }
 {
     match path {
         Some(path) => files.has(path),
@@ -88,6 +90,7 @@ impl<'a> Judge<'a> {
     }
 
     // Whether what a text names is there, or is missing.
+    #[tactic(auto, using(crate::proofs::Telling::untold))]
     fn file_holds<F: Files>(
         &self,
         alloc: Global,
@@ -95,7 +98,7 @@ impl<'a> Judge<'a> {
         text: &Text,
         files: &mut F,
     ) -> Result<bool, DeviceFault>
-        ensures asks { Asks F.fits F.faults files.old files.new result
+        ensures asks { Asks F.fits F.faults F.tells_same files.old files.new result
             (λ world. file_holds missing world (named_by self.now text.now)) }
         ensures alone { Alone (is_some self.now.place) result
             (λ world. file_holds missing world (named_by self.now text.now)) }
@@ -110,6 +113,7 @@ impl<'a> Judge<'a> {
     }
 
     // The same, where it is asked for.
+    #[tactic(auto, using(crate::proofs::Telling::untold))]
     fn file_criterion<F: Files>(
         &self,
         alloc: Global,
@@ -117,7 +121,7 @@ impl<'a> Judge<'a> {
         text: &Option<Text>,
         files: &mut F,
     ) -> Result<Option<bool>, DeviceFault>
-        ensures asks { Asks F.fits F.faults files.old files.new result
+        ensures asks { Asks F.fits F.faults F.tells_same files.old files.new result
             (λ world. option_map (λ t. file_holds missing world (named_by self.now t)) text.now) }
         ensures alone { Alone (is_some self.now.place && is_some text.now) result
             (λ world. option_map (λ t. file_holds missing world (named_by self.now t)) text.now) }
@@ -152,14 +156,14 @@ impl<'a> Judge<'a> {
     }
 
     // Whether an activation has a criterion, and all hold.
-    #[tactic(auto, using(crate::proofs::Asking::left_false, crate::proofs::Asking::right_false))]
+    #[tactic(auto, using(crate::proofs::Asking::left_false, crate::proofs::Asking::right_false, crate::proofs::Telling::untold, crate::proofs::Telling::told_both))]
     fn holds<F: Files>(
         &self,
         alloc: Global,
         activation: &Activation,
         files: &mut F,
     ) -> Result<bool, DeviceFault>
-        ensures asks { Asks F.fits F.faults files.old files.new result
+        ensures asks { Asks F.fits F.faults F.tells_same files.old files.new result
             (λ world. holds_by self.now world activation.now) }
         ensures alone { Alone (asks_of self.now activation.now) result
             (λ world. holds_by self.now world activation.now) }
@@ -172,18 +176,20 @@ impl<'a> Judge<'a> {
     }
 
     // The same, where there is an activation.
+    #[tactic(auto, using(crate::proofs::Telling::untold))]
     fn activates<F: Files>(
         &self,
         alloc: Global,
         activation: &Option<Shared<Activation>>,
         files: &mut F,
     ) -> Result<bool, DeviceFault>
-        ensures asks { Asks F.fits F.faults files.old files.new result
+        ensures asks { Asks F.fits F.faults F.tells_same files.old files.new result
             (λ world. option_map_or (holds_by self.now world) activation.now false) }
         ensures alone { Alone
             (is_some self.now.place && option_map_or asks_file activation.now false) result
             (λ world. option_map_or (holds_by self.now world) activation.now false) }
-        ensures untouched { (is_some self.now.place && option_map_or asks_file activation.now false) ≡ false
+        ensures untouched { (is_some self.now.place && option_map_or asks_file activation.now false)
+            ≡ false
             → files.new ≡ files.old }
     {
         match activation {
@@ -203,14 +209,14 @@ impl<'a> Judge<'a> {
     }
 
     /// Whether a profile is active by its id or by its criteria.
-    #[tactic(auto, using(crate::proofs::Asking::unlisted_false))]
+    #[tactic(auto, using(crate::proofs::Asking::unlisted_false, crate::proofs::Telling::untold))]
     pub(crate) fn is_chosen<F: Files>(
         &self,
         alloc: Global,
         profile: &Profile,
         files: &mut F,
     ) -> Result<bool, DeviceFault>
-        ensures asks { Asks F.fits F.faults files.old files.new result
+        ensures asks { Asks F.fits F.faults F.tells_same files.old files.new result
             (λ world. is_chosen_by self.now world profile.now) }
         ensures alone { Alone (asks_for self.now profile.now) result
             (λ world. is_chosen_by self.now world profile.now) }

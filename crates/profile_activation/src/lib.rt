@@ -8,3 +8,5 @@ mod judge;
 mod lookup;
 
 pub use activation::active;
+pub use file_text::basedir_of;
+pub use lookup::behind;

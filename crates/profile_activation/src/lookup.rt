@@ -8,8 +8,8 @@ use mvn_base::{Machine, Pair};
 use mvn_shared::{Mem, Text};
 use std::alloc::Global;
 
-/// What stands behind the beginning of a text, where it has it.
-pub(crate) fn behind<'a>(front: &str, text: &'a str) -> Option<&'a str>
+/// What stands behind the beginning of a text, where it has it. Costs the beginning. Project rule.
+pub fn behind<'a>(front: &str, text: &'a str) -> Option<&'a str>
     ensures { option_map (λ x. x.now) result ≡ behind front.now text.now }
 {
     text.strip_prefix(front)

@@ -1,26 +1,8 @@
 -- Soft edges one after another.
 use Rattle.std.proofs.Common.{◌≡◌, inl, inr, ℕ, suc, ◌+◌, ◌<◌, Bool, true, false, ◌==◌, ◌||◌, List, [], ◌∷◌, ◌++◌, length, get_or, drop, refl, sym, ap, subst, ◌∙◌, arith}
-use Rattle.std.proofs.lemmas.Bool.Decides.{nat_tests}
 use Rattle.std.proofs.Math.Seq.{drop-cons}
-use Rattle.reactor_order.specs.Graph.{Edges, Leads, IsReached}
-use Rattle.reactor_order.specs.Marks.{AreReached}
+use Rattle.reactor_order.specs.Graph.{Edges}
 use Rattle.reactor_order.specs.Keep.{Closes, Keeps, Tries}
-
--- what one comes to from one start
-from_one : (next : ℕ → List ℕ) (start m : ℕ) → IsReached next (start ∷ []) m → Leads next start m
-from_one next start m r =
-    let same : r.start ≡ start = is_it (start == r.start) refl r.starts_there in
-    subst (λ s. Leads next s m) same r.path
-  where
-    is_it : (b : Bool) → (start == r.start) ≡ b → (start == r.start || false) ≡ true → r.start ≡ start
-    is_it true e there = grind (arith, nat_tests, e)
-    is_it false e there = cc
-
-to_one : (next : ℕ → List ℕ) (start m : ℕ) → Leads next start m → IsReached next (start ∷ []) m
-to_one next start m path = record { start = start; starts_there = grind (arith, nat_tests); path = path }
-
-pub leads_exactly : (next : ℕ → List ℕ) (start n m : ℕ) (marks : List Bool) → AreReached next (start ∷ []) n marks → (get_or marks m false ≡ true → Leads next start m) × (Leads next start m → get_or marks m false ≡ true)
-leads_exactly next start n m marks r = (λ is. from_one next start m (r.sound m is), λ path. r.whole m (to_one next start m path))
 
 -- what is kept so far: the rest goes on from it
 pub record KeepsOn (firm soft : Edges) (i : ℕ) (kept : Edges) : Type 0 where

@@ -11,4 +11,6 @@ pub mod Walks
 pub mod Selecting
 pub mod Orders
 pub mod Cycles
-pub mod Clearing
+pub mod Bits
+pub mod Spreading
+pub mod Extending

@@ -1,6 +1,7 @@
 pub mod Graph
 pub mod Marks
 pub mod Keep
+pub mod Rows
 pub mod Order
 pub mod Ready
 pub mod Waiting

@@ -12,7 +12,8 @@ use std::alloc::Global;
 fn nexts(alloc: Global, n: u32, edges: &[(u32, u32)], placed: &[bool]) -> Mem<Vec<u32>>
     requires edges { AreEdgesBelow n edges.now }
     requires long { length placed.now ≡ n }
-    ensures { (list : List ℕ) → ((m : ℕ) → has list m ≡ get_or placed.now m false) → IfOk result (λ nexts. Goes n edges.now list nexts.items) }
+    ensures { (list : List ℕ) → ((m : ℕ) → has list m ≡ get_or placed.now m false) →
+        IfOk result (λ nexts. Goes n edges.now list nexts.items) }
 {
     let mut nexts = Vec::with_capacity(alloc, n as usize)?;
     for m in 0..n {
@@ -41,7 +42,8 @@ fn next_of(m: u32, next: u32, upstream: u32, placed: bool) -> u32
 // The earliest module that isn't marked.
 fn earliest_left(n: u32, placed: &[bool]) -> Option<u32>
     requires { length placed.now ≡ n }
-    ensures value { (list : List ℕ) → ((m : ℕ) → has list m ≡ get_or placed.now m false) → result ≡ find (λ m. not (has list m)) (numbers 0 n) }
+    ensures value { (list : List ℕ) → ((m : ℕ) → has list m ≡ get_or placed.now m false) →
+        result ≡ find (λ m. not (has list m)) (numbers 0 n) }
     ensures below { IfSome result (λ m. m < n) }
 {
     for m in 0..n {
@@ -68,7 +70,8 @@ fn from_first(alloc: Global, m: u32, seen: &[u32]) -> Mem<Vec<u32>>
 fn walk(alloc: Global, n: u32, nexts: &[u32], first: u32) -> Mem<Vec<u32>>
     requires first { first < n }
     requires goes { (edges : Edges) × (placed : List ℕ) × Goes n edges placed nexts.now }
-    ensures { (edges : Edges) (placed : List ℕ) → Goes n edges placed nexts.now → IfOk result (λ cycle. cycle.items ≡ walk n edges placed [] first) }
+    ensures { (edges : Edges) (placed : List ℕ) → Goes n edges placed nexts.now →
+        IfOk result (λ cycle. cycle.items ≡ walk n edges placed [] first) }
 {
     let mut seen = Marks::new(alloc, n as usize)?;
     let mut m = first;

@@ -28,7 +28,8 @@ impl Graph {
     pub(crate) fn add(&mut self, m: u32, upstream: u32) -> Mem<()>
         requires m { m < length self.old.lists.items }
         requires upstream { upstream < length self.old.lists.items }
-        ensures { (n : ℕ) (edges : Edges) → IsGraph n edges self.old.lists.items → OnOk result (IsGraph n (edges ++ (m, upstream) ∷ []) self.new.lists.items) }
+        ensures { (n : ℕ) (edges : Edges) → IsGraph n edges self.old.lists.items →
+            OnOk result (IsGraph n (edges ++ (m, upstream) ∷ []) self.new.lists.items) }
     {
         self.lists[m as usize].push(upstream)?;
         Ok(())
@@ -49,11 +50,14 @@ impl Graph {
     /// Marks the modules that one comes to from these over upstreams, where none is marked. Costs what is marked and the
     /// edges there.
     pub(crate) fn reach(&self, marks: &mut Marks, starts: &[u32]) -> Mem<()>
-        requires graph { (m : ℕ) → AreBelow (length self.now.lists.items) (get_or self.now.lists.items m []) }
-        requires free { AreFree (length self.now.lists.items) marks.old.marks.items marks.old.found.items }
+        requires graph { (m : ℕ) →
+            AreBelow (length self.now.lists.items) (get_or self.now.lists.items m []) }
+        requires free { AreFree
+            (length self.now.lists.items) marks.old.marks.items marks.old.found.items }
         requires starts { AreBelow (length self.now.lists.items) starts.now }
         ensures marked { OnOk result (IsMarked marks.new.marks.items marks.new.found.items) }
-        ensures reached { (n : ℕ) (edges : Edges) → IsGraph n edges self.now.lists.items → OnOk result (AreReached (upstreams edges) starts.now n marks.new.marks.items) }
+        ensures reached { (n : ℕ) (edges : Edges) → IsGraph n edges self.now.lists.items →
+            OnOk result (AreReached (upstreams edges) starts.now n marks.new.marks.items) }
     {
         reach(&self.lists, marks, starts)?;
         Ok(())
@@ -61,9 +65,11 @@ impl Graph {
 
     /// Which modules one comes to from these over upstreams. Costs the modules and the edges.
     pub(crate) fn reached(&self, alloc: Global, starts: &[u32]) -> Mem<Vec<bool>>
-        requires graph { (m : ℕ) → AreBelow (length self.now.lists.items) (get_or self.now.lists.items m []) }
+        requires graph { (m : ℕ) →
+            AreBelow (length self.now.lists.items) (get_or self.now.lists.items m []) }
         requires starts { AreBelow (length self.now.lists.items) starts.now }
-        ensures { (n : ℕ) (edges : Edges) → IsGraph n edges self.now.lists.items → IfOk result (λ marks. AreReached (upstreams edges) starts.now n marks.items) }
+        ensures { (n : ℕ) (edges : Edges) → IsGraph n edges self.now.lists.items →
+            IfOk result (λ marks. AreReached (upstreams edges) starts.now n marks.items) }
     {
         let mut marks = Marks::new(alloc, self.lists.len())?;
         self.reach(&mut marks, starts)?;
@@ -77,7 +83,9 @@ fn reach(next: &[List<u32>], marks: &mut Marks, starts: &[u32]) -> Mem<()>
     requires free { AreFree (length next.now) marks.old.marks.items marks.old.found.items }
     requires starts { AreBelow (length next.now) starts.now }
     ensures marked { OnOk result (IsMarked marks.new.marks.items marks.new.found.items) }
-    ensures reached { OnOk result (AreReached (λ m. get_or next.now m []) starts.now (length next.now) marks.new.marks.items) }
+    ensures reached { OnOk result
+        (AreReached (λ m. get_or next.now m []) starts.now
+        (length next.now) marks.new.marks.items) }
 {
     marks.mark_all(starts)?;
     let mut at = 0;

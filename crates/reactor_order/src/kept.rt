@@ -1,56 +1,41 @@
-ghost use Rattle.std.specs.Prelude.{◌≡◌, ℕ, ◌<◌, ◌↔◌, true, [], ◌∷◌, length, IfOk, OnOk};
-ghost use Rattle.reactor_order.specs.Graph.{AreEdgesBelow, Edges, IsGraph, Leads, upstreams};
+ghost use Rattle.std.specs.Prelude.{◌≡◌, ◌<◌, IfOk, OnOk};
+ghost use Rattle.reactor_order.specs.Graph.{AreEdgesBelow};
 ghost use Rattle.reactor_order.specs.Keep.{Keeps, Tries};
-ghost use Rattle.reactor_order.specs.Marks.{AreFree};
+ghost use Rattle.reactor_order.specs.Rows.{IsReachability};
 
-use crate::graph::Graph;
-use crate::marks::Marks;
+use crate::reachability::Reachability;
 use mvn_shared::{List, Mem};
 use std::alloc::Global;
 
-// Whether an edge's upstream leads back to its module. Costs what one comes to from there.
-fn closes(n: u32, graph: &Graph, marks: &mut Marks, m: u32, upstream: u32) -> Mem<bool>
-    requires m { m < n }
-    requires upstream { upstream < n }
-    requires graph { (edges : Edges) × IsGraph n edges graph.now.lists.items }
-    requires free { AreFree n marks.old.marks.items marks.old.found.items }
-    ensures free { OnOk result (AreFree n marks.new.marks.items marks.new.found.items) }
-    ensures closes { IfOk result (λ closes. (edges : Edges) → IsGraph n edges graph.now.lists.items → (closes ≡ true) ↔ Leads (upstreams edges) upstream m) }
-{
-    graph.reach(marks, &[upstream])?;
-    let closes = marks.marks[m as usize];
-    marks.clear();
-    Ok(closes)
-}
-
-// One soft edge.
+// One soft edge: it is kept, unless one comes from its upstream to its module.
 fn try_edge(
-    n: u32,
-    graph: &mut Graph,
-    marks: &mut Marks,
+    alloc: Global,
+    reach: &mut Reachability,
     kept: &mut Vec<(u32, u32)>,
     m: u32,
     upstream: u32,
 ) -> Mem<()>
-    requires m { m < n }
-    requires upstream { upstream < n }
-    requires graph { IsGraph n kept.old.items graph.old.lists.items }
-    requires free { AreFree n marks.old.marks.items marks.old.found.items }
-    ensures free { OnOk result (AreFree n marks.new.marks.items marks.new.found.items) }
-    ensures graph { OnOk result (IsGraph n kept.new.items graph.new.lists.items) }
+    requires m { m < reach.old.n }
+    requires upstream { upstream < reach.old.n }
+    requires reach { IsReachability reach.old.n kept.old.items
+        reach.old.ups.items reach.old.downs.items }
+    ensures number { reach.new.n ≡ reach.old.n }
+    ensures reach { OnOk result (IsReachability reach.old.n kept.new.items
+        reach.new.ups.items reach.new.downs.items) }
     ensures step { OnOk result (Tries kept.old.items (m, upstream) kept.new.items) }
 {
-    if closes(n, graph, marks, m, upstream)? {
+    if reach.leads(upstream, m) {
         return Ok(());
     }
-    graph.add(m, upstream)?;
+    reach.add(alloc, m, upstream)?;
     kept.push((m, upstream))?;
     Ok(())
 }
 
 /// The firm edges, and then each soft one, in order, that closes no cycle with the edges before it. Edges are a module and
-/// an upstream, each below `n`. Costs the modules, the edges, and for each soft one the kept edges of what one comes to from
-/// its upstream. Own rules.
+/// an upstream, each below `n`. Costs constant time for each edge; a sixty-fourth of the modules for each edge over which one comes to a
+/// module for the first time, and for each two modules of which one comes to lead to the other; and twice the square of the modules in
+/// bits, which is 256 KiB for the 1,024 modules that a project has at most. Own rules.
 pub fn keep(
     alloc: Global,
     n: u32,
@@ -61,11 +46,10 @@ pub fn keep(
     requires soft { AreEdgesBelow n soft.now }
     ensures { IfOk result (λ kept. Keeps firm.now soft.now kept) }
 {
-    let mut graph = Graph::of(alloc, n, firm)?;
-    let mut marks = Marks::new(alloc, n as usize)?;
+    let mut reach = Reachability::of(alloc, n, firm)?;
     let mut kept = Vec::from_slice(alloc, firm)?;
     for (m, upstream) in soft {
-        try_edge(n, &mut graph, &mut marks, &mut kept, *m, *upstream)?;
+        try_edge(alloc, &mut reach, &mut kept, *m, *upstream)?;
     }
     Ok(List::of(kept))
 }

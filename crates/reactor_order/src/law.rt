@@ -8,8 +8,12 @@ ghost use Rattle.reactor_order.specs.Laws.{HasEachOnce, HasUpstreamsBefore, IsCy
 /// its upstreams. Where there is none, the list is a cycle: each module has the next as an upstream, and the last the first. It does
 /// nothing when it runs.
 pub fn one_order()
-    ensures exactly { (n : ℕ) (edges : Edges) (list : List ℕ) → (order n edges ≡ Ok list) ↔ IsOrder n edges list }
-    ensures once { (n : ℕ) (edges : Edges) (list : List ℕ) → IsOrder n edges list → HasEachOnce n list }
-    ensures before { (n : ℕ) (edges : Edges) (list : List ℕ) → IsOrder n edges list → HasUpstreamsBefore edges list }
-    ensures cycle { (n : ℕ) (edges : Edges) (list : List ℕ) → AreEdgesBelow n edges → order n edges ≡ Err list → IsCycle edges list }
+    ensures exactly { (n : ℕ) (edges : Edges) (list : List ℕ) →
+        (order n edges ≡ Ok list) ↔ IsOrder n edges list }
+    ensures once { (n : ℕ) (edges : Edges) (list : List ℕ) → IsOrder n edges list →
+        HasEachOnce n list }
+    ensures before { (n : ℕ) (edges : Edges) (list : List ℕ) → IsOrder n edges list →
+        HasUpstreamsBefore edges list }
+    ensures cycle { (n : ℕ) (edges : Edges) (list : List ℕ) → AreEdgesBelow n edges →
+        order n edges ≡ Err list → IsCycle edges list }
 {}

@@ -10,7 +10,9 @@ mod law;
 mod marks;
 mod ordered;
 mod place;
+mod reachability;
 mod ready;
+mod row;
 mod selected;
 mod waiting;
 

@@ -27,8 +27,11 @@ impl Marks {
     pub(crate) fn mark(&mut self, m: u32) -> Mem<()>
         requires marked { IsMarked self.old.marks.items self.old.found.items }
         requires below { m < length self.old.marks.items }
-        ensures marked { OnOk result (AreMarked (m ∷ []) self.old.marks.items self.new.marks.items self.old.found.items self.new.found.items) }
-        ensures found { OnOk result (get_or self.old.marks.items m false ≡ false → self.new.found.items ≡ self.old.found.items ++ m ∷ []) }
+        ensures marked { OnOk result
+            (AreMarked (m ∷ []) self.old.marks.items self.new.marks.items self.old.found.items
+            self.new.found.items) }
+        ensures found { OnOk result (get_or self.old.marks.items m false ≡ false →
+            self.new.found.items ≡ self.old.found.items ++ m ∷ []) }
     {
         if !self.marks[m as usize] {
             self.found.push(m)?;
@@ -41,23 +44,13 @@ impl Marks {
     pub(crate) fn mark_all(&mut self, more: &[u32]) -> Mem<()>
         requires marked { IsMarked self.old.marks.items self.old.found.items }
         requires below { AreBelow (length self.old.marks.items) more.now }
-        ensures { OnOk result (AreMarked more.now self.old.marks.items self.new.marks.items self.old.found.items self.new.found.items) }
+        ensures { OnOk result
+            (AreMarked more.now self.old.marks.items self.new.marks.items self.old.found.items
+            self.new.found.items) }
     {
         for m in more {
             self.mark(*m)?;
         }
         Ok(())
-    }
-
-    /// Takes all marks away. Costs their number.
-    pub(crate) fn clear(&mut self)
-        requires { IsMarked self.old.marks.items self.old.found.items }
-        ensures { AreFree (length self.old.marks.items) self.new.marks.items self.new.found.items }
-    {
-        for at in 0..self.found.len() {
-            let m = self.found[at] as usize;
-            self.marks[m] = false;
-        }
-        self.found.clear();
     }
 }

@@ -26,14 +26,21 @@ pub struct Placing<'a> {
 impl<'a> Placing<'a> {
     // Places the earliest that can follow, if there is one, and answers it.
     fn turn(&mut self) -> Mem<Option<u32>>
-        requires placing { IsPlacing self.old.n self.old.edges.now self.old.placed.items self.old.waits.items self.old.ready }
-        requires downstreams { IsGraph self.old.n (flipped self.old.edges.now) self.old.downstreams.lists.items }
+        requires placing { IsPlacing self.old.n self.old.edges.now self.old.placed.items
+            self.old.waits.items self.old.ready }
+        requires downstreams { IsGraph self.old.n
+            (flipped self.old.edges.now) self.old.downstreams.lists.items }
         ensures number { self.new.n ≡ self.old.n }
         ensures edges { self.new.edges.now ≡ self.old.edges.now }
-        ensures next { IfOk result (λ next. next ≡ next_module self.old.n self.old.edges.now self.old.placed.items) }
-        ensures placed { IfOk result (λ next. self.new.placed.items ≡ with_next self.old.placed.items next) }
-        ensures placing { OnOk result (IsPlacing self.old.n self.old.edges.now self.new.placed.items self.new.waits.items self.new.ready) }
-        ensures downstreams { IsGraph self.old.n (flipped self.old.edges.now) self.new.downstreams.lists.items }
+        ensures next { IfOk result (λ next.
+            next ≡ next_module self.old.n self.old.edges.now self.old.placed.items) }
+        ensures placed { IfOk result (λ next.
+            self.new.placed.items ≡ with_next self.old.placed.items next) }
+        ensures placing { OnOk result
+            (IsPlacing self.old.n self.old.edges.now self.new.placed.items self.new.waits.items
+            self.new.ready) }
+        ensures downstreams { IsGraph self.old.n
+            (flipped self.old.edges.now) self.new.downstreams.lists.items }
     {
         let Some(m) = take_least(&mut self.ready) else {
             return Ok(None);
@@ -54,7 +61,8 @@ impl<'a> Placing<'a> {
         ensures edges { IfOk result (λ p. p.edges.now ≡ edges.now) }
         ensures none { IfOk result (λ p. p.placed.items ≡ []) }
         ensures placing { IfOk result (λ p. IsPlacing n edges.now [] p.waits.items p.ready) }
-        ensures downstreams { IfOk result (λ p. IsGraph n (flipped edges.now) p.downstreams.lists.items) }
+        ensures downstreams { IfOk result (λ p.
+            IsGraph n (flipped edges.now) p.downstreams.lists.items) }
     {
         let downstreams = Graph::of(alloc, n, &flipped(alloc, n, edges)?)?;
         let waits = waits(alloc, n, edges)?;
@@ -116,7 +124,8 @@ fn lengths(alloc: Global, lists: &[List<u32>]) -> Mem<Vec<usize>>
 fn waits(alloc: Global, n: u32, edges: &[(u32, u32)]) -> Mem<Vec<usize>>
     requires { AreEdgesBelow n edges.now }
     ensures long { IfOk result (λ waits. length waits.items ≡ n) }
-    ensures each { IfOk result (λ waits. (m : ℕ) → get_or waits.items m 0 ≡ length (upstreams edges.now m)) }
+    ensures each { IfOk result (λ waits. (m : ℕ) →
+        get_or waits.items m 0 ≡ length (upstreams edges.now m)) }
 {
     let graph = Graph::of(alloc, n, edges)?;
     let waits = lengths(alloc, &graph.lists)?;
@@ -126,7 +135,8 @@ fn waits(alloc: Global, n: u32, edges: &[(u32, u32)]) -> Mem<Vec<usize>>
 // The modules that wait for none.
 fn ready_modules(alloc: Global, n: u32, waits: &[usize]) -> Mem<BTreeSet<u32>>
     requires { length waits.now ≡ n }
-    ensures { IfOk result (λ ready. (m : ℕ) → is_in ready m ≡ (nat_lt m n && (get_or waits.now m 0 == 0))) }
+    ensures { IfOk result (λ ready. (m : ℕ) →
+        is_in ready m ≡ (nat_lt m n && (get_or waits.now m 0 == 0))) }
 {
     let mut ready = BTreeSet::new(alloc);
     for m in 0..n {

@@ -30,7 +30,8 @@ fn asked_marks(
 ) -> Mem<Vec<bool>>
     requires edges { AreEdgesBelow n edges.now }
     requires chosen { AreBelow n chosen.now }
-    ensures value { IfOk result (λ marks. (m : ℕ) → (get_or marks.items m false ≡ true) ↔ IsAsked asked edges.now chosen.now m) }
+    ensures value { IfOk result (λ marks. (m : ℕ) →
+        (get_or marks.items m false ≡ true) ↔ IsAsked asked edges.now chosen.now m) }
     ensures long { IfOk result (λ marks. length marks.items ≡ n) }
 {
     if !asked {
@@ -75,7 +76,9 @@ fn marked(alloc: Global, order: &[u32], marks: &[bool]) -> Mem<Vec<u32>>
 fn joined(alloc: Global, a: &[bool], b: &[bool], c: &[bool]) -> Mem<Vec<bool>>
     requires b { length b.now ≡ length a.now }
     requires c { length c.now ≡ length a.now }
-    ensures value { IfOk result (λ marks. (m : ℕ) → get_or marks.items m false ≡ (get_or a.now m false || (get_or b.now m false || get_or c.now m false))) }
+    ensures value { IfOk result (λ marks. (m : ℕ) →
+        get_or marks.items m false
+        ≡ (get_or a.now m false || (get_or b.now m false || get_or c.now m false))) }
     ensures long { IfOk result (λ marks. length marks.items ≡ length a.now) }
 {
     let mut marks = Vec::with_capacity(alloc, a.len())?;
@@ -96,7 +99,9 @@ fn wanted(
 ) -> Mem<Vec<bool>>
     requires edges { AreEdgesBelow n edges.now }
     requires chosen { AreBelow n chosen.now }
-    ensures value { IfOk result (λ marks. (m : ℕ) → (get_or marks.items m false ≡ true) ↔ IsWanted edges.now (Some chosen.now) make dependents m) }
+    ensures value { IfOk result (λ marks. (m : ℕ) →
+        (get_or marks.items m false ≡ true) ↔ IsWanted edges.now
+        (Some chosen.now) make dependents m) }
     ensures long { IfOk result (λ marks. length marks.items ≡ n) }
 {
     let own = chosen_marks(alloc, n, chosen)?;
@@ -123,7 +128,9 @@ pub fn select(
     requires order { AreBelow (length order.now) order.now }
     requires edges { AreEdgesBelow (length order.now) edges.now }
     requires chosen { IfSome chosen (λ c. AreBelow (length order.now) c.now) }
-    ensures { IfOk result (λ list. Selects order.now edges.now (option_copied chosen.entry) also_make also_make_dependents from list) }
+    ensures { IfOk result (λ list.
+        Selects order.now edges.now
+        (option_copied chosen.entry) also_make also_make_dependents from list) }
 {
     let rest = &order[from_place(order, from)..];
     let Some(chosen) = chosen else {

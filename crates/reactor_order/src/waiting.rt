@@ -8,7 +8,8 @@ use std::collections::BTreeSet;
 // A module waits for one upstream less, and is ready where it waits for none.
 fn release_one(waits: &mut Vec<usize>, ready: &mut BTreeSet<u32>, m: u32) -> Mem<()>
     requires { 0 < get_or waits.old.items m 0 }
-    ensures { OnOk result (AreReleased (m ∷ []) waits.old.items waits.new.items ready.old ready.new) }
+    ensures { OnOk result
+        (AreReleased (m ∷ []) waits.old.items waits.new.items ready.old ready.new) }
 {
     waits[m as usize] -= 1;
     if waits[m as usize] == 0 {
@@ -21,7 +22,8 @@ fn release_one(waits: &mut Vec<usize>, ready: &mut BTreeSet<u32>, m: u32) -> Mem
 /// number of modules for each that is ready then.
 pub(crate) fn release(waits: &mut Vec<usize>, ready: &mut BTreeSet<u32>, downs: &[u32]) -> Mem<()>
     requires { (m : ℕ) → times m downs.now ≤ get_or waits.old.items m 0 }
-    ensures { OnOk result (AreReleased downs.now waits.old.items waits.new.items ready.old ready.new) }
+    ensures { OnOk result
+        (AreReleased downs.now waits.old.items waits.new.items ready.old ready.new) }
 {
     for m in downs {
         release_one(waits, ready, *m)?;

@@ -101,14 +101,16 @@ fn push_spelled(alloc: Global, out: &mut Vec<u8>, piece: &str) -> Mem<()>
 
 // The parts of a field between backslashes.
 fn by_backslash<'a>(alloc: Global, field: &'a str) -> Result<Vec<&'a str>, AllocError>
-    ensures { IfOk result (λ parts. map (λ x. x.now) parts.items ≡ slice_split (λ b. nat_eq b 92) field.now) }
+    ensures { IfOk result (λ parts.
+        map (λ x. x.now) parts.items ≡ slice_split (λ b. nat_eq b 92) field.now) }
 {
     field.split('\\').collect(alloc)
 }
 
 // What stands behind each backslash.
 fn push_pieces(alloc: Global, out: &mut Vec<u8>, pieces: &[&str]) -> Mem<()>
-    ensures { OnOk result (out.new.items ≡ out.old.items ++ flat_map spelled (map (λ x. x.now) pieces.now)) }
+    ensures { OnOk result
+        (out.new.items ≡ out.old.items ++ flat_map spelled (map (λ x. x.now) pieces.now)) }
 {
     for piece in pieces {
         push_spelled(alloc, out, *piece)?;

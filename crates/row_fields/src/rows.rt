@@ -9,7 +9,8 @@ use std::alloc::{AllocError, Global};
 
 // The parts of a row between spaces.
 fn by_space<'a>(alloc: Global, row: &'a str) -> Result<Vec<&'a str>, AllocError>
-    ensures { IfOk result (λ parts. map (λ x. x.now) parts.items ≡ slice_split (λ b. nat_eq b 32) row.now) }
+    ensures { IfOk result (λ parts.
+        map (λ x. x.now) parts.items ≡ slice_split (λ b. nat_eq b 32) row.now) }
 {
     row.split(' ').collect(alloc)
 }

@@ -69,7 +69,8 @@ fn shown(alloc: Global, text: &Text) -> Mem<String>
 // The line of a module that failed, for a reason with a space in front.
 #[tactic(auto, unfolding(mvn_base::specs::Gav::gav_text))]
 fn failed_line(alloc: Global, gav: &Gav, reason: &str) -> Mem<String>
-    ensures { IfOk result (λ text. string_bytes text ≡ line (codes "failed " ++ gav_text gav.now ++ reason.now)) }
+    ensures { IfOk result (λ text.
+        string_bytes text ≡ line (codes "failed " ++ gav_text gav.now ++ reason.now)) }
 {
     Ok(format!(in alloc; "failed {gav}{reason}\n")?)
 }
@@ -120,7 +121,8 @@ fn push_notes(out: &mut Vec<u8>, notes: &[Text]) -> Mem<()>
 
 // The files of a classpath.
 fn push_files(out: &mut Vec<u8>, word: &str, files: &[FileName]) -> Mem<()>
-    ensures { OnOk result (out.new.items ≡ out.old.items ++ flat_map (indented word.now) files.now) }
+    ensures { OnOk result
+        (out.new.items ≡ out.old.items ++ flat_map (indented word.now) files.now) }
 {
     for file in files {
         push_indented(out, word, file.as_text().as_bytes())?;

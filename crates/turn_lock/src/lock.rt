@@ -127,7 +127,8 @@ impl<V: Kept> TurnLock<V> {
         requires some_worker { 0 < V.count value }
         requires fresh { IsFresh V.role (V.log value) }
         ensures own { IfOk result (λ r. lock_of r.1 ≡ r.0) }
-        ensures first { IfOk result (λ r. view_of r.1 ≡ first_view (V.log value) (V.fixed value) (V.count value)) }
+        ensures first { IfOk result (λ r.
+            view_of r.1 ≡ first_view (V.log value) (V.fixed value) (V.count value)) }
         ensures err { IfErr result (λ e. e ≡ Memory value) }
     {
         let entries = value.entries();
@@ -147,8 +148,10 @@ impl<V: Kept> TurnLock<V> {
     fn try_take(&self, pass: &mut Pass<V>) -> Option<V>
         requires own { lock_of pass.old ≡ self.now }
         requires free { (view_of pass.old).turn ≡ None }
-        ensures some { IfSome result (λ value. pass.new ≡ with_view pass.old (with_turn (view_of pass.old) (V.log value))) }
-        ensures known { IfSome result (λ value. IsKnown V.role (V.log value) (V.fixed value) (V.count value) (view_of pass.old)) }
+        ensures some { IfSome result (λ value.
+            pass.new ≡ with_view pass.old (with_turn (view_of pass.old) (V.log value))) }
+        ensures known { IfSome result (λ value.
+            IsKnown V.role (V.log value) (V.fixed value) (V.count value) (view_of pass.old)) }
         ensures none { IfNone result (pass.new ≡ pass.old) }
     {
         let found = self.table.shared.fetch_or::<Take<V>>(&mut pass.seat, 0, 1);
@@ -220,8 +223,10 @@ impl<V: Kept> TurnLock<V> {
     pub fn take<R: Wait>(&self, rt: &R, pass: &mut Pass<V>) -> Turn<V>
         requires own { lock_of pass.old ≡ self.now }
         requires free { (view_of pass.old).turn ≡ None }
-        ensures pass { pass.new ≡ with_view pass.old (with_turn (view_of pass.old) (V.log result.value)) }
-        ensures known { IsKnown V.role (V.log result.value) (V.fixed result.value) (V.count result.value) (view_of pass.old) }
+        ensures pass { pass.new
+            ≡ with_view pass.old (with_turn (view_of pass.old) (V.log result.value)) }
+        ensures known { IsKnown V.role (V.log result.value) (V.fixed result.value)
+            (V.count result.value) (view_of pass.old) }
     {
         for _ in rt.forever() {
             match self.try_take(pass) {
@@ -237,10 +242,12 @@ impl<V: Kept> TurnLock<V> {
     #[inline]
     pub fn give(&self, pass: &mut Pass<V>, turn: Turn<V>)
         requires own { lock_of pass.old ≡ self.now }
-        requires taken { (log : List V.Entry) × ((view_of pass.old).turn ≡ Some log) × AddsOne V.role (view_of pass.old).number log (V.log turn.value) }
+        requires taken { (log : List V.Entry) × ((view_of pass.old).turn ≡ Some log) ×
+            AddsOne V.role (view_of pass.old).number log (V.log turn.value) }
         requires fixed { Some (V.fixed turn.value) ≡ (view_of pass.old).fixed }
         requires workers { V.count turn.value ≡ (view_of pass.old).workers }
-        ensures { pass.new ≡ with_view pass.old (given V.role (view_of pass.old) (V.log turn.value)) }
+        ensures { pass.new
+            ≡ with_view pass.old (given V.role (view_of pass.old) (V.log turn.value)) }
     {
         let Turn { value } = turn;
         let entries = value.entries();
@@ -300,7 +307,8 @@ impl<V: Kept> TurnLock<V> {
     // Takes another pass in.
     fn absorb(&self, pass: &mut Pass<V>, other: Pass<V>)
         requires own { (lock_of pass.old ≡ self.now) × (lock_of other ≡ self.now) }
-        requires free { ((view_of pass.old).turn ≡ None) × ((view_of other).turn ≡ None) × ((view_of other).owed ≡ None) }
+        requires free { ((view_of pass.old).turn ≡ None) × ((view_of other).turn ≡ None) ×
+            ((view_of other).owed ≡ None) }
         ensures { pass.new ≡ with_view pass.old (joined (view_of pass.old) (view_of other)) }
     {
         let Pass { seat, entries } = other;
@@ -323,7 +331,8 @@ impl<V: Kept> TurnLock<V> {
     /// its own; the other's reach isn't given back. Takes no memory; two atomic steps. Own.
     pub fn join(&self, pass: &mut Pass<V>, other: Pass<V>)
         requires own { (lock_of pass.old ≡ self.now) × (lock_of other ≡ self.now) }
-        requires free { ((view_of pass.old).turn ≡ None) × ((view_of other).turn ≡ None) × ((view_of other).owed ≡ None) }
+        requires free { ((view_of pass.old).turn ≡ None) × ((view_of other).turn ≡ None) ×
+            ((view_of other).owed ≡ None) }
         ensures joined { pass.new ≡ with_view pass.old (joined (view_of pass.old) (view_of other)) }
         ensures own_log { Begins (view_of pass.old).seen (view_of pass.new).seen }
         ensures other_log { Begins (view_of other).seen (view_of pass.new).seen }

@@ -67,7 +67,9 @@ impl Tally {
     // A note more. More than 2^32 are want of memory.
     fn add(&mut self, worker: u32, number: u32) -> Mem<()>
         ensures workers { self.new.workers ≡ self.old.workers }
-        ensures ok { OnOk result (self.new.notes.items ≡ self.old.notes.items ++ (record { worker = worker; number = number }) ∷ []) }
+        ensures ok { OnOk result
+            (self.new.notes.items ≡ self.old.notes.items
+            ++ (record { worker = worker; number = number }) ∷ []) }
         ensures err { OnErr result (self.new.notes.items ≡ self.old.notes.items) }
     {
         if self.notes.len() >= 1 << 32 {
@@ -232,7 +234,8 @@ fn work<R: Wait + Clock>(
     requires rest { Rests lock.now worker pass.old }
     requires fresh { notes_of worker (view_of pass.old).seen ≡ [] }
     ensures rest { RestsAgain lock.now worker pass.old pass.new }
-    ensures noted { OnOk result (notes_of worker (view_of pass.new).seen ≡ noted worker task.now.count) }
+    ensures noted { OnOk result
+        (notes_of worker (view_of pass.new).seen ≡ noted worker task.now.count) }
 {
     for number in 0..task.count {
         come(rt, lock, pass, worker, number, task);
@@ -295,14 +298,17 @@ fn fork<R: Threads + Wait + Clock + Sync>(
     join_mut(
         rt,
         &mut || -> Mem<()>
-            requires { IsSync R.row × IsFor lock.now first middle pass.now × (first < middle) × NoneNoted first middle pass.now }
+            requires { IsSync R.row × IsFor lock.now first middle pass.now × (first < middle) ×
+                NoneNoted first middle pass.now }
             ensures rest { IsBack lock.entry.now first middle pass.entry.now pass.exit.now }
             ensures noted { OnOk result (AllNoted first middle task.entry.now.count pass.exit.now) }
         { crew(rt, lock, pass, first, middle, task) },
         &mut || -> Mem<()>
-            requires { IsSync R.row × IsFor lock.now middle reach other.now × (middle < reach) × NoneNoted middle reach other.now }
+            requires { IsSync R.row × IsFor lock.now middle reach other.now × (middle < reach) ×
+                NoneNoted middle reach other.now }
             ensures rest { IsBack lock.entry.now middle reach other.entry.now other.exit.now }
-            ensures noted { OnOk result (AllNoted middle reach task.entry.now.count other.exit.now) }
+            ensures noted { OnOk result
+                (AllNoted middle reach task.entry.now.count other.exit.now) }
         { crew(rt, lock, other, middle, reach, task) },
     )
 }

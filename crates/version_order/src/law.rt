@@ -8,6 +8,8 @@ ghost use Rattle.version_order.specs.Spelling.{IsSoft, Lists};
 /// between, spaces round each and no crossed bounds; and as a version exactly where it has a byte and no divider. It does
 /// nothing when it runs.
 pub fn spelled_and_read()
-    ensures intervals { (text : List ℕ) (all : List interval.Interval) → (requirement text ≡ Ok (Hard all)) ↔ Lists text all }
-    ensures version { (text version : List ℕ) → (requirement text ≡ Ok (Soft version)) ↔ IsSoft text version }
+    ensures intervals { (text : List ℕ) (all : List interval.Interval) →
+        (requirement text ≡ Ok (Hard all)) ↔ Lists text all }
+    ensures version { (text version : List ℕ) →
+        (requirement text ≡ Ok (Soft version)) ↔ IsSoft text version }
 {}

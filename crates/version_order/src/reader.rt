@@ -24,7 +24,9 @@ impl Stand {
     #[tactic(auto, using(crate::proofs::Words::begins))]
     fn before(text: &str, at: usize) -> Option<Stand>
         requires { at < length text.now }
-        ensures value { (done : List interval.Interval) → option_map (reading_of text.now done (at + 1)) result ≡ next (before done) (get_or text.now at 0) }
+        ensures value { (done : List interval.Interval) →
+            option_map (reading_of text.now done (at + 1)) result
+            ≡ next (before done) (get_or text.now at 0) }
         ensures stand { IfSome result (IsStand text.now (at + 1)) }
     {
         match text.as_bytes()[at] {
@@ -44,7 +46,9 @@ impl Stand {
     // One byte further behind an interval.
     fn behind(text: &str, at: usize) -> Option<Stand>
         requires { at < length text.now }
-        ensures value { (done : List interval.Interval) → option_map (reading_of text.now done (at + 1)) result ≡ next (behind done) (get_or text.now at 0) }
+        ensures value { (done : List interval.Interval) →
+            option_map (reading_of text.now done (at + 1)) result
+            ≡ next (behind done) (get_or text.now at 0) }
         ensures stand { IfSome result (IsStand text.now (at + 1)) }
     {
         match text.as_bytes()[at] {
@@ -56,7 +60,9 @@ impl Stand {
 
     // An interval ends, unless its bounds cross.
     fn close(done: &mut Vec<Interval>, interval: Interval) -> Mem<Option<Stand>>
-        ensures value { (text : List ℕ) (at : ℕ) → IfOk result (λ o. option_map (reading_of text done.new.items at) o ≡ closed done.old.items interval) }
+        ensures value { (text : List ℕ) (at : ℕ) →
+            IfOk result (λ o.
+            option_map (reading_of text done.new.items at) o ≡ closed done.old.items interval) }
         ensures stand { (text : List ℕ) (at : ℕ) → IfOk result (λ o. IfSome o (IsStand text at)) }
     {
         if interval.is_crossed() {
@@ -68,7 +74,9 @@ impl Stand {
 
     // The interval of one version, where there is one.
     fn exactly(done: &mut Vec<Interval>, version: Option<Bound>) -> Mem<Option<Stand>>
-        ensures value { (text : List ℕ) (at : ℕ) → IfOk result (λ o. option_map (reading_of text done.new.items at) o ≡ exactly done.old.items version) }
+        ensures value { (text : List ℕ) (at : ℕ) →
+            IfOk result (λ o.
+            option_map (reading_of text done.new.items at) o ≡ exactly done.old.items version) }
         ensures stand { (text : List ℕ) (at : ℕ) → IfOk result (λ o. IfSome o (IsStand text at)) }
     {
         match version {
@@ -92,7 +100,10 @@ impl Stand {
         word: &str,
         done: &mut Vec<Interval>,
     ) -> Mem<Option<Stand>>
-        ensures value { (text : List ℕ) (at : ℕ) → IfOk result (λ o. option_map (reading_of text done.new.items at) o ≡ closed done.old.items (record { lower = lower; upper = bound inclusive word.now })) }
+        ensures value { (text : List ℕ) (at : ℕ) →
+            IfOk result (λ o.
+            option_map (reading_of text done.new.items at) o
+            ≡ closed done.old.items (record { lower = lower; upper = bound inclusive word.now })) }
         ensures stand { (text : List ℕ) (at : ℕ) → IfOk result (λ o. IfSome o (IsStand text at)) }
     {
         let upper = bound(alloc, inclusive, word)?;
@@ -111,7 +122,9 @@ impl Stand {
     ) -> Mem<Option<Stand>>
         requires within { at < length text.now }
         requires begins { Begins text.now start at }
-        ensures value { IfOk result (λ o. option_map (reading_of text.now done.new.items (at + 1)) o ≡ next (lower done.old.items square (since text.now start at)) (get_or text.now at 0)) }
+        ensures value { IfOk result (λ o.
+            option_map (reading_of text.now done.new.items (at + 1)) o
+            ≡ next (lower done.old.items square (since text.now start at)) (get_or text.now at 0)) }
         ensures stand { IfOk result (λ o. IfSome o (IsStand text.now (at + 1))) }
     {
         match text.as_bytes()[at] {
@@ -140,7 +153,9 @@ impl Stand {
     ) -> Mem<Option<Stand>>
         requires within { at < length text.now }
         requires begins { Begins text.now start at }
-        ensures value { IfOk result (λ o. option_map (reading_of text.now done.new.items (at + 1)) o ≡ next (upper done.old.items lower (since text.now start at)) (get_or text.now at 0)) }
+        ensures value { IfOk result (λ o.
+            option_map (reading_of text.now done.new.items (at + 1)) o
+            ≡ next (upper done.old.items lower (since text.now start at)) (get_or text.now at 0)) }
         ensures stand { IfOk result (λ o. IfSome o (IsStand text.now (at + 1))) }
     {
         match text.as_bytes()[at] {
@@ -161,7 +176,9 @@ impl Stand {
     ) -> Mem<Option<Stand>>
         requires within { at < length text.now }
         requires stands { IsStand text.now at self }
-        ensures value { IfOk result (λ o. option_map (reading_of text.now done.new.items (at + 1)) o ≡ next (reading_of text.now done.old.items at self) (get_or text.now at 0)) }
+        ensures value { IfOk result (λ o.
+            option_map (reading_of text.now done.new.items (at + 1)) o
+            ≡ next (reading_of text.now done.old.items at self) (get_or text.now at 0)) }
         ensures stand { IfOk result (λ o. IfSome o (IsStand text.now (at + 1))) }
     {
         match self {

@@ -73,7 +73,8 @@ fn zero_count(digits: &[u8]) -> usize
 #[tactic(auto, using(crate::proofs::Numbers::digits_in), unfolding(crate::specs::Tokens::token))]
 pub(crate) fn cut(text: &[u8], start: usize, len: usize, mark: Mark, before_digit: bool) -> Cut
     requires within { start + len ≤ length text.now }
-    ensures { cut_token text.now result ≡ token before_digit (record { mark = mark; bytes = take len (drop start text.now) }) }
+    ensures { cut_token text.now result
+        ≡ token before_digit (record { mark = mark; bytes = take len (drop start text.now) }) }
 {
     let bytes = &text[start..start + len];
     if is_number(bytes) {

@@ -46,7 +46,8 @@ impl Model for Version {
 
 // Takes the null tokens at the end away.
 fn strip(text: &[u8], cuts: &mut Vec<Cut>)
-    ensures { map (cut_token text.now) cuts.new.items ≡ stripped (map (cut_token text.now) cuts.old.items) }
+    ensures { map (cut_token text.now) cuts.new.items
+        ≡ stripped (map (cut_token text.now) cuts.old.items) }
 {
     while let Some(last) = cuts.last() {
         if !is_null(text, *last) {
@@ -58,7 +59,9 @@ fn strip(text: &[u8], cuts: &mut Vec<Cut>)
 
 // One token more.
 fn add(text: &[u8], cuts: &mut Vec<Cut>, cut: Cut) -> Mem<()>
-    ensures { OnOk result (map (cut_token text.now) cuts.new.items ≡ added (map (cut_token text.now) cuts.old.items) (cut_token text.now cut)) }
+    ensures { OnOk result
+        (map (cut_token text.now) cuts.new.items
+        ≡ added (map (cut_token text.now) cuts.old.items) (cut_token text.now cut)) }
 {
     if cut.kind != Kind::DotNumber {
         strip(text, cuts);
@@ -76,7 +79,9 @@ fn changes(next: Option<Mark>) -> bool
 
 // The tokens of a text in lower case, and the end.
 fn cuts(alloc: Global, text: &[u8]) -> Mem<Vec<Cut>>
-    ensures { IfOk result (λ cuts. map (cut_token text.now) cuts.items ≡ trimmed (tokens (pieces Dot text.now)) ++ the_end ∷ []) }
+    ensures { IfOk result (λ cuts.
+        map (cut_token text.now) cuts.items ≡ trimmed (tokens (pieces Dot text.now))
+        ++ the_end ∷ []) }
 {
     let mut cuts = Vec::new(alloc);
     let mut start = 0;
@@ -99,7 +104,9 @@ fn cuts(alloc: Global, text: &[u8]) -> Mem<Vec<Cut>>
 
 // How two lists of tokens compare: by the first tokens that differ.
 fn order_cuts(text: &[u8], cuts: &[Cut], other_text: &[u8], others: &[Cut]) -> Ordering
-    ensures { result ≡ slice_cmp token_cmp (map (cut_token text.now) cuts.now) (map (cut_token other_text.now) others.now) }
+    ensures { result
+        ≡ slice_cmp token_cmp (map (cut_token text.now) cuts.now)
+        (map (cut_token other_text.now) others.now) }
 {
     let both = cuts.len().min(others.len());
     for at in 0..both {

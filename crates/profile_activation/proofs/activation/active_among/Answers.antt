@@ -18,6 +18,7 @@ returns g c =
             ∙ places_active judge world profiles c.in_ok-chosen.chosen (c.in_ok-chosen.ensures.asks.tells world fits)
             ∙ ap (active_in judge world) same;
         fit = c.in_ok-chosen.ensures.asks.fit;
+        same = c.in_ok-chosen.ensures.asks.same;
         cause = c.in_ok-chosen.ensures.asks.cause;
       };
       alone = record {

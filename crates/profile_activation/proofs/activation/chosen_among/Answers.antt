@@ -3,6 +3,7 @@ use Rattle.std.proofs.lemmas.List.{length-append}
 use Rattle.profile_activation.specs.Activation.{needs_file}
 use Rattle.profile_activation.specs.Judging.{asks_for_any, is_chosen_by, off_by, on_by}
 use Rattle.profile_activation.proofs.Asking.{map_more, none_from}
+use Rattle.profile_activation.proofs.Telling.{told_both}
 use Rattle.profile_activation.proofs.activation.chosen_among.Goals as goal
 
 pub loop-profile-preserved : goal.loop-profile-preserved
@@ -24,6 +25,7 @@ loop-profile-preserved g c =
       further = λ none. (none_at none).1;
       untouched = λ none. c.in_ok-chosen.ensures.untouched (none_at none).0 ∙ c.loop-profile.invariant.untouched none;
       fit = λ world fits. c.in_ok-chosen.ensures.asks.fit world (c.loop-profile.invariant.fit world fits);
+      same = told_both c.loop-profile.invariant.same c.in_ok-chosen.ensures.asks.same;
       faults = c.in_ok-chosen.ensures.asks.cause ∙ c.loop-profile.invariant.faults;
       each = ap length c.in_ok-push.ensures.ok ∙ length-append c.loop-profile.list (c.in_ok-chosen.chosen ∷ []) ∙ ap (λ n. n + 1) c.loop-profile.invariant.each;
     }

@@ -1,5 +1,5 @@
 use Rattle.std.proofs.Common.{◌≡◌, ℕ, Bool, false, List, ◌++◌, drop, length, map}
-use Rattle.profile_activation.specs.Judging.{asks_for_any, is_chosen_by}
+use Rattle.profile_activation.specs.Judging.{TellsOn, asks_for_any, is_chosen_by}
 use Rattle.profile_activation.proofs.activation.chosen_among.Given as goal
 
 abbrev pub invariant-loop-profile : goal.invariant-loop-profile
@@ -11,6 +11,7 @@ invariant-loop-profile g l = record {
   further : asks_for_any l.judge l.profiles ≡ false → asks_for_any l.judge (drop l.profile-index l.profiles) ≡ false;
   untouched : asks_for_any l.judge l.profiles ≡ false → l.files ≡ l.initial.files;
   fit : (world : List ℕ → Bool) → g.F.Files.fits l.initial.files world → g.F.Files.fits l.files world;
+  same : TellsOn g.F.Files.tells_same l.initial.files l.files;
   faults : g.F.Files.faults l.files ≡ g.F.Files.faults l.initial.files;
   each : length l.list ≡ l.profile-index;
 }

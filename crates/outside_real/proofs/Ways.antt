@@ -1,5 +1,6 @@
 -- The folders that a name stands in, from the last slash on, and the sets that have them.
 use Rattle.std.proofs.Common.{◌≡◌, ◌≢◌, ℕ, suc, ◌<◌, ◌≤◌, Bool, true, false, ◌==◌, ◌||◌, List, [], ◌∷◌, ◌++◌, if◌then◌else◌, Some, None, length, get_or, map, take, drop, refl, sym, ap, ◌∙◌, length-append, arith}
+use Rattle.std.proofs.lemmas.Bool.{false≢true}
 use Rattle.std.proofs.lemmas.Bool.Decides.{nat_tests}
 use Rattle.std.proofs.lemmas.List.{map-append, take-append-drop}
 use Rattle.std.proofs.lemmas.List.Folds.{list_any-append}
@@ -7,7 +8,11 @@ use Rattle.std.proofs.lemmas.Str.Pattern.{NoCharPasses-char, drop_at_char}
 use Rattle.std.specs.List.{list_any}
 use Rattle.std.specs.Str.Pattern.{RFindsChar}
 use Rattle.outside_real.specs.Paths.{full_path}
-use Rattle.outside_real.specs.Ways.{folders_above, way}
+use Rattle.std.specs.Ordering.{nat_cmp}
+use Rattle.std.specs.Cmp.Lexicographic.{slice_cmp}
+use Rattle.std.specs.BTreeMap.{is_at}
+use Rattle.std.specs.BTreeSet.{BTreeSet, contains}
+use Rattle.outside_real.specs.Ways.{folders_above, way, Gains, HasWay, Keeps}
 
 -- a name without a slash stands in no folder
 pub no_slash : (name : List ℕ) → ((i : ℕ) → i < length name → get_or name i 0 ≢ 47) → folders_above name ≡ []
@@ -70,3 +75,27 @@ pub way_gained : (test : List ℕ → Bool) (root name : List ℕ) (had was has 
     → has ≡ ((test root || false) || was) → has ≡ (list_any test (way root name) || had)
 way_gained test root name had was has e f =
     f ∙ ap (λ b. b || was) (or_none (test root)) ∙ ap (λ b. test root || b) (sym e) ∙ sym (or_later (test root) (list_any test (map (full_path root) (folders_above name))) had)
+
+-- ---- what was noted stays noted
+
+or_so : (a b : Bool) → b ≡ true → (a || b) ≡ true
+or_so true b so = refl
+or_so false b so = so
+
+or_first : (a b : Bool) → a ≡ true → (a || b) ≡ true
+or_first true b so = refl
+or_first false b so = absurd (false≢true so)
+
+pub gained_keeps : (paths : List (List ℕ)) (old now : BTreeSet (List ℕ)) → Gains paths old now → Keeps old now
+gained_keeps paths old now gains path there =
+    gains path ∙ or_so (list_any (λ p. is_at (slice_cmp nat_cmp p) path) paths) (contains (slice_cmp nat_cmp) old path) there
+
+pub gained_way : (root name : List ℕ) (old now : BTreeSet (List ℕ)) → Gains (way root name) old now → HasWay root name now
+gained_way root name old now gains path on =
+    gains path ∙ or_first (list_any (λ p. is_at (slice_cmp nat_cmp p) path) (way root name)) (contains (slice_cmp nat_cmp) old path) on
+
+pub keeps_on : (a b c : BTreeSet (List ℕ)) → Keeps a b → Keeps b c → Keeps a c
+keeps_on a b c first more path there = more path (first path there)
+
+pub keeps_all : (a : BTreeSet (List ℕ)) → Keeps a a
+keeps_all a path there = there

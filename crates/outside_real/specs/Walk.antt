@@ -1,14 +1,12 @@
 -- A walk over the folders below a root, links followed. Own rules.
-use Rattle.std.specs.Prelude.{ℕ, zero, suc, Bool, ◌&&◌, ◌==◌, List, [], ◌∷◌, length, slice_get, Option, Some, None, Result, Ok, Err}
+use Rattle.std.specs.Prelude.{ℕ, zero, suc, Bool, ◌&&◌, ◌==◌, List, [], ◌∷◌, length, slice_get, Option, Some, None, Result, Ok, Err, if◌then◌else◌}
 use Rattle.std.specs.List.{list_any}
 use Rattle.std.specs.IoError.{error_kind}
 use Rattle.std.specs.declared.io.Error.{Error}
-use Rattle.std.specs.declared.io.ErrorKind.{ErrorKind}
-use Rattle.std.specs.declared.io.ErrorKind.TheVariants.{NotFound, NotADirectory}
 use Rattle.std.specs.declared.fs.attrs.Metadata.{Metadata}
 use Rattle.mvn_outside.specs.declared.fault.ListFault.{ListFault}
 use Rattle.mvn_outside.specs.Faults.{list_fault}
-use Rattle.outside_real.specs.Faults.{fault_of}
+use Rattle.outside_real.specs.Faults.{fault_of, is_absent}
 use Rattle.outside_real.specs.declared.walk.Folder.{Folder}
 
 -- the folder at a place, the one that it was met in, and so on, at most so many
@@ -32,9 +30,4 @@ is_on_way folders place device number = list_any (is_known_as device number) (wa
 -- what stands behind a name: nothing where a link leads nowhere
 abbrev pub behind : Result Metadata Error → Result (Option Metadata) ListFault
 behind (Ok metadata) = Ok (Some metadata)
-behind (Err e) = by (error_kind e)
-  where
-    by : ErrorKind → Result (Option Metadata) ListFault
-    by NotFound = Ok None
-    by NotADirectory = Ok None
-    by kind = Err (list_fault (fault_of kind))
+behind (Err e) = if is_absent (error_kind e) then Ok None else Err (list_fault (fault_of (error_kind e)))

@@ -22,6 +22,9 @@ pub(crate) fn is_absent(e: &io::Error) -> bool
 {
     matches!(
         e.kind(),
-        ErrorKind::NotFound | ErrorKind::NotADirectory | ErrorKind::InvalidFilename
+        ErrorKind::NotFound
+            | ErrorKind::NotADirectory
+            | ErrorKind::InvalidFilename
+            | ErrorKind::FilesystemLoop
     )
 }

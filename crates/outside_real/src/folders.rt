@@ -2,6 +2,7 @@
 ghost use Rattle.std.specs.Prelude.{◌≡◌, IfOk};
 ghost use Rattle.std.specs.String.{string_bytes};
 ghost use Rattle.outside_real.specs.Paths.{full_path, is_step, leads_below, is_in_staging, is_inside};
+ghost use Rattle.outside_real.specs.Ways.{Keeps};
 
 use crate::fault::fault_of;
 use crate::look::is_folder;
@@ -77,13 +78,15 @@ fn missing_folders<'a, R: rt::Files>(
     Ok(missing)
 }
 
-/// Makes a folder and those above it that aren't there, and notes in `changed` the folder of each that it makes. Costs one
-/// look where the folder is there.
+/// Makes a folder and those above it that aren't there, and notes in `changed` the folder of each that it makes; what was noted before
+/// stays. Costs one look where the folder is there.
 pub(crate) fn make_folders<R: rt::Files + AllocGlobal>(
     rt: &R,
     path: &str,
     changed: &mut BTreeSet<Text>,
-) -> Result<(), DeviceFault> {
+) -> Result<(), DeviceFault>
+    ensures { Keeps changed.old changed.new }
+{
     let alloc = rt.alloc();
     let missing = missing_folders(rt, alloc, path)?;
     for folder in missing.iter().rev() {

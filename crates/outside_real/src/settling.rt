@@ -2,7 +2,7 @@
 ghost use Rattle.std.specs.Prelude.{◌≡◌, ◌<◌, [], ◌∷◌, ◌++◌, length, MatchOption, OnOk};
 ghost use Rattle.std.specs.Result.{IfErr};
 ghost use Rattle.mvn_outside.specs.declared.fault.DeviceFault.TheVariants.{Memory};
-ghost use Rattle.outside_real.specs.Ways.{folders_above, way, Gains};
+ghost use Rattle.outside_real.specs.Ways.{folders_above, way, Gains, Keeps};
 
 use crate::fault::fault_of;
 use crate::folders::full_path;
@@ -16,6 +16,7 @@ use std::{io, rt};
 /// Notes a folder. Costs the logarithm of the number of noted ones.
 pub(crate) fn note(changed: &mut BTreeSet<Text>, folder: Text) -> Result<(), DeviceFault>
     ensures gains { OnOk result (Gains (folder ∷ []) changed.old changed.new) }
+    ensures keeps { Keeps changed.old changed.new }
     ensures memory { IfErr result (λ fault. fault ≡ Memory) }
 {
     match changed.insert(folder) {
@@ -45,6 +46,7 @@ pub(crate) fn note_way(
     changed: &mut BTreeSet<Text>,
 ) -> Result<(), DeviceFault>
     ensures gains { OnOk result (Gains (way root.now name.now) changed.old changed.new) }
+    ensures keeps { Keeps changed.old changed.new }
     ensures memory { IfErr result (λ fault. fault ≡ Memory) }
 {
     let mut rest = name;

@@ -1,5 +1,8 @@
-ghost use Rattle.std.specs.Prelude.{◌≡◌, ◌≤◌, true, IfOk, IfSome, length};
+ghost use Rattle.std.specs.Prelude.{◌≡◌, ◌≤◌, true, is_some, IfOk, IfSome, OnOk, OnErr, length};
+ghost use Rattle.std.specs.BTreeSet.{IsEmpty};
 ghost use Rattle.mvn_base.specs.Names.{is_group, is_name};
+ghost use Rattle.mvn_shared.specs.Cause.{HasCause};
+ghost use Rattle.mvn_outside.specs.Faults.{device_failed, read_failed, list_failed};
 
 use crate::area::RealArea;
 use crate::count::{counted, counted_list, counted_read};
@@ -28,11 +31,14 @@ pub struct RealShelf<'a, R: rt::Files<File = File> + AllocGlobal + Clone + Drop>
 }
 
 impl<'a, R: rt::Files<File = File> + AllocGlobal + Clone + Drop> RealShelf<'a, R> {
-    ghost use Rattle.outside_real.specs.Shelf.{shelf_faults};
+    ghost use Rattle.outside_real.specs.Shelf.{shelf_faults, root_of, noted};
+    ghost use Rattle.outside_real.specs.Ways.{HasWay, Keeps};
 
     /// The folder at a path of the system, which need not be there.
     pub fn new(rt: &'a R, root: Text) -> RealShelf<'a, R>
-        ensures { shelf_faults result ≡ 0 }
+        ensures faults { shelf_faults result ≡ 0 }
+        ensures root { root_of result ≡ root }
+        ensures noted { IsEmpty (noted result) }
     {
         let changed = BTreeSet::new(rt.alloc());
         RealShelf {
@@ -51,6 +57,10 @@ impl<'a, R: rt::Files<File = File> + AllocGlobal + Clone + Drop> RealShelf<'a, R
     // The bytes of a file; where one has the name, the folders on the way to it are noted.
     fn bytes_at(&mut self, name: &FileName, limit: u64) -> Result<Option<Bytes>, ReadFault>
         ensures within { IfOk result (λ found. IfSome found (λ bytes. length bytes ≤ limit)) }
+        ensures way { IfOk result (λ found. is_some found ≡ true →
+            HasWay (root_of self.old) name.now (noted self.new)) }
+        ensures keeps { Keeps (noted self.old) (noted self.new) }
+        ensures root { root_of self.new ≡ root_of self.old }
         ensures faults { shelf_faults self.new ≡ shelf_faults self.old }
     {
         let path = self.path_of(name)?;
@@ -63,7 +73,10 @@ impl<'a, R: rt::Files<File = File> + AllocGlobal + Clone + Drop> RealShelf<'a, R
 
     // Notes the folders on the way to a name.
     fn note(&mut self, name: &FileName) -> Result<(), DeviceFault>
-        ensures { shelf_faults self.new ≡ shelf_faults self.old }
+        ensures way { OnOk result (HasWay (root_of self.old) name.now (noted self.new)) }
+        ensures keeps { Keeps (noted self.old) (noted self.new) }
+        ensures root { root_of self.new ≡ root_of self.old }
+        ensures faults { shelf_faults self.new ≡ shelf_faults self.old }
     {
         let alloc = self.rt.alloc();
         note_way(
@@ -76,7 +89,11 @@ impl<'a, R: rt::Files<File = File> + AllocGlobal + Clone + Drop> RealShelf<'a, R
 
     // Whether a file has the name; where one has, the folders on the way to it are noted.
     fn is_file(&mut self, name: &FileName) -> Result<bool, DeviceFault>
-        ensures { shelf_faults self.new ≡ shelf_faults self.old }
+        ensures way { IfOk result (λ there. there ≡ true →
+            HasWay (root_of self.old) name.now (noted self.new)) }
+        ensures keeps { Keeps (noted self.old) (noted self.new) }
+        ensures root { root_of self.new ≡ root_of self.old }
+        ensures faults { shelf_faults self.new ≡ shelf_faults self.old }
     {
         let path = self.path_of(name)?;
         let is_there = look::is_file(self.rt, path.as_str())?;
@@ -88,7 +105,10 @@ impl<'a, R: rt::Files<File = File> + AllocGlobal + Clone + Drop> RealShelf<'a, R
 
     // Makes the name's folders and renames the file over it; the folders on the way to it are noted first.
     fn rename(&mut self, from: &str, name: &FileName) -> Result<(), DeviceFault>
-        ensures { shelf_faults self.new ≡ shelf_faults self.old }
+        ensures way { OnOk result (HasWay (root_of self.old) name.now (noted self.new)) }
+        ensures keeps { Keeps (noted self.old) (noted self.new) }
+        ensures root { root_of self.new ≡ root_of self.old }
+        ensures faults { shelf_faults self.new ≡ shelf_faults self.old }
     {
         if !is_inside(name.as_text().as_bytes()) {
             return Err(DeviceFault::Failed);
@@ -98,10 +118,24 @@ impl<'a, R: rt::Files<File = File> + AllocGlobal + Clone + Drop> RealShelf<'a, R
         self.note(name)?;
         self.rt.rename(from, to.as_str()).map_err(|e| fault_of(&e))
     }
+
+    // Brings the noted folders to the disk; none is noted then. After an `Err` all are still to be brought there.
+    fn bring(&mut self) -> Result<(), DeviceFault>
+        ensures settled { OnOk result (IsEmpty (noted self.new)) }
+        ensures keeps { OnErr result (noted self.new ≡ noted self.old) }
+        ensures root { root_of self.new ≡ root_of self.old }
+        ensures faults { shelf_faults self.new ≡ shelf_faults self.old }
+    {
+        sync_folders(self.rt, &self.changed)?;
+        self.changed.clear();
+        Ok(())
+    }
 }
 
 impl<'a, R: rt::Files<File = File> + AllocGlobal + Clone + Drop> Shelf for RealShelf<'a, R> {
     ghost use Rattle.std.specs.Prelude.{None, false};
+    ghost use Rattle.outside_real.specs.Shelf.{shelf_faults, root_of, noted};
+    ghost use Rattle.outside_real.specs.Ways.{HasWay, Keeps};
 
     type Area = RealArea<'a, R>;
 
@@ -115,17 +149,39 @@ impl<'a, R: rt::Files<File = File> + AllocGlobal + Clone + Drop> Shelf for RealS
 
     ghost settled_within = { λ _. tt };
 
-    fn has(&mut self, name: &FileName) -> Result<bool, DeviceFault> {
+    fn has(&mut self, name: &FileName) -> Result<bool, DeviceFault>
+        ensures way { IfOk result (λ there. there ≡ true →
+            HasWay (root_of self.old) name.now (noted self.new)) }
+        ensures keeps { Keeps (noted self.old) (noted self.new) }
+        ensures root { root_of self.new ≡ root_of self.old }
+        ensures cause { HasCause (shelf_faults self.old) (shelf_faults self.new)
+            (device_failed result) }
+    {
         let answer = self.is_file(name);
         counted(&mut self.faults, answer)
     }
 
-    fn read(&mut self, name: &FileName, limit: u64) -> Result<Option<Bytes>, ReadFault> {
+    fn read(&mut self, name: &FileName, limit: u64) -> Result<Option<Bytes>, ReadFault>
+        ensures way { IfOk result (λ found. is_some found ≡ true →
+            HasWay (root_of self.old) name.now (noted self.new)) }
+        ensures within { IfOk result (λ found. IfSome found (λ bytes. length bytes ≤ limit)) }
+        ensures keeps { Keeps (noted self.old) (noted self.new) }
+        ensures root { root_of self.new ≡ root_of self.old }
+        ensures cause { HasCause (shelf_faults self.old) (shelf_faults self.new)
+            (read_failed result) }
+    {
         let answer = self.bytes_at(name, limit);
         counted_read(&mut self.faults, answer)
     }
 
-    fn versions(&mut self, group: &Text, artifact: &Text) -> Result<List<Text>, ListFault> {
+    fn versions(&mut self, group: &Text, artifact: &Text) -> Result<List<Text>, ListFault>
+        requires group { is_group group.now ≡ true }
+        requires artifact { is_name artifact.now ≡ true }
+        ensures noted { noted self.new ≡ noted self.old }
+        ensures root { root_of self.new ≡ root_of self.old }
+        ensures cause { HasCause (shelf_faults self.old) (shelf_faults self.new)
+            (list_failed result) }
+    {
         let answer = versions_below(self.rt, self.root.as_str(), group, artifact);
         counted_list(&mut self.faults, answer)
     }
@@ -144,9 +200,7 @@ impl<'a, R: rt::Files<File = File> + AllocGlobal + Clone + Drop> Shelf for RealS
     }
 
     fn settle(&mut self) -> Result<(), DeviceFault> {
-        let answer = sync_folders(self.rt, &self.changed);
-        counted(&mut self.faults, answer)?;
-        self.changed.clear();
-        Ok(())
+        let answer = self.bring();
+        counted(&mut self.faults, answer)
     }
 }

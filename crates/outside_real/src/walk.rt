@@ -3,7 +3,7 @@
 ghost use Rattle.std.specs.Prelude.{◌≡◌};
 ghost use Rattle.outside_real.specs.Walk.{behind, is_known_as, is_on_way};
 
-use crate::fault::fault_of;
+use crate::fault::{fault_of, is_absent};
 use crate::folders::full_path;
 use crate::look::found;
 use mvn_base::MOST_FILES;
@@ -11,7 +11,6 @@ use mvn_outside::ListFault;
 use mvn_shared::{Mem, Text};
 use std::alloc::Global;
 use std::fs::Metadata;
-use std::io::ErrorKind;
 use std::os::unix::fs::MetadataExt;
 use std::{fs, io, rt};
 
@@ -42,9 +41,10 @@ fn behind(answer: io::Result<Metadata>) -> Result<Option<Metadata>, ListFault>
 {
     match answer {
         Ok(metadata) => Ok(Some(metadata)),
-        Err(e) => match e.kind() {
-            ErrorKind::NotFound | ErrorKind::NotADirectory => Ok(None),
-            _ => Err(ListFault::from(fault_of(&e))),
+        Err(e) => if is_absent(&e) {
+            Ok(None)
+        } else {
+            Err(ListFault::from(fault_of(&e)))
         },
     }
 }
@@ -96,7 +96,7 @@ impl<'a, R: rt::Files + AllocGlobal + Clone + Drop> Walk<'a, R> {
         self.files.push(path).map_err(|_| ListFault::Memory)
     }
 
-    // Takes a folder in, unless it is one of those that lead there.
+    // Takes a folder in, unless it is one of those that lead there. One too many is a fault.
     fn take_folder(
         &mut self,
         path: Text,
@@ -108,7 +108,7 @@ impl<'a, R: rt::Files + AllocGlobal + Clone + Drop> Walk<'a, R> {
             return Ok(());
         }
         if self.folders.len() >= MOST_FOLDERS {
-            return Err(ListFault::TooMany);
+            return Err(ListFault::Failed);
         }
         let folder = Folder {
             path,
@@ -177,7 +177,7 @@ impl<'a, R: rt::Files + AllocGlobal + Clone + Drop> Walk<'a, R> {
 /// The files below a folder, as paths below the root, ascending by bytes; none where it is no folder. Links to files and folders are
 /// followed, as Maven follows them; where one leads back to a folder that it was met in, it is left out. A folder that several links
 /// lead to is looked into for each of them, so that its files are listed under each of these paths, as Maven lists them. `TooMany`
-/// where there are more than `most` files, or 65,536 folders. Costs one look at each entry, and a sort.
+/// where there are more than `most` files. More than 65,536 folders are a fault. Costs one look at each entry, and a sort.
 pub(crate) fn files_below<R: rt::Files + AllocGlobal + Clone + Drop>(
     rt: &R,
     root: &str,

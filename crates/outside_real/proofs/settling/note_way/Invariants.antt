@@ -5,7 +5,7 @@ use Rattle.std.specs.List.{list_any}
 use Rattle.std.specs.BTreeMap.{is_at}
 use Rattle.std.specs.BTreeSet.{contains}
 use Rattle.outside_real.specs.Paths.{full_path}
-use Rattle.outside_real.specs.Ways.{folders_above}
+use Rattle.outside_real.specs.Ways.{folders_above, Keeps}
 use Rattle.outside_real.proofs.settling.note_way.Given as goal
 use denote.Shadow.{shadow}
 use denote.Text.{Utf8}
@@ -14,6 +14,7 @@ use denote.Text.{Utf8}
 abbrev pub invariant-loop-above : goal.invariant-loop-above
 invariant-loop-above l = record {
   utf8 : shadow (Utf8 l.rest);
+  keeps : Keeps l.initial.changed l.changed;
   gained : (path : List ℕ)
       → (list_any (λ p. is_at (slice_cmp nat_cmp p) path) (map (full_path l.root) (folders_above l.name)) || contains (slice_cmp nat_cmp) l.initial.changed path)
       ≡ (list_any (λ p. is_at (slice_cmp nat_cmp p) path) (map (full_path l.root) (folders_above l.rest)) || contains (slice_cmp nat_cmp) l.changed path);

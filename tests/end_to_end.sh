@@ -27,7 +27,7 @@ mkdir pom.xml
 want 'a folder of that name' 2 $'refused pom.xml rule 15 ModuleNotFound at pom.xml\n' validate
 rmdir pom.xml
 ln -s pom.xml pom.xml
-want 'a link to itself' 3 $'fault tree\n' validate
+want 'a link to itself' 2 $'refused pom.xml rule 15 ModuleNotFound at pom.xml\n' validate
 rm pom.xml
 : > pom.xml
 want 'an empty POM' 2 $'refused pom.xml rule 3 NotPomText at 0\n' validate
@@ -155,8 +155,9 @@ ln -s ../../../elsewhere/part src/main/java/part
 same 'a link to a folder of sources'
 ln -s .. elsewhere/part/circle
 ln -s missing elsewhere/part/nowhere
-same 'a circle of links, and a link that leads nowhere'
-rm src/main/java/part elsewhere/part/circle elsewhere/part/nowhere
+ln -s itself elsewhere/part/itself
+same 'a circle of links, and links that lead nowhere and to themselves'
+rm src/main/java/part elsewhere/part/circle elsewhere/part/nowhere elsewhere/part/itself
 mkdir src/main/java/part
 ln -s ../../../../elsewhere/part/Part.java src/main/java/part/Part.java
 same 'a link to a file of sources'

@@ -1,6 +1,9 @@
 // The files below a folder of the system. Links are followed; a folder isn't entered again on the way down from itself, so that a
 // circle of links ends where it closes.
-ghost use Rattle.std.specs.Prelude.{◌≡◌};
+ghost use Rattle.std.specs.Prelude.{◌≡◌, ◌≤◌, vec_len, IfOk};
+ghost use Rattle.std.specs.Ordering.{nat_cmp};
+ghost use Rattle.std.specs.Cmp.Lexicographic.{slice_cmp};
+ghost use Rattle.std.specs.List.Sorted.{IsSorted};
 ghost use Rattle.outside_real.specs.Walk.{behind, is_known_as, is_on_way};
 
 use crate::fault::{fault_of, is_absent};
@@ -85,11 +88,14 @@ struct Walk<'a, R: rt::Files + AllocGlobal + Clone + Drop> {
     most: usize,
     files: Vec<Text>,
     folders: Vec<Folder>,
+    ghost few: { vec_len files ≤ most },
 }
 
 impl<'a, R: rt::Files + AllocGlobal + Clone + Drop> Walk<'a, R> {
     // Takes a file in.
-    fn take_file(&mut self, path: Text) -> Result<(), ListFault> {
+    fn take_file(&mut self, path: Text) -> Result<(), ListFault>
+        ensures { self.new.most ≡ self.old.most }
+    {
         if self.files.len() >= self.most {
             return Err(ListFault::TooMany);
         }
@@ -102,7 +108,9 @@ impl<'a, R: rt::Files + AllocGlobal + Clone + Drop> Walk<'a, R> {
         path: Text,
         above: Option<usize>,
         metadata: &Metadata,
-    ) -> Result<(), ListFault> {
+    ) -> Result<(), ListFault>
+        ensures { self.new.most ≡ self.old.most }
+    {
         let (device, number) = (metadata.dev(), metadata.ino());
         if is_on_way(self.folders.as_slice(), above, device, number) {
             return Ok(());
@@ -120,7 +128,9 @@ impl<'a, R: rt::Files + AllocGlobal + Clone + Drop> Walk<'a, R> {
     }
 
     // Takes in what stands at a path, links followed. What is neither a file nor a folder, as a link that leads nowhere, is left out.
-    fn take(&mut self, path: Text, above: usize) -> Result<(), ListFault> {
+    fn take(&mut self, path: Text, above: usize) -> Result<(), ListFault>
+        ensures { self.new.most ≡ self.old.most }
+    {
         let full = full_path(self.rt.alloc(), self.root, path.as_str())?;
         let Some(metadata) = behind(self.rt.metadata(full.as_str()))? else {
             return Ok(());
@@ -135,7 +145,9 @@ impl<'a, R: rt::Files + AllocGlobal + Clone + Drop> Walk<'a, R> {
     }
 
     // Takes in the folder to begin with, where one stands there.
-    fn begin(&mut self, folder: &str) -> Result<(), ListFault> {
+    fn begin(&mut self, folder: &str) -> Result<(), ListFault>
+        ensures { self.new.most ≡ self.old.most }
+    {
         let alloc = self.rt.alloc();
         let full = full_path(alloc, self.root, folder)?;
         let Some(metadata) = found(self.rt, full.as_str())? else {
@@ -148,7 +160,9 @@ impl<'a, R: rt::Files + AllocGlobal + Clone + Drop> Walk<'a, R> {
     }
 
     // Takes in what a folder has.
-    fn look_into(&mut self, folder: &str, place: usize) -> Result<(), ListFault> {
+    fn look_into(&mut self, folder: &str, place: usize) -> Result<(), ListFault>
+        ensures { self.new.most ≡ self.old.most }
+    {
         let alloc = self.rt.alloc();
         let full = full_path(alloc, self.root, folder)?;
         let entries = fs::read_dir(self.rt, full.as_str()).map_err(|e| ListFault::from(fault_of(
@@ -164,7 +178,9 @@ impl<'a, R: rt::Files + AllocGlobal + Clone + Drop> Walk<'a, R> {
     }
 
     // Looks into the folder at a place, if there is one.
-    fn step(&mut self, place: usize) -> Result<bool, ListFault> {
+    fn step(&mut self, place: usize) -> Result<bool, ListFault>
+        ensures { self.new.most ≡ self.old.most }
+    {
         let Some(folder) = self.folders.get(place) else {
             return Ok(false);
         };
@@ -183,7 +199,10 @@ pub(crate) fn files_below<R: rt::Files + AllocGlobal + Clone + Drop>(
     root: &str,
     folder: &str,
     most: usize,
-) -> Result<Vec<Text>, ListFault> {
+) -> Result<Vec<Text>, ListFault>
+    ensures few { IfOk result (λ files. vec_len files ≤ most) }
+    ensures sorted { IfOk result (λ files. IsSorted (slice_cmp nat_cmp) files.items) }
+{
     let alloc = rt.alloc();
     let mut walk = Walk {
         rt,

@@ -1,0 +1,4 @@
+pub mod Kept
+pub mod Paths
+pub mod Growing
+pub mod Lengths

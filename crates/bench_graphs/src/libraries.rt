@@ -1,3 +1,7 @@
+ghost use Rattle.std.specs.Prelude.{◌≡◌, ◌≤◌, ◌∷◌, ◌++◌, length, IfOk, IfSome};
+ghost use Rattle.std.specs.Option.{option_copied};
+ghost use Rattle.bench_graphs.specs.Held.{known_of, short, told_of};
+
 use mediation::{Known, Lookup, LookupFault};
 use model_types::Model;
 use mvn_base::Gav;
@@ -15,29 +19,65 @@ pub struct Listed {
 }
 
 /// What an artifact's versions are kept under.
-pub fn name_of(group: &Text, artifact: &Text) -> Mem<Text> {
+pub fn name_of(group: &Text, artifact: &Text) -> Mem<Text>
+    ensures { IfOk result (λ name. name ≡ group.now ++ 58 ∷ artifact.now) }
+{
     let mut name = group.clone()?;
     name.push_str(":")?;
     name.push_str(artifact.as_str())?;
     Ok(name)
 }
 
-// It tells nothing, and never fails but for want of memory.
-impl Lookup for Listed {
-    ghost use Rattle.mediation.specs.Libraries.{Libraries};
+/// The greatest number of versions of an artifact that are told. Project rule.
+const MOST_VERSIONS: usize = 4096;
 
-    ghost fits = { λ _ _. ⊥ };
+// What is known of a coordinate's POM.
+fn known(found: Option<&Shared<Model>>) -> Mem<Known>
+    ensures { IfOk result (λ known. known ≡ known_of (option_copied found)) }
+{
+    match found {
+        Some(model) => Ok(Known::Model(model.share()?)),
+        None => Ok(Known::Missing),
+    }
+}
+
+// A copy of a list, unless it is too long.
+fn short(list: &List<Text>) -> Mem<Option<List<Text>>>
+    ensures same { IfOk result (λ copy. copy ≡ short list.now) }
+    ensures few { IfOk result (λ copy. IfSome copy (λ all. length all ≤ 4096)) }
+{
+    if MOST_VERSIONS < list.len() {
+        return Ok(None);
+    }
+    Ok(Some(list.clone()?))
+}
+
+// What is told of an artifact's versions.
+fn told(alloc: Global, found: Option<&List<Text>>) -> Mem<Option<List<Text>>>
+    ensures same { IfOk result (λ copy. copy ≡ told_of (option_copied found)) }
+    ensures few { IfOk result (λ copy. IfSome copy (λ all. length all ≤ 4096)) }
+{
+    match found {
+        Some(list) => short(list),
+        None => Ok(Some(List::new(alloc))),
+    }
+}
+
+// It tells what it holds, and never fails but for want of memory.
+impl Lookup for Listed {
+    ghost use Rattle.std.specs.Prelude.{List as Items, ℕ};
+    ghost use Rattle.std.specs.HashMap.{get};
+    ghost use Rattle.std.specs.Str.{bytes_eq};
+    ghost use Rattle.mvn_base.specs.declared.gav.Gav as gavs;
+    ghost use Rattle.bench_graphs.specs.Held.{Fits, gav_eq};
+
+    ghost fits = { λ listed libraries. Fits (λ (gav : gavs.Gav). get gav_eq listed.models gav)
+        (λ (name : Items ℕ). get bytes_eq listed.versions name) libraries };
 
     ghost faults = { λ _. 0 };
 
     fn model(&mut self, gav: &Gav) -> Result<Known, LookupFault> {
-        match self.models.get(gav) {
-            Some(model) => match model.share() {
-                Ok(model) => Ok(Known::Model(model)),
-                Err(_) => Err(LookupFault::Memory),
-            },
-            None => Ok(Known::Missing),
-        }
+        Ok(known(self.models.get(gav))?)
     }
 
     fn versions(
@@ -45,15 +85,7 @@ impl Lookup for Listed {
         group: &Text,
         artifact: &Text,
     ) -> Result<Option<List<Text>>, LookupFault> {
-        let Ok(name) = name_of(group, artifact) else {
-            return Err(LookupFault::Memory);
-        };
-        match self.versions.get(&name) {
-            Some(list) => match list.clone() {
-                Ok(list) => Ok(Some(list)),
-                Err(_) => Err(LookupFault::Memory),
-            },
-            None => Ok(Some(List::new(self.alloc))),
-        }
+        let name = name_of(group, artifact)?;
+        Ok(told(self.alloc, self.versions.get(&name))?)
     }
 }

@@ -33,7 +33,7 @@ module _ (libraries : Libraries) where
   at_sum : (a b : ℕ) → suc a + b ≡ a + suc b
   at_sum a b = omega arith
 
-  reasons_behind : (place : ℕ) (xs ys : List Path) → first_reason libraries place (xs ++ ys) ≡ option_or (first_reason libraries place xs) (first_reason libraries (place + length xs) ys)
+  pub reasons_behind : (place : ℕ) (xs ys : List Path) → first_reason libraries place (xs ++ ys) ≡ option_or (first_reason libraries place xs) (first_reason libraries (place + length xs) ys)
   reasons_behind place [] ys = ap (λ n. first_reason libraries n ys) (here place)
     where
       here : (n : ℕ) → n ≡ n + 0

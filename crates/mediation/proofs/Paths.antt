@@ -17,7 +17,7 @@ folded paths (r ∷ rows) w = folded (add_path paths r) rows w
 pub path_more : (rows : List Winner) (w : Winner) → paths_of (rows ++ w ∷ []) ≡ paths_of rows ++ (w.edge ∷ path_above (paths_of rows) w.edge w.above) ∷ []
 path_more rows w = folded [] rows w
 
-length_more : (paths : List Path) (p : Path) → length (paths ++ p ∷ []) ≡ length paths + 1
+pub length_more : (paths : List Path) (p : Path) → length (paths ++ p ∷ []) ≡ length paths + 1
 length_more paths p = omega (arith, length-append paths (p ∷ []))
 
 length_folded : (paths : List Path) (rows : List Winner) → length (fold add_path paths rows) ≡ length paths + length rows
@@ -39,7 +39,7 @@ pub above_is : (paths : List Path) (e : Edge) (above : Option ℕ) (front : Path
 above_is paths e None front is = sym is
 above_is paths e (Some place) front is = ap (λ o. unwrap_or o (e ∷ [])) is
 
-got_more : (paths more : List Path) (k : ℕ) (p : Path) → slice_get paths k ≡ Some p → slice_get (paths ++ more) k ≡ Some p
+pub got_more : (paths more : List Path) (k : ℕ) (p : Path) → slice_get paths k ≡ Some p → slice_get (paths ++ more) k ≡ Some p
 got_more [] more k p is = absurd (none is)
   where
     none : None ≡ Some p → ⊥

@@ -21,7 +21,7 @@ is_faulty (Err (fault.Refused rule place)) = false
 is_faulty (Err fault.Lookup) = true
 is_faulty (Err fault.Memory) = false
 
--- a call answers the value that its definition gives, or fails with the refusal that it gives; of other faults nothing is said
+-- a call answers the value that its definition gives, or the refusal that it gives; of other faults nothing is said
 abbrev pub Says : {T : Type 0} → Result T Reason → Result T MediationFault → Type 0
 Says said (Ok value) = said ≡ Ok value
 Says said (Err (fault.Refused rule place)) = said ≡ Err (rule, place)

@@ -1,6 +1,7 @@
 -- What a project's dependencies lead to among the libraries there are. Introduction to the Dependency Mechanism; POM
 -- Reference, "Dependency Version Requirement Specification".
-use Rattle.std.specs.Prelude.{◌≡◌, ℕ, suc, Bool, true, ◌&&◌, List, [], ◌∷◌, ◌++◌, fold, codes, Option, Some, None, Result, Ok, Err, nat_lt, if◌then◌else◌}
+use Rattle.std.specs.Prelude.{◌≡◌, ℕ, suc, Bool, true, ◌&&◌, List, [], ◌∷◌, ◌++◌, find, not, codes, Option, Some, None, Result, Ok, Err, nat_lt, if◌then◌else◌}
+use Rattle.std.specs.List.{list_any}
 use Rattle.std.specs.Ordering.{is_gt}
 use Rattle.version_order.specs.Order.{version_cmp}
 use Rattle.version_order.specs.Requirements.{admits, requirement}
@@ -23,22 +24,21 @@ pub record Libraries : Type 0 where
   pub at : Gav → Known
   pub versions : (group artifact : List ℕ) → Option (List (List ℕ))
 
--- a version is better than the one so far: it is admitted, and greater
-abbrev pub is_above : Option (List ℕ) → List ℕ → Bool
-is_above None version = true
-is_above (Some best) version = is_gt (version_cmp version best)
+-- an admitted version is greater
+abbrev pub is_exceeded : Requirement → List (List ℕ) → List ℕ → Bool
+is_exceeded r versions version =
+    list_any (λ v. admits r v && is_gt (version_cmp v version)) versions
 
-abbrev pub is_better : Requirement → Option (List ℕ) → List ℕ → Bool
-is_better r best version = admits r version && is_above best version
+-- it is admitted, and none that is admitted is greater
+abbrev pub is_greatest : Requirement → List (List ℕ) → List ℕ → Bool
+is_greatest r versions version = admits r version && not (is_exceeded r versions version)
 
-abbrev pub better : Requirement → Option (List ℕ) → List ℕ → Option (List ℕ)
-better r best version = if is_better r best version then Some version else best
-
--- the greatest admitted version, the first among equals
+-- the first of those
 abbrev pub highest : Requirement → List (List ℕ) → Option (List ℕ)
-highest r versions = fold (better r) None versions
+highest r versions = find (is_greatest r versions) versions
 
--- the version that a requirement takes: its own, or the highest available one that it admits
+-- the version that a requirement takes: its own, or the highest available one that it admits; a text that is no
+-- requirement admits none
 abbrev pub found : Key → Option (List ℕ) → Result (List ℕ) Reason
 found key None = Err (EmptyRange, key_text key)
 found key (Some version) = Ok version
@@ -49,7 +49,8 @@ among key r (Some versions) = found key (highest r versions)
 
 abbrev pub required : Libraries → Key → Result Requirement ℕ → Result (List ℕ) Reason
 required libraries key (Ok (Soft version)) = Ok version
-required libraries key (Ok (Hard intervals)) = among key (Hard intervals) (libraries.versions key.group key.artifact)
+required libraries key (Ok (Hard intervals)) =
+    among key (Hard intervals) (libraries.versions key.group key.artifact)
 required libraries key (Err place) = Err (EmptyRange, key_text key)
 
 unfoldable pub picked : Libraries → Edge → Result (List ℕ) Reason
@@ -57,7 +58,8 @@ picked libraries e = required libraries e.key (requirement e.requirement)
 
 -- the version of the winner at a place, where there is room for it
 unfoldable pub chosen : Libraries → ℕ → Edge → Result (List ℕ) Reason
-chosen libraries place e = if nat_lt place 16384 then picked libraries e else Err (GraphTooLarge, codes "keys")
+chosen libraries place e =
+    if nat_lt place 16384 then picked libraries e else Err (GraphTooLarge, codes "keys")
 
 -- the coordinate of a version, and what its POM declares
 abbrev pub gav_of : Key → List ℕ → Gav
@@ -68,8 +70,10 @@ declarations (Model m) = m.base.dependencies
 declarations known = []
 
 -- what an edge's end leads to, at the version that is picked for it
-abbrev pub leads_to : Libraries → List (Key × Dependency) → Edge → Result (List ℕ) Reason → List Edge
-leads_to libraries managed e (Ok version) = transitive_edges (declarations (libraries.at (gav_of e.key version))) managed e.exclusions
+abbrev pub leads_to : Libraries → List (Key × Dependency) → Edge → Result (List ℕ) Reason
+    → List Edge
+leads_to libraries managed e (Ok version) =
+    transitive_edges (declarations (libraries.at (gav_of e.key version))) managed e.exclusions
 leads_to libraries managed e (Err refusal) = []
 
 abbrev pub graph_of : Libraries → List (Key × Dependency) → List Dependency → Graph

@@ -1,4 +1,4 @@
-ghost use Rattle.std.specs.Prelude.{◌≡◌, ℕ, Ok, IfOk};
+ghost use Rattle.std.specs.Prelude.{◌≡◌, ◌≤◌, ℕ, Ok, length, IfOk, IfSome};
 ghost use Rattle.mvn_shared.specs.Cause.{HasCause};
 ghost use Rattle.mediation.specs.Faults.{Says, is_faulty, lookup_failed};
 ghost use Rattle.mediation.specs.Libraries.{Libraries};
@@ -52,6 +52,7 @@ pub trait Lookup {
     fn versions(&mut self, group: &Text, artifact: &Text) -> Result<Option<List<Text>>, LookupFault>
         ensures tells { (libraries : Libraries) → fits self.old libraries
             → IfOk result (λ list. list ≡ libraries.versions group.now artifact.now) }
+        ensures few { IfOk result (λ list. IfSome list (λ all. length all ≤ 4096)) }
         ensures same { (libraries : Libraries) → fits self.old libraries → fits self.new libraries }
         ensures cause { HasCause (faults self.old) (faults self.new) (lookup_failed result) };
 }
@@ -60,7 +61,8 @@ pub trait Lookup {
 pub fn ask_model<L: Lookup>(lookup: &mut L, gav: &Gav) -> Result<Known, MediationFault>
     ensures tells { (libraries : Libraries) → L.fits lookup.old libraries
         → Says (Ok (libraries.at gav.now)) result }
-    ensures same { (libraries : Libraries) → L.fits lookup.old libraries → L.fits lookup.new libraries }
+    ensures same { (libraries : Libraries) → L.fits lookup.old libraries
+        → L.fits lookup.new libraries }
     ensures cause { HasCause (L.faults lookup.old) (L.faults lookup.new) (is_faulty result) }
 {
     match lookup.model(gav) {
@@ -78,7 +80,9 @@ pub fn ask_versions<L: Lookup>(
 ) -> Result<Option<List<Text>>, MediationFault>
     ensures tells { (libraries : Libraries) → L.fits lookup.old libraries
         → Says (Ok (libraries.versions group.now artifact.now)) result }
-    ensures same { (libraries : Libraries) → L.fits lookup.old libraries → L.fits lookup.new libraries }
+    ensures few { IfOk result (λ list. IfSome list (λ all. length all ≤ 4096)) }
+    ensures same { (libraries : Libraries) → L.fits lookup.old libraries
+        → L.fits lookup.new libraries }
     ensures cause { HasCause (L.faults lookup.old) (L.faults lookup.new) (is_faulty result) }
 {
     match lookup.versions(group, artifact) {

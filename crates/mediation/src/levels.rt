@@ -31,7 +31,8 @@ fn decide<L: Lookup>(
     ensures adds { (libraries : Libraries) (front : Path) → L.fits lookup.old libraries
         → Leads (paths_of winners.old) above front
         → Adds libraries winners.old winners.new ((edge ∷ front) ∷ []) result }
-    ensures same { (libraries : Libraries) → L.fits lookup.old libraries → L.fits lookup.new libraries }
+    ensures same { (libraries : Libraries) → L.fits lookup.old libraries
+        → L.fits lookup.new libraries }
     ensures cause { HasCause (L.faults lookup.old) (L.faults lookup.new) (is_faulty result) }
 {
     if winners.has(&edge.key) {
@@ -61,7 +62,8 @@ fn add_edges<L: Lookup>(
     ensures adds { (libraries : Libraries) (front : Path) → L.fits lookup.old libraries
         → Leads (paths_of winners.old) above front
         → Adds libraries winners.old winners.new (map (λ e. e ∷ front) edges) result }
-    ensures same { (libraries : Libraries) → L.fits lookup.old libraries → L.fits lookup.new libraries }
+    ensures same { (libraries : Libraries) → L.fits lookup.old libraries
+        → L.fits lookup.new libraries }
     ensures cause { HasCause (L.faults lookup.old) (L.faults lookup.new) (is_faulty result) }
 {
     for edge in edges.into_vec() {
@@ -77,7 +79,8 @@ fn add_edges<L: Lookup>(
 fn known_at<L: Lookup>(lookup: &mut L, winner: &Winner) -> Result<Known, MediationFault>
     ensures says { (libraries : Libraries) → L.fits lookup.old libraries
         → Says (Ok (libraries.at (gav_of winner.now.edge.key winner.now.version))) result }
-    ensures same { (libraries : Libraries) → L.fits lookup.old libraries → L.fits lookup.new libraries }
+    ensures same { (libraries : Libraries) → L.fits lookup.old libraries
+        → L.fits lookup.new libraries }
     ensures cause { HasCause (L.faults lookup.old) (L.faults lookup.new) (is_faulty result) }
 {
     let gav = coordinate(&winner.edge.key, &winner.version)?;
@@ -105,7 +108,8 @@ fn edges_of(
     managed: &ManagedSet,
     cut: &Shared<List<Exclusion>>,
 ) -> Mem<List<Edge>>
-    ensures { IfOk result (λ list. list ≡ transitive_edges (declarations known.now) managed.now cut.now) }
+    ensures { IfOk result (λ list.
+        list ≡ transitive_edges (declarations known.now) managed.now cut.now) }
 {
     match known {
         Known::Model(model) => edges(alloc, model.base.dependencies.as_slice(), managed, cut),
@@ -122,8 +126,10 @@ fn edges_at<L: Lookup>(
     winner: &Winner,
 ) -> Result<List<Edge>, MediationFault>
     ensures says { (libraries : Libraries) → L.fits lookup.old libraries
-        → Says (Ok (leads_to libraries managed.now winner.now.edge (Ok winner.now.version))) result }
-    ensures same { (libraries : Libraries) → L.fits lookup.old libraries → L.fits lookup.new libraries }
+        → Says (Ok (leads_to libraries managed.now winner.now.edge
+        (Ok winner.now.version))) result }
+    ensures same { (libraries : Libraries) → L.fits lookup.old libraries
+        → L.fits lookup.new libraries }
     ensures cause { HasCause (L.faults lookup.old) (L.faults lookup.new) (is_faulty result) }
 {
     match known_at(lookup, winner) {
@@ -140,11 +146,14 @@ fn expand<L: Lookup>(
     winners: &mut Winners,
     place: usize,
 ) -> Result<(), MediationFault>
-    ensures adds { (libraries : Libraries) (direct : logic.List dependencies.Dependency) → L.fits lookup.old libraries
+    ensures adds { (libraries : Libraries) (direct : logic.List dependencies.Dependency)
+        → L.fits lookup.old libraries
         → All (IsPicked libraries) winners.old
         → Adds libraries winners.old winners.new
-        (flat_map (longer (graph_of libraries managed.now direct)) (option_to_list (slice_get (paths_of winners.old) place))) result }
-    ensures same { (libraries : Libraries) → L.fits lookup.old libraries → L.fits lookup.new libraries }
+        (flat_map (longer (graph_of libraries managed.now direct))
+        (option_to_list (slice_get (paths_of winners.old) place))) result }
+    ensures same { (libraries : Libraries) → L.fits lookup.old libraries
+        → L.fits lookup.new libraries }
     ensures cause { HasCause (L.faults lookup.old) (L.faults lookup.new) (is_faulty result) }
 {
     let Some(winner) = winners.get(place) else {
@@ -166,11 +175,14 @@ fn add_level<L: Lookup>(
     to: usize,
 ) -> Result<(), MediationFault>
     requires { to ≡ length winners.old }
-    ensures adds { (libraries : Libraries) (direct : logic.List dependencies.Dependency) → L.fits lookup.old libraries
+    ensures adds { (libraries : Libraries) (direct : logic.List dependencies.Dependency)
+        → L.fits lookup.old libraries
         → All (IsPicked libraries) winners.old
         → Adds libraries winners.old winners.new
-        (flat_map (longer (graph_of libraries managed.now direct)) (drop from (paths_of winners.old))) result }
-    ensures same { (libraries : Libraries) → L.fits lookup.old libraries → L.fits lookup.new libraries }
+        (flat_map (longer (graph_of libraries managed.now direct))
+        (drop from (paths_of winners.old))) result }
+    ensures same { (libraries : Libraries) → L.fits lookup.old libraries
+        → L.fits lookup.new libraries }
     ensures cause { HasCause (L.faults lookup.old) (L.faults lookup.new) (is_faulty result) }
 {
     for place in from..to {
@@ -182,12 +194,14 @@ fn add_level<L: Lookup>(
     Ok(())
 }
 
-/// The winners of a project: of each key the nearest declaration, and of those the first. A project's own declaration
-/// so wins always. A winner leads to what its POM declares, at the version that is picked for it; a POM that is missing
-/// or refused leads to nothing. Refused by the first winner, by length and positions, that has no version or for which
-/// there is no room: where a range admits no available version, where more than 4,096 versions are available, and at
-/// the 16,385th winner. Costs a look-up and the texts of each declaration on the average; each list of versions is
-/// parsed once for each winner with a range. Introduction to the Dependency Mechanism, "Dependency mediation".
+/// The winners of a project: of each key the nearest declaration, and of those the first. A project's own declaration so
+/// wins always. A winner leads to what its POM declares, at the version that is picked for it; a POM that is missing or
+/// refused leads to nothing. Refused by the first winner, by length and positions, that has no version or for which there
+/// is no room: where a range admits no available version, where what is required of the version is no requirement, where
+/// more than 4,096 versions are available, and at the 16,385th winner, whose versions aren't looked up. `Lookup` comes
+/// only where the look-up failed. Costs a look-up for each winner, and the texts of each declaration on the average; for
+/// each winner with a range one look-up more, and each available version is parsed once. Introduction to the Dependency
+/// Mechanism, "Dependency mediation".
 pub fn find_winners<L: Lookup>(
     alloc: Global,
     direct: &[Shared<Dependency>],
@@ -196,7 +210,8 @@ pub fn find_winners<L: Lookup>(
 ) -> Result<Winners, MediationFault>
     ensures resolves { (libraries : Libraries) → L.fits lookup.old libraries
         → Resolves libraries (graph_of libraries managed.now direct.now) result }
-    ensures same { (libraries : Libraries) → L.fits lookup.old libraries → L.fits lookup.new libraries }
+    ensures same { (libraries : Libraries) → L.fits lookup.old libraries
+        → L.fits lookup.new libraries }
     ensures cause { HasCause (L.faults lookup.old) (L.faults lookup.new) (is_faulty result) }
 {
     let mut winners = Winners::new(alloc);

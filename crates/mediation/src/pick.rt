@@ -1,9 +1,9 @@
-ghost use Rattle.std.specs.Prelude.{◌≡◌, ◌∷◌, ◌++◌, Ok, Err, codes, false, ◌<◌, IfOk, OnOk};
+ghost use Rattle.std.specs.Prelude.{◌≡◌, ◌∷◌, ◌++◌, Ok, Err, codes, false, length, ◌<◌, ◌≤◌, IfOk, IfSome, OnOk};
 ghost use Rattle.mvn_base.specs.Key.{key_text};
 ghost use Rattle.mvn_base.specs.declared.rule.Rule.TheVariants.{EmptyRange, GraphTooLarge};
 ghost use Rattle.mvn_shared.specs.Cause.{HasCause};
 ghost use Rattle.mediation.specs.Faults.{Says, is_faulty};
-ghost use Rattle.mediation.specs.Libraries.{Libraries, among, chosen, found, highest, is_above, is_better, picked};
+ghost use Rattle.mediation.specs.Libraries.{Libraries, among, chosen, found, highest, picked};
 
 use crate::fault::MediationFault;
 use crate::known::{Lookup, ask_versions};
@@ -16,35 +16,28 @@ use version_order::{Requirement, RequirementError, Version};
 /// The greatest number of winners of one project. Project rule.
 const MOST_WINNERS: usize = 16_384;
 
-// Whether a version is greater than the best one so far.
-fn is_above(best: &Option<Version>, version: &Version) -> bool
-    ensures { result ≡ is_above best.now version.now }
+// The versions of texts.
+fn parsed(alloc: Global, texts: &[Text]) -> Mem<Vec<Version>>
+    ensures { IfOk result (λ versions. versions.items ≡ texts.now) }
 {
-    match best {
-        Some(best) => version.order(best).is_gt(),
-        None => true,
+    let mut versions = Vec::new(alloc);
+    for text in texts {
+        versions.push(Version::parse(alloc, text)?)?;
     }
-}
-
-// Whether it is admitted besides.
-fn is_better(requirement: &Requirement, best: &Option<Version>, version: &Version) -> bool
-    ensures { result ≡ is_better requirement.now best.now version.now }
-{
-    requirement.admits(version) && is_above(best, version)
+    Ok(versions)
 }
 
 // The greatest admitted version, the first among equals.
-fn highest(alloc: Global, requirement: &Requirement, texts: &[Text]) -> Mem<Option<Version>>
+#[tactic(auto, using(crate::proofs::Greatest::highest_there, crate::proofs::Greatest::highest_missing))]
+fn highest(alloc: Global, requirement: &Requirement, texts: &[Text]) -> Mem<Option<Text>>
+    requires { length texts.now ≤ 4096 }
     ensures { IfOk result (λ best. best ≡ highest requirement.now texts.now) }
 {
-    let mut best = None;
-    for text in texts {
-        let version = Version::parse(alloc, text)?;
-        if is_better(requirement, &best, &version) {
-            best = Some(version);
-        }
+    let versions = parsed(alloc, texts)?;
+    match requirement.highest(&versions) {
+        Some(place) => Ok(Some(texts[place as usize].clone()?)),
+        None => Ok(None),
     }
-    Ok(best)
 }
 
 // No available version is admitted.
@@ -94,12 +87,12 @@ fn too_many_winners(alloc: Global) -> Result<Text, MediationFault>
 }
 
 // The version that was found, or else the refusal.
-fn found(alloc: Global, key: &Key, version: Option<Version>) -> Result<Text, MediationFault>
+fn found(alloc: Global, key: &Key, version: Option<Text>) -> Result<Text, MediationFault>
     ensures says { Says (found key.now version) result }
     ensures blameless { is_faulty result ≡ false }
 {
     match version {
-        Some(version) => Ok(Text::from_str(alloc, version.as_text().as_str())?),
+        Some(version) => Ok(version),
         None => empty_range(alloc, key),
     }
 }
@@ -111,6 +104,7 @@ fn among(
     requirement: &Requirement,
     list: Option<List<Text>>,
 ) -> Result<Text, MediationFault>
+    requires { IfSome list (λ all. length all ≤ 4096) }
     ensures says { Says (among key.now requirement.now list) result }
     ensures blameless { is_faulty result ≡ false }
 {
@@ -131,8 +125,10 @@ fn ranged<L: Lookup>(
     requirement: &Requirement,
 ) -> Result<Text, MediationFault>
     ensures says { (libraries : Libraries) → L.fits lookup.old libraries
-        → Says (among key.now requirement.now (libraries.versions key.now.group key.now.artifact)) result }
-    ensures same { (libraries : Libraries) → L.fits lookup.old libraries → L.fits lookup.new libraries }
+        → Says (among key.now requirement.now
+        (libraries.versions key.now.group key.now.artifact)) result }
+    ensures same { (libraries : Libraries) → L.fits lookup.old libraries
+        → L.fits lookup.new libraries }
     ensures cause { HasCause (L.faults lookup.old) (L.faults lookup.new) (is_faulty result) }
 {
     match ask_versions(lookup, &key.group, &key.artifact) {
@@ -144,8 +140,10 @@ fn ranged<L: Lookup>(
 // The version that an edge's requirement takes.
 #[tactic(auto, unfolding(crate::specs::Libraries::picked))]
 fn picked<L: Lookup>(alloc: Global, lookup: &mut L, edge: &Edge) -> Result<Text, MediationFault>
-    ensures says { (libraries : Libraries) → L.fits lookup.old libraries → Says (picked libraries edge.now) result }
-    ensures same { (libraries : Libraries) → L.fits lookup.old libraries → L.fits lookup.new libraries }
+    ensures says { (libraries : Libraries) → L.fits lookup.old libraries
+        → Says (picked libraries edge.now) result }
+    ensures same { (libraries : Libraries) → L.fits lookup.old libraries
+        → L.fits lookup.new libraries }
     ensures cause { HasCause (L.faults lookup.old) (L.faults lookup.new) (is_faulty result) }
 {
     match Requirement::parse(alloc, &edge.requirement) {
@@ -166,8 +164,10 @@ pub fn chosen<L: Lookup>(
     place: usize,
     edge: &Edge,
 ) -> Result<Text, MediationFault>
-    ensures says { (libraries : Libraries) → L.fits lookup.old libraries → Says (chosen libraries place edge.now) result }
-    ensures same { (libraries : Libraries) → L.fits lookup.old libraries → L.fits lookup.new libraries }
+    ensures says { (libraries : Libraries) → L.fits lookup.old libraries
+        → Says (chosen libraries place edge.now) result }
+    ensures same { (libraries : Libraries) → L.fits lookup.old libraries
+        → L.fits lookup.new libraries }
     ensures cause { HasCause (L.faults lookup.old) (L.faults lookup.new) (is_faulty result) }
     ensures room { OnOk result (place < 16384) }
 {

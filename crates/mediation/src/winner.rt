@@ -42,7 +42,7 @@ impl Model for Winners {
 
 impl Winners {
     // No winner yet.
-    pub fn new(alloc: Global) -> Winners
+    pub(crate) fn new(alloc: Global) -> Winners
         ensures { result ≡ [] }
     {
         Winners {
@@ -51,14 +51,14 @@ impl Winners {
     }
 
     // Whether a key has its winner.
-    pub fn has(&self, key: &Key) -> bool
+    pub(crate) fn has(&self, key: &Key) -> bool
         ensures { result ≡ is_some (row_of self.now key.now) }
     {
         self.index.contains_key(key)
     }
 
     // One winner more, of a key that has none.
-    pub fn push(&mut self, winner: Winner) -> Mem<()>
+    pub(crate) fn push(&mut self, winner: Winner) -> Mem<()>
         requires new { row_of self.old winner.edge.key ≡ None }
         requires room { length self.old < 16384 }
         ensures { OnOk result (self.new ≡ self.old ++ winner ∷ []) }

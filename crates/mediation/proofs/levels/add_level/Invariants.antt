@@ -1,10 +1,11 @@
-use Rattle.std.proofs.Common.{◌≡◌, ℕ, ◌<◌, List, drop, flat_map, length, Result, Some, slice_get, All}
+use Rattle.std.proofs.Common.{◌≡◌, List, drop, flat_map, Result, All}
 use Rattle.model_types.specs.declared.dependency.Dependency.{Dependency}
 use Rattle.mediation.specs.declared.fault.MediationFault.{MediationFault}
 use Rattle.mediation.specs.declared.winner.Winner.{Winner}
 use Rattle.mediation.specs.Libraries.{Libraries, graph_of}
 use Rattle.mediation.specs.Rows.{Adds, IsPicked, paths_of}
-use Rattle.winner_law.specs.Winners.{Path, longer}
+use Rattle.winner_law.specs.Winners.{longer}
+use Rattle.mediation.proofs.Places.{Stands}
 use Rattle.mediation.proofs.levels.add_level.Given as goal
 
 -- what the rest of the level adds, the level adds
@@ -15,8 +16,7 @@ invariant-loop-place g l = record {
       → Adds libraries l.winners new (flat_map (longer (graph_of libraries l.managed direct)) (drop l.place (paths_of l.initial.winners))) result
       → Adds libraries l.initial.winners new (flat_map (longer (graph_of libraries l.managed direct)) (drop l.from (paths_of l.initial.winners))) result;
   versions : (libraries : Libraries) → g.L.Lookup.fits l.initial.lookup libraries → All (IsPicked libraries) l.initial.winners → All (IsPicked libraries) l.winners;
-  before : (libraries : Libraries) → g.L.Lookup.fits l.initial.lookup libraries → All (IsPicked libraries) l.initial.winners
-      → (k : ℕ) (p : Path) → slice_get (paths_of l.initial.winners) k ≡ Some p → slice_get (paths_of l.winners) k ≡ Some p;
+  before : (libraries : Libraries) → g.L.Lookup.fits l.initial.lookup libraries → All (IsPicked libraries) l.initial.winners → Stands l.initial.winners l.winners;
   fit : (libraries : Libraries) → g.L.Lookup.fits l.initial.lookup libraries → g.L.Lookup.fits l.lookup libraries;
   faults : g.L.Lookup.faults l.lookup ≡ g.L.Lookup.faults l.initial.lookup;
 }

@@ -1,10 +1,11 @@
 -- How winners grow, path by path.
 use Rattle.std.proofs.Common.{◌≡◌, ◌≤◌, ◌<◌, ◌+◌, ℕ, zero, suc, Bool, true, false, List, [], ◌∷◌, ◌++◌, length, Option, Some, None, is_some, Result, Ok, Err, refl, sym, ap, subst, ◌∙◌, cond, arith, if◌then◌else◌, append-nil, append_assoc, length-append, All, inl, inr}
 use Rattle.std.specs.Option.{option_or}
-use Rattle.std.specs.Prelude.{nat_lt}
+use Rattle.std.specs.Prelude.{codes, nat_lt}
 use Rattle.std.proofs.lemmas.Bool.{false≢true}
 use Rattle.std.proofs.lemmas.List.Elements.{All-push}
 use Rattle.mvn_base.specs.declared.key.Key.{Key}
+use Rattle.mvn_base.specs.declared.rule.Rule.TheVariants.{GraphTooLarge}
 use Rattle.collector.specs.declared.edge.Edge.{Edge}
 use Rattle.mediation.specs.declared.fault.MediationFault.{MediationFault}
 use Rattle.mediation.specs.declared.fault.MediationFault.TheVariants.{Refused, Lookup, Memory}
@@ -78,7 +79,7 @@ module _ (libraries : Libraries) where
   early o rest r is = ap (λ o. option_or o rest) is
 
   -- what is refused stays refused, whatever comes behind it
-  pub refused_early : {T U : Type 0} (old new other : List Winner) (xs ys : List Path) (fault : MediationFault) → Adds {T = T} libraries old new xs (Err fault) → Adds {T = U} libraries old other (xs ++ ys) (Err fault)
+  pub refused_early : (old new other : List Winner) (xs ys : List Path) (fault : MediationFault) → Adds {T = Unit {0}} libraries old new xs (Err fault) → Adds {T = Unit {0}} libraries old other (xs ++ ys) (Err fault)
   refused_early old new other xs ys (Refused rule place) is =
       let won = paths_of old in
       ap (λ l. first_reason libraries (length won) l) (firsts_joined won xs ys)
@@ -112,14 +113,14 @@ module _ (libraries : Libraries) where
 
   picks : (place : ℕ) (e : Edge) (version : List ℕ) → chosen libraries place e ≡ Ok version → picked libraries e ≡ Ok version
   unfolding chosen
-  picks place e version is = by (nat_lt place 16384) is
+  picks place e version is = by (nat_lt place 16384) (GraphTooLarge, codes "keys") is
     where
-      by : (b : Bool) {r : Reason} → (if b then picked libraries e else Err r) ≡ Ok version → picked libraries e ≡ Ok version
-      by true is = is
-      by false {r} is = absurd (never is)
-        where
-          never : Err r ≡ Ok version → ⊥
-          never e = cc
+      never : (r : Reason) → ◌≡◌ {A = Result (List ℕ) Reason} (Err r) (Ok version) → ⊥
+      never r e = cc
+
+      by : (b : Bool) (r : Reason) → (if b then picked libraries e else Err r) ≡ Ok version → picked libraries e ≡ Ok version
+      by true r is = is
+      by false r is = absurd (never r is)
 
   -- a path whose key isn't won adds a winner, with the version that is chosen
   pub won : (rows new : List Winner) (w : Winner) (front : Path) → is_some (row_of rows w.edge.key) ≡ false → Leads (paths_of rows) w.above front
@@ -133,8 +134,8 @@ module _ (libraries : Libraries) where
   }
 
   -- or is refused
-  pub stopped : {T : Type 0} (rows new : List Winner) (e : Edge) (front : Path) (fault : MediationFault) → is_some (row_of rows e.key) ≡ false
-      → Says {T = List ℕ} (chosen libraries (length rows) e) (Err fault) → Adds {T = T} libraries rows new ((e ∷ front) ∷ []) (Err fault)
+  pub stopped : (rows new : List Winner) (e : Edge) (front : Path) (fault : MediationFault) → is_some (row_of rows e.key) ≡ false
+      → Says {T = List ℕ} (chosen libraries (length rows) e) (Err fault) → Adds {T = Unit {0}} libraries rows new ((e ∷ front) ∷ []) (Err fault)
   stopped rows new e front (Refused rule place) none is = only rows e front none ∙ ap reason is
   stopped rows new e front Lookup none is = tt
   stopped rows new e front Memory none is = tt

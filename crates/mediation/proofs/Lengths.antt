@@ -57,8 +57,8 @@ pub record IsUpTo (libraries : Libraries) (graph : Graph) (rows : List Winner) (
 
 module _ (libraries : Libraries) (graph : Graph) where
   -- the project's own declarations
-  pub begun : (new : List Winner) → Grows libraries [] new (map (λ e. e ∷ []) graph.direct) → IsUpTo libraries graph new 0
-  begun new grown =
+  begun_so : (new : List Winner) → Grows libraries [] new (map (λ e. e ∷ []) graph.direct) → IsUpTo libraries graph new 0
+  begun_so new grown =
       let all : paths_of new ≡ winners graph (suc zero) = grown.wins ∙ ap (λ l. firsts [] l) (sym (append-nil (map (λ e. e ∷ []) graph.direct))) in
       record {
         count = suc zero;
@@ -68,10 +68,19 @@ module _ (libraries : Libraries) (graph : Graph) where
         versions = grown.versions (All-nil (IsPicked libraries));
       }
 
-  pub not_begun : (new : List Winner) (fault : MediationFault) → Adds {T = Unit {0}} libraries [] new (map (λ e. e ∷ []) graph.direct) (Err fault) → Resolves libraries graph (Err fault)
-  not_begun new (Refused rule place) is = (suc zero, ap (λ l. first_reason libraries 0 (firsts [] l)) (append-nil (map (λ e. e ∷ []) graph.direct)) ∙ is)
-  not_begun new Lookup is = tt
-  not_begun new Memory is = tt
+  pub begun : (old new : List Winner) (edges : List Edge) → old ≡ [] → edges ≡ graph.direct → Grows libraries old new (map (λ e. e ∷ []) edges) → IsUpTo libraries graph new 0
+  begun old new edges none all grown = begun_so new (subst (λ l. Grows libraries [] new (map (λ e. e ∷ []) l)) all (subst (λ o. Grows libraries o new (map (λ e. e ∷ []) edges)) none grown))
+
+  not_begun_so : (new : List Winner) (fault : MediationFault) → Adds {T = Unit {0}} libraries [] new (map (λ e. e ∷ []) graph.direct) (Err fault) → Resolves libraries graph (Err fault)
+  not_begun_so new (Refused rule place) is = (suc zero, ap (λ l. first_reason libraries 0 (firsts [] l)) (append-nil (map (λ e. e ∷ []) graph.direct)) ∙ is)
+  not_begun_so new Lookup is = tt
+  not_begun_so new Memory is = tt
+
+  pub not_begun : (old new : List Winner) (edges : List Edge) (fault : MediationFault) → old ≡ [] → edges ≡ graph.direct → Adds {T = Unit {0}} libraries old new (map (λ e. e ∷ []) edges) (Err fault) → Resolves libraries graph (Err fault)
+  not_begun old new edges fault none all is =
+      not_begun_so new fault
+      (subst (λ l. Adds {T = Unit {0}} libraries [] new (map (λ e. e ∷ []) l) (Err fault)) all
+      (subst (λ o. Adds {T = Unit {0}} libraries o new (map (λ e. e ∷ []) edges) (Err fault)) none is))
 
   zero_behind : (n : ℕ) → 0 + n ≡ n
   zero_behind n = omega arith

@@ -84,7 +84,7 @@ module _ (graph : Graph) (won : List Path) (longest : ℕ) (all : (n : ℕ) → 
   met e path counts =
       let next = flat_map (longer graph) (level graph (length path)) in
       Contains-append_right (counting graph (length path)) next (e ∷ path)
-      (in_to next (e ∷ path) (counts_next graph (length path) path e (at_level path counts.1.0) (in_from (next_edges graph path) e counts.0)))
+      (in_to next (e ∷ path) (counts_next graph (length path) path e (at_level path counts.1) (in_from (next_edges graph path) e counts.0)))
 
   there_each : (p : Path) → Counts graph won p → is_won won p ≡ true
   there_each [] counts = refl

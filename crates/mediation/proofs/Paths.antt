@@ -70,3 +70,11 @@ has_folded paths (w ∷ rows) key =
 -- a key has a path exactly where it has a winner
 pub has_path : (rows : List Winner) (key : Key) → is_some (winner_of (paths_of rows) key) ≡ is_some (row_of rows key)
 has_path rows key = has_folded [] rows key
+
+-- nothing is left of a list without a length
+pub no_items : (xs : List Edge) → length xs ≡ 0 → xs ≡ []
+no_items [] e = refl
+no_items (x ∷ xs) e = absurd (some_items (length xs) e)
+  where
+    some_items : (n : ℕ) → suc n ≡ 0 → ⊥
+    some_items n e = omega (arith, e)

@@ -11,7 +11,7 @@ use Rattle.collector.specs.declared.edge.Edge.{Edge}
 use Rattle.mediation.specs.declared.fault.MediationFault.{MediationFault}
 use Rattle.mediation.specs.declared.fault.MediationFault.TheVariants.{Refused, Lookup, Memory}
 use Rattle.mediation.specs.declared.winner.Winner.{Winner}
-use Rattle.mediation.specs.Faults.{Reason, Says}
+use Rattle.mediation.specs.Faults.{Reason}
 use Rattle.mediation.specs.Libraries.{Libraries, graph_of, leads_to, picked}
 use Rattle.mediation.specs.Rows.{Adds, Grows, IsPicked, Leads, add_path, path_above, paths_of}
 use Rattle.winner_law.specs.Winners.{Graph, Path, firsts, longer}
@@ -49,7 +49,9 @@ path_folded paths (r ∷ rows) (suc k) w is =
     subst (λ n. PathAt (fold add_path (add_path paths r) rows) n w) there (path_folded (add_path paths r) rows k w is)
 
 pub path_at : (rows : List Winner) (k : ℕ) (w : Winner) → slice_get rows k ≡ Some w → PathAt (paths_of rows) k w
-path_at rows k w is = path_folded [] rows k w is
+path_at rows k w is =
+    let same : 0 + k ≡ k = omega arith in
+    subst (λ n. PathAt (paths_of rows) n w) same (path_folded [] rows k w is)
 
 got_none : {T : Type 0} (xs : List T) (k : ℕ) → slice_get xs k ≡ None → length xs ≤ k
 got_none [] k is = omega arith
@@ -70,8 +72,12 @@ all_at P rows k w all is = subst P (get_or_from_slice_get rows k w w is) (All-ge
 abbrev pub Stands : List Winner → List Winner → Type 0
 Stands first rows = (k : ℕ) (p : Path) → slice_get (paths_of first) k ≡ Some p → slice_get (paths_of rows) k ≡ Some p
 
-ok_not_err : {X : Type 0} (value : X) (r : Reason) → ◌≡◌ {A = Result X Reason} (Ok value) (Err r) → ⊥
-ok_not_err value r e = cc
+abbrev value_or : {X : Type 0} → X → Result X Reason → X
+value_or d (Ok x) = x
+value_or d (Err r) = d
+
+pub same_value : (a b : List Edge) → ◌≡◌ {A = Result (List Edge) Reason} (Ok a) (Ok b) → a ≡ b
+same_value a b e = ap (value_or a) e
 
 module _ (libraries : Libraries) where
   -- a winner leads to the edges that its version's POM leads to
@@ -90,12 +96,6 @@ module _ (libraries : Libraries) where
       ∙ ap (λ p. map (λ e. e ∷ path) (leads_to libraries managed w.edge p)) pick
       ∙ ap (λ l. map (λ e. e ∷ path) l) is in
       subst (λ l. Adds libraries rows new l result) (sym all) (adds path there.1)
-
-  -- what has a value isn't refused
-  pub not_refused : {T X : Type 0} (rows new : List Winner) (paths : List Path) (value : X) (fault : MediationFault) → Says {T = X} (Ok value) (Err fault) → Adds {T = T} libraries rows new paths (Err fault)
-  not_refused rows new paths value (Refused rule place) is = absurd (ok_not_err value (rule, place) is)
-  not_refused rows new paths value Lookup is = tt
-  not_refused rows new paths value Memory is = tt
 
   -- nothing stands at a place
   pub nothing_there : (graph : Graph) (rows : List Winner) (place : ℕ) → slice_get rows place ≡ None → Grows libraries rows rows (flat_map (longer graph) (option_to_list (slice_get (paths_of rows) place)))

@@ -6,10 +6,10 @@ use Rattle.mediation.proofs.levels.find_winners.Given as goal
 -- the winners up to some length stand, and those from a place on are of that length
 abbrev pub invariant-loop-from : goal.invariant-loop-from
 invariant-loop-from g l = record {
-  stand : (libraries : Libraries) → g.L.Lookup.fits l.initial.lookup libraries
+  stand : (libraries : Libraries) → g.L.Lookup.fits l.fn.lookup libraries
       → IsUpTo libraries (graph_of libraries l.managed l.direct) l.winners l.from;
-  fit : (libraries : Libraries) → g.L.Lookup.fits l.initial.lookup libraries → g.L.Lookup.fits l.lookup libraries;
-  faults : g.L.Lookup.faults l.lookup ≡ g.L.Lookup.faults l.initial.lookup;
+  fit : (libraries : Libraries) → g.L.Lookup.fits l.fn.lookup libraries → g.L.Lookup.fits l.lookup libraries;
+  faults : g.L.Lookup.faults l.lookup ≡ g.L.Lookup.faults l.fn.lookup;
 }
 
 abbrev pub decreases-loop-from : goal.decreases-loop-from

@@ -1,10 +1,8 @@
 -- How winners grow, path by path.
-use Rattle.std.proofs.Common.{◌≡◌, ◌≤◌, ◌<◌, ◌+◌, ℕ, zero, suc, Bool, true, false, List, [], ◌∷◌, ◌++◌, length, Option, Some, None, is_some, Result, Ok, Err, refl, sym, ap, subst, ◌∙◌, cond, arith, if◌then◌else◌, append-nil, append_assoc, length-append, All, inl, inr}
+use Rattle.std.proofs.Common.{◌≡◌, ◌+◌, ℕ, suc, Bool, true, false, List, [], ◌∷◌, ◌++◌, length, Option, Some, None, is_some, Result, Ok, Err, refl, sym, ap, subst, ◌∙◌, arith, if◌then◌else◌, append-nil, append_assoc, length-append, All}
 use Rattle.std.specs.Option.{option_or}
 use Rattle.std.specs.Prelude.{codes, nat_lt}
-use Rattle.std.proofs.lemmas.Bool.{false≢true}
 use Rattle.std.proofs.lemmas.List.Elements.{All-push}
-use Rattle.mvn_base.specs.declared.key.Key.{Key}
 use Rattle.mvn_base.specs.declared.rule.Rule.TheVariants.{GraphTooLarge}
 use Rattle.collector.specs.declared.edge.Edge.{Edge}
 use Rattle.mediation.specs.declared.fault.MediationFault.{MediationFault}
@@ -12,7 +10,7 @@ use Rattle.mediation.specs.declared.fault.MediationFault.TheVariants.{Refused, L
 use Rattle.mediation.specs.declared.winner.Winner.{Winner}
 use Rattle.mediation.specs.Faults.{Reason, Says}
 use Rattle.mediation.specs.Libraries.{Libraries, chosen, picked}
-use Rattle.mediation.specs.Rows.{Adds, Grows, IsPicked, Leads, first_reason, path_above, paths_of, reason, reason_at, row_of}
+use Rattle.mediation.specs.Rows.{Adds, Grows, IsPicked, Leads, first_reason, paths_of, reason, reason_at, row_of}
 use Rattle.winner_law.specs.Winners.{Path, firsts, is_won, winner_of}
 use Rattle.mediation.proofs.Paths.{above_is, has_path, length_paths, path_more}
 

@@ -1,7 +1,6 @@
 -- Winners under their keys.
-use Rattle.std.proofs.Common.{◌≡◌, ◌≤◌, ◌<◌, ◌+◌, arith, length-append, ℕ, Bool, true, false, List, [], ◌∷◌, ◌++◌, map, length, find, Option, Some, None, is_some, slice_get, refl, sym, ap, ◌∙◌, if◌then◌else◌, cond}
+use Rattle.std.proofs.Common.{◌≡◌, ◌≤◌, ◌<◌, ◌+◌, arith, length-append, ℕ, Bool, true, false, List, [], ◌∷◌, ◌++◌, map, length, Some, None, is_some, refl, sym, ap, ◌∙◌, if◌then◌else◌}
 use Rattle.std.specs.Map.{lookup}
-use Rattle.std.specs.Option.{option_map}
 use Rattle.std.proofs.lemmas.Bool.{false≢true}
 use Rattle.indexmap.specs.IndexMap.{insert_entry}
 use Rattle.model_merge.specs.Keyed.{keyed, same_key}

@@ -1,5 +1,5 @@
 -- The paths of winners as they are kept.
-use Rattle.std.proofs.Common.{◌≡◌, ℕ, zero, suc, ◌+◌, Bool, true, false, ◌||◌, List, [], ◌∷◌, ◌++◌, fold, find, length, slice_get, Option, Some, None, is_some, unwrap_or, refl, sym, ap, ◌∙◌, cond, arith, length-append}
+use Rattle.std.proofs.Common.{◌≡◌, ℕ, zero, suc, ◌+◌, Bool, true, false, ◌||◌, List, [], ◌∷◌, ◌++◌, fold, length, slice_get, Option, Some, None, is_some, unwrap_or, refl, sym, ap, ◌∙◌, cond, arith, length-append}
 use Rattle.std.specs.Option.{option_or}
 use Rattle.model_merge.specs.Keyed.{same_key}
 use Rattle.mvn_base.specs.declared.key.Key.{Key}

@@ -9,7 +9,6 @@ use Rattle.model_types.specs.declared.dependency.Dependency.{Dependency}
 use Rattle.mvn_base.specs.declared.key.Key.{Key}
 use Rattle.collector.specs.declared.edge.Edge.{Edge}
 use Rattle.mediation.specs.declared.fault.MediationFault.{MediationFault}
-use Rattle.mediation.specs.declared.fault.MediationFault.TheVariants.{Refused, Lookup, Memory}
 use Rattle.mediation.specs.declared.winner.Winner.{Winner}
 use Rattle.mediation.specs.Faults.{Reason}
 use Rattle.mediation.specs.Libraries.{Libraries, graph_of, leads_to, picked}

@@ -1,6 +1,6 @@
 -- What a project's dependencies lead to among the libraries there are. Introduction to the Dependency Mechanism; POM
 -- Reference, "Dependency Version Requirement Specification".
-use Rattle.std.specs.Prelude.{◌≡◌, ℕ, suc, Bool, true, ◌&&◌, List, [], ◌∷◌, ◌++◌, find, not, codes, Option, Some, None, Result, Ok, Err, nat_lt, if◌then◌else◌}
+use Rattle.std.specs.Prelude.{ℕ, Bool, ◌&&◌, List, [], ◌∷◌, ◌++◌, find, not, codes, Option, Some, None, Result, Ok, Err, nat_lt, if◌then◌else◌}
 use Rattle.std.specs.List.{list_any}
 use Rattle.std.specs.Ordering.{is_gt}
 use Rattle.version_order.specs.Order.{version_cmp}

@@ -1,5 +1,5 @@
 -- Winners as they are kept: each with its edge, its version and the place of the winner that it stands below.
-use Rattle.std.specs.Prelude.{◌≡◌, ◌≤◌, ℕ, suc, Bool, List, [], ◌∷◌, ◌++◌, flat_map, fold, find, length, map, slice_get, unwrap_or, Option, Some, None, Result, Ok, Err, All}
+use Rattle.std.specs.Prelude.{◌≡◌, ◌≤◌, ℕ, suc, List, [], ◌∷◌, ◌++◌, fold, find, length, map, slice_get, unwrap_or, Option, Some, None, Result, Ok, Err, All}
 use Rattle.std.specs.Option.{option_or}
 use Rattle.model_merge.specs.Keyed.{keyed, same_key}
 use Rattle.mvn_base.specs.declared.key.Key.{Key}
@@ -8,7 +8,7 @@ use Rattle.mediation.specs.declared.winner.Winner.{Winner}
 use Rattle.mediation.specs.declared.fault.MediationFault.{MediationFault}
 use Rattle.mediation.specs.declared.fault.MediationFault.TheVariants.{Refused, Lookup, Memory}
 use Rattle.mediation.specs.Faults.{Reason}
-use Rattle.mediation.specs.Libraries.{Libraries, chosen, graph_of, picked}
+use Rattle.mediation.specs.Libraries.{Libraries, chosen, picked}
 use Rattle.winner_law.specs.Winners.{Graph, Path, firsts, winners}
 
 -- the key that a winner is kept under, and the winner of a key

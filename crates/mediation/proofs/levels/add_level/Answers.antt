@@ -1,4 +1,4 @@
-use Rattle.std.proofs.Common.{◌≡◌, ◌<◌, ◌≤◌, ℕ, List, [], length, slice_get, flat_map, Result, Ok, Err, arith, ◌∙◌}
+use Rattle.std.proofs.Common.{◌<◌, ◌≤◌, [], length, slice_get, flat_map, Ok, Err, arith, ◌∙◌}
 use Rattle.std.specs.Option.{option_to_list}
 use Rattle.mediation.specs.Libraries.{graph_of}
 use Rattle.mediation.specs.Rows.{paths_of}

@@ -1,4 +1,4 @@
-use Rattle.std.proofs.Common.{◌≡◌, ℕ, List, Ok, Err, sym, ap, subst, ◌∙◌}
+use Rattle.std.proofs.Common.{ℕ, List, Err, sym, ap, subst, ◌∙◌}
 use Rattle.mediation.specs.Faults.{Says}
 use Rattle.mediation.specs.Libraries.{chosen}
 use Rattle.mediation.proofs.Growing.{lost, stopped, won}

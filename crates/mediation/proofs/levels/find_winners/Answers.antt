@@ -1,4 +1,4 @@
-use Rattle.std.proofs.Common.{◌≡◌, ◌≤◌, [], length, refl, sym, subst, arith, ◌∙◌}
+use Rattle.std.proofs.Common.{◌≤◌, [], length, refl, sym, subst, arith, ◌∙◌}
 use Rattle.mediation.specs.Libraries.{graph_of}
 use Rattle.mediation.proofs.Lengths.{IsUpTo, begun, ended, not_begun, not_turned, turned}
 use Rattle.mediation.proofs.levels.find_winners.Goals as goal

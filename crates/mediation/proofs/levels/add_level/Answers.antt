@@ -1,0 +1,41 @@
+use Rattle.std.proofs.Common.{◌<◌, ◌≤◌, [], length, slice_get, flat_map, Ok, Err, arith, ◌∙◌}
+use Rattle.std.specs.Option.{option_to_list}
+use Rattle.mediation.specs.Libraries.{graph_of}
+use Rattle.mediation.specs.Rows.{paths_of}
+use Rattle.winner_law.specs.Winners.{longer}
+use Rattle.mediation.proofs.Places.{level_done, level_step, level_stopped, stands_more}
+use Rattle.mediation.proofs.levels.add_level.Goals as goal
+
+pub returns-in-Err-clause-adds : goal.returns-in-Err-clause-adds
+returns-in-Err-clause-adds g c = λ libraries direct fits picks.
+    let inv = c.loop-place.invariant in
+    let low : c.loop-place.place < length c.args.winners.now = omega (arith, c.loop-place-test.true, c.requires) in
+    inv.rest libraries direct fits picks c.expand.new.winners (Err c.in-Err.fault)
+    (level_stopped libraries (graph_of libraries c.args.managed.now direct) c.args.winners.now c.loop-place.winners c.expand.new.winners c.expand.new.winners c.loop-place.place c.in-Err.fault low (inv.before libraries fits picks)
+    (c.in-Err.ensures.adds libraries direct (inv.fit libraries fits) (inv.versions libraries fits picks)))
+
+pub loop-place-preserved : goal.loop-place-preserved
+loop-place-preserved g c =
+    let inv = c.loop-place.invariant in
+    let low : c.loop-place.place < length c.args.winners.now = omega (arith, c.loop-place-test.true, c.requires) in
+    record {
+      rest = λ libraries direct fits picks new result adds.
+          inv.rest libraries direct fits picks new result
+          (level_step libraries (graph_of libraries c.args.managed.now direct) c.args.winners.now c.loop-place.winners c.expand.new.winners new c.loop-place.place result low (inv.before libraries fits picks)
+          (c.in-Ok.ensures.adds libraries direct (inv.fit libraries fits) (inv.versions libraries fits picks)) adds);
+      versions = λ libraries fits picks.
+          let before = inv.versions libraries fits picks in
+          (c.in-Ok.ensures.adds libraries [] (inv.fit libraries fits) before).versions before;
+      before = λ libraries fits picks.
+          stands_more libraries c.args.winners.now c.loop-place.winners c.expand.new.winners
+          (flat_map (longer (graph_of libraries c.args.managed.now [])) (option_to_list (slice_get (paths_of c.loop-place.winners) c.loop-place.place)))
+          (inv.before libraries fits picks) (c.in-Ok.ensures.adds libraries [] (inv.fit libraries fits) (inv.versions libraries fits picks));
+      fit = λ libraries fits. c.in-Ok.ensures.same libraries (inv.fit libraries fits);
+      faults = c.in-Ok.ensures.cause ∙ inv.faults;
+    }
+
+pub returns-clause-adds : goal.returns-clause-adds
+returns-clause-adds g c = λ libraries direct fits picks.
+    let low : length c.args.winners.now ≤ c.loop-place.place = omega (arith, c.loop-place-test.false, c.requires) in
+    c.loop-place.invariant.rest libraries direct fits picks c.loop-place.winners (Ok tt)
+    (level_done libraries (graph_of libraries c.args.managed.now direct) c.args.winners.now c.loop-place.winners c.loop-place.place low)

@@ -1,0 +1,22 @@
+use Rattle.std.proofs.Common.{◌≡◌, List, drop, flat_map, Result, All}
+use Rattle.model_types.specs.declared.dependency.Dependency.{Dependency}
+use Rattle.mediation.specs.declared.fault.MediationFault.{MediationFault}
+use Rattle.mediation.specs.declared.winner.Winner.{Winner}
+use Rattle.mediation.specs.Libraries.{Libraries, graph_of}
+use Rattle.mediation.specs.Rows.{Adds, IsPicked, paths_of}
+use Rattle.winner_law.specs.Winners.{longer}
+use Rattle.mediation.proofs.Places.{Stands}
+use Rattle.mediation.proofs.levels.add_level.Given as goal
+
+-- what the rest of the level adds, the level adds
+abbrev pub invariant-loop-place : goal.invariant-loop-place
+invariant-loop-place g l = record {
+  rest : (libraries : Libraries) (direct : List Dependency) → g.L.Lookup.fits l.initial.lookup libraries → All (IsPicked libraries) l.initial.winners
+      → (new : List Winner) (result : Result (Unit {0}) MediationFault)
+      → Adds libraries l.winners new (flat_map (longer (graph_of libraries l.managed direct)) (drop l.place (paths_of l.initial.winners))) result
+      → Adds libraries l.initial.winners new (flat_map (longer (graph_of libraries l.managed direct)) (drop l.from (paths_of l.initial.winners))) result;
+  versions : (libraries : Libraries) → g.L.Lookup.fits l.initial.lookup libraries → All (IsPicked libraries) l.initial.winners → All (IsPicked libraries) l.winners;
+  before : (libraries : Libraries) → g.L.Lookup.fits l.initial.lookup libraries → All (IsPicked libraries) l.initial.winners → Stands l.initial.winners l.winners;
+  fit : (libraries : Libraries) → g.L.Lookup.fits l.initial.lookup libraries → g.L.Lookup.fits l.lookup libraries;
+  faults : g.L.Lookup.faults l.lookup ≡ g.L.Lookup.faults l.initial.lookup;
+}

@@ -1,0 +1,43 @@
+use Rattle.std.proofs.Common.{◌≤◌, [], length, refl, sym, subst, arith, ◌∙◌}
+use Rattle.mediation.specs.Libraries.{graph_of}
+use Rattle.mediation.proofs.Lengths.{IsUpTo, begun, ended, not_begun, not_turned, turned}
+use Rattle.mediation.proofs.levels.find_winners.Goals as goal
+
+pub returns-in-Err-clause-resolves : goal.returns-in-Err-clause-resolves
+returns-in-Err-clause-resolves g c = λ libraries fits.
+    not_begun libraries (graph_of libraries c.args.managed.now c.args.direct.now) c.new-winners.result c.add_edges.new.winners c.in_ok-edges.edges c.in-Err.fault c.new-winners.ensures c.in_ok-edges.ensures
+    (c.in-Err.ensures.adds libraries [] fits refl)
+
+pub loop-from-init : goal.loop-from-init
+loop-from-init g c = record {
+  stand = λ libraries fits.
+      begun libraries (graph_of libraries c.args.managed.now c.args.direct.now) c.new-winners.result c.add_edges.new.winners c.in_ok-edges.edges c.new-winners.ensures c.in_ok-edges.ensures
+      (c.in-Ok.ensures.adds libraries [] fits refl);
+  fit = λ libraries fits. c.in-Ok.ensures.same libraries fits;
+  faults = c.in-Ok.ensures.cause;
+}
+
+pub returns-in-Err-add_level-clause-resolves : goal.returns-in-Err-add_level-clause-resolves
+returns-in-Err-add_level-clause-resolves g c = λ libraries fits.
+    let inv = c.loop-from.invariant in
+    let stands = inv.stand libraries fits in
+    not_turned libraries (graph_of libraries c.args.managed.now c.args.direct.now) c.loop-from.winners c.add_level.new.winners c.loop-from.from c.in-Err-add_level.fault stands
+    (c.in-Err-add_level.ensures.adds libraries c.args.direct.now (inv.fit libraries fits) stands.versions)
+
+pub loop-from-preserved : goal.loop-from-preserved
+loop-from-preserved g c =
+    let inv = c.loop-from.invariant in
+    record {
+      stand = λ libraries fits.
+          let stands = inv.stand libraries fits in
+          subst (λ n. IsUpTo libraries (graph_of libraries c.args.managed.now c.args.direct.now) c.add_level.new.winners n) (sym c.len-to.ensures.value)
+          (turned libraries (graph_of libraries c.args.managed.now c.args.direct.now) c.loop-from.winners c.add_level.new.winners c.loop-from.from stands
+          (c.in-Ok-add_level.ensures.adds libraries c.args.direct.now (inv.fit libraries fits) stands.versions));
+      fit = λ libraries fits. c.in-Ok-add_level.ensures.same libraries (inv.fit libraries fits);
+      faults = c.in-Ok-add_level.ensures.cause ∙ inv.faults;
+    }
+
+pub returns-clause-resolves : goal.returns-clause-resolves
+returns-clause-resolves g c = λ libraries fits.
+    let low : length c.loop-from.winners ≤ c.loop-from.from = omega (arith, c.loop-from-test.false, c.len.ensures.value) in
+    ended libraries (graph_of libraries c.args.managed.now c.args.direct.now) c.loop-from.winners c.loop-from.from (c.loop-from.invariant.stand libraries fits) low

@@ -1,0 +1,233 @@
+ghost use Rattle.std.specs.Prelude.{◌≡◌, ◌∷◌, ◌++◌, [], drop, length, map, flat_map, slice_get, Ok, All, IfOk};
+ghost use Rattle.std.specs.Prelude as logic;
+ghost use Rattle.std.specs.Option.{option_to_list};
+ghost use Rattle.mvn_shared.specs.Cause.{HasCause};
+ghost use Rattle.model_types.specs.declared.dependency.Dependency as dependencies;
+ghost use Rattle.mediation.specs.Faults.{Says, is_faulty};
+ghost use Rattle.collector.specs.Edges.{transitive_edges};
+ghost use Rattle.mediation.specs.Libraries.{Libraries, declarations, gav_of, graph_of, leads_to};
+ghost use Rattle.mediation.specs.Rows.{Adds, IsPicked, Leads, Resolves, paths_of};
+ghost use Rattle.winner_law.specs.Winners.{Path, longer};
+
+use crate::fault::MediationFault;
+use crate::known::{Known, Lookup, ask_model};
+use crate::pick::chosen;
+use crate::winner::{Winner, Winners};
+use collector::{Edge, direct_edges, edges};
+use managed_deps::ManagedSet;
+use model_types::{Dependency, Exclusion};
+use mvn_base::{Gav, Key};
+use mvn_shared::{List, Mem, Shared, Text};
+use std::alloc::Global;
+
+// One declaration, which wins where its key has no winner yet.
+fn decide<L: Lookup>(
+    alloc: Global,
+    lookup: &mut L,
+    winners: &mut Winners,
+    edge: Edge,
+    above: Option<usize>,
+) -> Result<(), MediationFault>
+    ensures adds { (libraries : Libraries) (front : Path) → L.fits lookup.old libraries
+        → Leads (paths_of winners.old) above front
+        → Adds libraries winners.old winners.new ((edge ∷ front) ∷ []) result }
+    ensures same { (libraries : Libraries) → L.fits lookup.old libraries
+        → L.fits lookup.new libraries }
+    ensures cause { HasCause (L.faults lookup.old) (L.faults lookup.new) (is_faulty result) }
+{
+    if winners.has(&edge.key) {
+        return Ok(());
+    }
+    match chosen(alloc, lookup, winners.len(), &edge) {
+        Ok(version) => {
+            winners.push(Winner {
+                edge,
+                version,
+                above,
+            })?;
+            Ok(())
+        }
+        Err(fault) => Err(fault),
+    }
+}
+
+// The declarations of one end.
+fn add_edges<L: Lookup>(
+    alloc: Global,
+    lookup: &mut L,
+    winners: &mut Winners,
+    edges: List<Edge>,
+    above: Option<usize>,
+) -> Result<(), MediationFault>
+    ensures adds { (libraries : Libraries) (front : Path) → L.fits lookup.old libraries
+        → Leads (paths_of winners.old) above front
+        → Adds libraries winners.old winners.new (map (λ e. e ∷ front) edges) result }
+    ensures same { (libraries : Libraries) → L.fits lookup.old libraries
+        → L.fits lookup.new libraries }
+    ensures cause { HasCause (L.faults lookup.old) (L.faults lookup.new) (is_faulty result) }
+{
+    for edge in edges.into_vec() {
+        match decide(alloc, lookup, winners, edge, above) {
+            Ok(()) => {}
+            Err(fault) => return Err(fault),
+        }
+    }
+    Ok(())
+}
+
+// What is known of the POM of a winner.
+fn known_at<L: Lookup>(lookup: &mut L, winner: &Winner) -> Result<Known, MediationFault>
+    ensures says { (libraries : Libraries) → L.fits lookup.old libraries
+        → Says (Ok (libraries.at (gav_of winner.now.edge.key winner.now.version))) result }
+    ensures same { (libraries : Libraries) → L.fits lookup.old libraries
+        → L.fits lookup.new libraries }
+    ensures cause { HasCause (L.faults lookup.old) (L.faults lookup.new) (is_faulty result) }
+{
+    let gav = coordinate(&winner.edge.key, &winner.version)?;
+    ask_model(lookup, &gav)
+}
+
+// The coordinate of a version.
+fn coordinate(key: &Key, version: &Text) -> Mem<Gav>
+    ensures { IfOk result (λ gav. gav ≡ gav_of key.now version.now) }
+{
+    let group = key.group.clone()?;
+    let artifact = key.artifact.clone()?;
+    let version = version.clone()?;
+    Ok(Gav {
+        group,
+        artifact,
+        version,
+    })
+}
+
+// What a POM that is known leads to.
+fn edges_of(
+    alloc: Global,
+    known: &Known,
+    managed: &ManagedSet,
+    cut: &Shared<List<Exclusion>>,
+) -> Mem<List<Edge>>
+    ensures { IfOk result (λ list.
+        list ≡ transitive_edges (declarations known.now) managed.now cut.now) }
+{
+    match known {
+        Known::Model(model) => edges(alloc, model.base.dependencies.as_slice(), managed, cut),
+        Known::Missing => Ok(List::new(alloc)),
+        Known::Refused(_) => Ok(List::new(alloc)),
+    }
+}
+
+// What the POM of a winner leads to.
+fn edges_at<L: Lookup>(
+    alloc: Global,
+    lookup: &mut L,
+    managed: &ManagedSet,
+    winner: &Winner,
+) -> Result<List<Edge>, MediationFault>
+    ensures says { (libraries : Libraries) → L.fits lookup.old libraries
+        → Says (Ok (leads_to libraries managed.now winner.now.edge
+        (Ok winner.now.version))) result }
+    ensures same { (libraries : Libraries) → L.fits lookup.old libraries
+        → L.fits lookup.new libraries }
+    ensures cause { HasCause (L.faults lookup.old) (L.faults lookup.new) (is_faulty result) }
+{
+    match known_at(lookup, winner) {
+        Ok(known) => Ok(edges_of(alloc, &known, managed, &winner.edge.exclusions)?),
+        Err(fault) => Err(fault),
+    }
+}
+
+// The paths one edge longer than a winner's.
+fn expand<L: Lookup>(
+    alloc: Global,
+    lookup: &mut L,
+    managed: &ManagedSet,
+    winners: &mut Winners,
+    place: usize,
+) -> Result<(), MediationFault>
+    ensures adds { (libraries : Libraries) (direct : logic.List dependencies.Dependency)
+        → L.fits lookup.old libraries
+        → All (IsPicked libraries) winners.old
+        → Adds libraries winners.old winners.new
+        (flat_map (longer (graph_of libraries managed.now direct))
+        (option_to_list (slice_get (paths_of winners.old) place))) result }
+    ensures same { (libraries : Libraries) → L.fits lookup.old libraries
+        → L.fits lookup.new libraries }
+    ensures cause { HasCause (L.faults lookup.old) (L.faults lookup.new) (is_faulty result) }
+{
+    let Some(winner) = winners.get(place) else {
+        return Ok(());
+    };
+    match edges_at(alloc, lookup, managed, winner) {
+        Ok(edges) => add_edges(alloc, lookup, winners, edges, Some(place)),
+        Err(fault) => Err(fault),
+    }
+}
+
+// The paths one edge longer than those of the winners from a place on, before another.
+fn add_level<L: Lookup>(
+    alloc: Global,
+    lookup: &mut L,
+    managed: &ManagedSet,
+    winners: &mut Winners,
+    from: usize,
+    to: usize,
+) -> Result<(), MediationFault>
+    requires { to ≡ length winners.old }
+    ensures adds { (libraries : Libraries) (direct : logic.List dependencies.Dependency)
+        → L.fits lookup.old libraries
+        → All (IsPicked libraries) winners.old
+        → Adds libraries winners.old winners.new
+        (flat_map (longer (graph_of libraries managed.now direct))
+        (drop from (paths_of winners.old))) result }
+    ensures same { (libraries : Libraries) → L.fits lookup.old libraries
+        → L.fits lookup.new libraries }
+    ensures cause { HasCause (L.faults lookup.old) (L.faults lookup.new) (is_faulty result) }
+{
+    for place in from..to {
+        match expand(alloc, lookup, managed, winners, place) {
+            Ok(()) => {}
+            Err(fault) => return Err(fault),
+        }
+    }
+    Ok(())
+}
+
+/// The winners of a project: of each key the nearest declaration, and of those the first. A project's own declaration so
+/// wins always. A winner leads to what its POM declares, at the version that is picked for it; a POM that is missing or
+/// refused leads to nothing. Refused by the first winner, by length and positions, that has no version or for which there
+/// is no room: where a range admits no available version, where what is required of the version is no requirement, where
+/// more than 4,096 versions are available, and at the 16,385th winner, whose versions aren't looked up. `Lookup` comes
+/// only where the look-up failed. Costs a look-up for each winner, and the texts of each declaration on the average; for
+/// each winner with a range one look-up more, and each available version is parsed once. Introduction to the Dependency
+/// Mechanism, "Dependency mediation".
+pub fn find_winners<L: Lookup>(
+    alloc: Global,
+    direct: &[Shared<Dependency>],
+    managed: &ManagedSet,
+    lookup: &mut L,
+) -> Result<Winners, MediationFault>
+    ensures resolves { (libraries : Libraries) → L.fits lookup.old libraries
+        → Resolves libraries (graph_of libraries managed.now direct.now) result }
+    ensures same { (libraries : Libraries) → L.fits lookup.old libraries
+        → L.fits lookup.new libraries }
+    ensures cause { HasCause (L.faults lookup.old) (L.faults lookup.new) (is_faulty result) }
+{
+    let mut winners = Winners::new(alloc);
+    let edges = direct_edges(alloc, direct)?;
+    match add_edges(alloc, lookup, &mut winners, edges, None) {
+        Ok(()) => {}
+        Err(fault) => return Err(fault),
+    }
+    let mut from = 0;
+    while from < winners.len() {
+        let to = winners.len();
+        match add_level(alloc, lookup, managed, &mut winners, from, to) {
+            Ok(()) => {}
+            Err(fault) => return Err(fault),
+        }
+        from = to;
+    }
+    Ok(winners)
+}

@@ -1,0 +1,88 @@
+ghost use Rattle.std.specs.Prelude.{◌≡◌, ◌<◌, ◌≤◌, [], ◌∷◌, ◌++◌, None, length, is_some, slice_get, OnOk};
+ghost use Rattle.std.specs.Option.{option_copied};
+ghost use Rattle.mediation.specs.Rows.{row_of};
+
+use collector::Edge;
+use indexmap::IndexMap;
+use mvn_base::Key;
+use mvn_shared::{Mem, Text};
+use std::alloc::Global;
+use std::marker::Model;
+
+/// The declaration of a key that counts.
+#[derive(Drop)]
+pub struct Winner {
+    pub edge: Edge,
+    /// The version that is taken.
+    pub version: Text,
+    /// The place of the winner whose POM declares it; `None` where the project does.
+    pub above: Option<usize>,
+}
+
+/// Winners, in the order in which they are found: by the lengths of their paths, and then by the positions on them.
+/// Contracts see it as the list.
+#[derive(Drop)]
+pub struct Winners {
+    index: IndexMap<Key, Winner>,
+}
+
+impl Model for Winners {
+    ghost use Rattle.std.specs.Prelude as logic;
+    ghost use Rattle.std.specs.Prelude.{map};
+    ghost use Rattle.std.specs.Coded.{coded_list};
+    ghost use Rattle.mediation.specs.Rows.{IsKept};
+    ghost use Rattle.mediation.specs.declared.winner.Winner as winners;
+
+    ghost Value = { logic.List winners.Winner };
+
+    ghost view = { λ w. map (λ e. e.1) w.index.entries };
+
+    ghost invariant = { λ w. IsKept w.index.entries };
+}
+
+impl Winners {
+    // No winner yet.
+    pub(crate) fn new(alloc: Global) -> Winners
+        ensures { result ≡ [] }
+    {
+        Winners {
+            index: IndexMap::new(alloc),
+        }
+    }
+
+    // Whether a key has its winner.
+    pub(crate) fn has(&self, key: &Key) -> bool
+        ensures { result ≡ is_some (row_of self.now key.now) }
+    {
+        self.index.contains_key(key)
+    }
+
+    // One winner more, of a key that has none.
+    pub(crate) fn push(&mut self, winner: Winner) -> Mem<()>
+        requires new { row_of self.old winner.edge.key ≡ None }
+        requires room { length self.old < 16384 }
+        ensures { OnOk result (self.new ≡ self.old ++ winner ∷ []) }
+    {
+        let key = winner.edge.key.clone()?;
+        self.index.insert(key, winner)?;
+        Ok(())
+    }
+
+    /// The winner at a place. Constant time.
+    pub fn get(&self, place: usize) -> Option<&Winner>
+        ensures { option_copied result ≡ slice_get self.now place }
+    {
+        match self.index.get_index(place) {
+            Some((_, winner)) => Some(winner),
+            None => None,
+        }
+    }
+
+    /// The number of winners.
+    pub fn len(&self) -> usize
+        ensures value { result ≡ length self.now }
+        ensures few { length self.now ≤ 16384 }
+    {
+        self.index.len()
+    }
+}

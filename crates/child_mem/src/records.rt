@@ -1,0 +1,81 @@
+// The records of children in memory, changed by each call.
+ghost use Rattle.std.specs.Prelude.{◌≡◌, ◌≤◌, length, slice_get, IfSome, OnOk, OnErr};
+ghost use Rattle.child_outside.specs.Children.{change_at, given_more, input_closed, read_on, unread};
+ghost use Rattle.child_outside.specs.Reading.{IsFront};
+ghost use Rattle.child_mem.specs.Scripts.{child_of};
+
+use crate::front::copy_front;
+use crate::spawner::ChildScript;
+use child_outside::ChildRecord;
+use mvn_shared::{Bytes, Mem};
+use std::alloc::Global;
+
+/// The record of a child that is started with this script.
+pub(crate) fn fresh_record(alloc: Global, script: Option<ChildScript>) -> ChildRecord
+    ensures { result ≡ child_of script }
+{
+    let (output, status) = match script {
+        Some(script) => (script.output, script.status),
+        None => (Bytes::of(Vec::new(alloc)), 0),
+    };
+    ChildRecord {
+        given: Bytes::of(Vec::new(alloc)),
+        closed: false,
+        output,
+        taken: 0,
+        status,
+    }
+}
+
+/// Gives a child more bytes, where it has a record.
+#[tactic(auto, using(crate::proofs::Changes::change_set, crate::proofs::Changes::change_beyond))]
+pub(crate) fn give(records: &mut [ChildRecord], at: usize, bytes: &[u8]) -> Mem<()>
+    ensures ok { OnOk result (records.new ≡ change_at (given_more bytes.now) at records.old) }
+    ensures err { OnErr result (records.new ≡ records.old) }
+{
+    match records.get_mut(at) {
+        Some(record) => record.given.extend_from_slice(bytes),
+        None => Ok(()),
+    }
+}
+
+/// Closes a child's input, where it has a record.
+#[tactic(auto, using(crate::proofs::Changes::change_set, crate::proofs::Changes::change_beyond))]
+pub(crate) fn close(records: &mut [ChildRecord], at: usize)
+    ensures { records.new ≡ change_at input_closed at records.old }
+{
+    if let Some(record) = records.get_mut(at) {
+        record.closed = true;
+    }
+}
+
+/// Reads on in a child's output, where it has a record.
+#[tactic(auto, using(crate::proofs::Changes::change_set, crate::proofs::Changes::change_beyond))]
+pub(crate) fn take(records: &mut [ChildRecord], at: usize, into: &mut [u8]) -> usize
+    ensures within { result ≤ length into.new }
+    ensures front { IfSome (slice_get records.old at)
+        (λ known. IsFront (unread known) into.new result) }
+    ensures reads { records.new ≡ change_at (read_on result) at records.old }
+{
+    match records.get_mut(at) {
+        Some(record) => {
+            let count = match record.output.as_slice().get(record.taken..) {
+                Some(rest) => copy_front(rest, into),
+                None => 0,
+            };
+            record.taken = record.taken.saturating_add(count);
+            count
+        }
+        None => 0,
+    }
+}
+
+/// What a child ends with, where it has a record.
+pub(crate) fn status_of(records: &[ChildRecord], at: usize) -> i32
+    ensures { IfSome (slice_get records.now at) (λ known. result ≡ known.status) }
+{
+    match records.get(at) {
+        Some(record) => record.status,
+        None => 0,
+    }
+}

@@ -1,0 +1,12 @@
+-- One read of a stream.
+use Rattle.std.specs.Prelude.{◌≡◌, ℕ, ◌<◌, ◌≤◌, ◌+◌, Bool, true, false, List, [], ◌++◌, length, take, drop, Option, option_map, IfSome}
+
+-- so many bytes came from the front of what was left, behind those that were there; where none came, the stream has ended
+pub record ReadsMore (before now : Option (List ℕ)) (room : ℕ) (old new : List ℕ) (ended : Bool) : Type 0 where
+  pub count : ℕ
+  pub within : count ≤ room
+  pub len : length new ≡ length old + count
+  pub left : now ≡ option_map (drop count) before
+  pub bytes : IfSome before (λ rest. new ≡ old ++ take count rest)
+  pub some : ended ≡ false → 0 < count
+  pub last : ended ≡ true → IfSome before (λ rest. rest ≡ [])

@@ -1,0 +1,4 @@
+mod Examples
+pub mod Settings
+pub mod Taking
+pub mod Texts

@@ -101,7 +101,7 @@ def compiled(request, sources, resources, slots):
         source, target = os.path.join(folder, "source"), os.path.join(folder, "target")
         os.makedirs(target)
         write_files(source, files)
-        words = ["javac", "-nowarn", "-d", target]
+        words = ["javac", "-encoding", "UTF-8", "-nowarn", "-d", target]
         classpath = classpath_in(folder, request, slots)
         if classpath:
             words += ["-cp", classpath]

@@ -2,6 +2,8 @@
 #![tactic(auto)]
 
 ghost use Rattle.std.specs.Prelude.{◌≡◌, length, IfOk};
+ghost use Rattle.std.specs.List.{All};
+ghost use Rattle.mvn_cli.specs.Gates.{named_program, gate_program};
 
 mod environment;
 mod gates;
@@ -75,7 +77,9 @@ fn hands<'a>(
     process: &Text,
     program: &Text,
 ) -> Mem<Vec<RealHand<'a>>>
-    ensures { IfOk result (λ hands. length hands.items ≡ 16) }
+    ensures count { IfOk result (λ hands. length hands.items ≡ 16) }
+    ensures gates { IfOk result (λ hands.
+        All (λ hand. gate_program hand.gate ≡ named_program program.now) hands.items) }
 {
     let alloc = rt.alloc();
     let mut hands = Vec::with_capacity(alloc, HANDS)?;

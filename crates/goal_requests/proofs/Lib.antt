@@ -1,4 +1,6 @@
 mod Examples
+pub mod Members
 pub mod Settings
+pub mod Steps
 pub mod Taking
 pub mod Texts

@@ -37,10 +37,10 @@ taken_none taken done value values rest e =
 -- what is found passes what all pass
 found_passes : {A : Type 0} (t k : A → Bool) (xs : List A) (x : A) → list_all k xs ≡ true → find t xs ≡ Some x → k x ≡ true
 found_passes t k [] x all e = cc
-found_passes t k (y ∷ ys) x all e = by (t y) (k y) refl refl
+found_passes t k (y ∷ ys) x all e = by (t y) (k y) refl refl (found_passes t k ys x)
   where
-    by : (a b : Bool) → t y ≡ a → k y ≡ b → k x ≡ true
-    by a true ta kb = first a ta
+    by : (a b : Bool) → t y ≡ a → k y ≡ b → (list_all k ys ≡ true → find t ys ≡ Some x → k x ≡ true) → k x ≡ true
+    by a true ta kb again = first a ta
       where
         rest : list_all k ys ≡ true
         rest = subst (λ c. c && list_all k ys ≡ true) kb all
@@ -50,8 +50,8 @@ found_passes t k (y ∷ ys) x all e = by (t y) (k y) refl refl
           where
             some_is : Some y ≡ Some x → y ≡ x
             some_is s = cc
-        first false tc = found_passes t k ys x rest (subst (λ c. cond c (Some y) (find t ys) ≡ Some x) tc e)
-    by a false ta kb = absurd (none (subst (λ c. c && list_all k ys ≡ true) kb all))
+        first false tc = again rest (subst (λ c. cond c (Some y) (find t ys) ≡ Some x) tc e)
+    by a false ta kb again = absurd (none (subst (λ c. c && list_all k ys ≡ true) kb all))
       where
         none : false ≡ true → ⊥
         none e = cc
@@ -60,42 +60,65 @@ found_passes t k (y ∷ ys) x all e = by (t y) (k y) refl refl
 slot_kept : (word : List ℕ) (slot : Slot) → slot_in word ≡ Some slot → is_kept slot ≡ true
 slot_kept word slot e = found_passes _ is_kept (Classes ∷ TestClasses ∷ Main ∷ Tests ∷ Sources ∷ Javadoc ∷ []) slot refl e
 
--- so is that of an output that is read
+-- an output of this slot, of what was counted, and what is left
+abbrev own_with : List ℕ × (List ℕ × List ℕ) → Slot → OwnBytes × List ℕ
+own_with p slot = (record { slot = slot; bytes = p.1.0 }, p.1.1)
+
+abbrev own_named : List ℕ × (List ℕ × List ℕ) → Option (OwnBytes × List ℕ)
+own_named p = option_map (own_with p) (slot_in p.0)
+
+-- the slot of an output that was read
+abbrev slot_of : Option (OwnBytes × List ℕ) → Option Slot
+slot_of o = option_map (λ r. r.0.slot) o
+
+some_slot : (a b : Slot) → Some a ≡ Some b → a ≡ b
+some_slot a b e = cc
+
+-- the slot of an output that is read is a kept one
+named_kept : (p : List ℕ × (List ℕ × List ℕ)) (own : OwnBytes) (behind : List ℕ) → own_named p ≡ Some (own, behind) → is_kept own.slot ≡ true
+named_kept p own behind e = by (slot_in p.0) refl e
+  where
+    by : (s : Option Slot) → slot_in p.0 ≡ s → option_map (own_with p) s ≡ Some (own, behind) → is_kept own.slot ≡ true
+    by None is f = cc
+    by (Some slot) is f = subst (λ s. is_kept s ≡ true) (some_slot slot own.slot (ap slot_of f)) (slot_kept p.0 slot is)
+
 own_kept : (value : Data) (rest : List ℕ) (own : OwnBytes) (behind : List ℕ) → own_in value rest ≡ Some (own, behind) → is_kept own.slot ≡ true
 own_kept value rest own behind e = by (counted_in value rest) e
   where
-    by : (o : Option (List ℕ × (List ℕ × List ℕ))) → option_and_then (λ p. option_map (λ slot. (record { slot = slot; bytes = p.1.0 }, p.1.1)) (slot_in p.0)) o ≡ Some (own, behind) → is_kept own.slot ≡ true
+    by : (o : Option (List ℕ × (List ℕ × List ℕ))) → option_and_then own_named o ≡ Some (own, behind) → is_kept own.slot ≡ true
     by None f = cc
-    by (Some p) f = named (slot_in p.0) refl f
-      where
-        named : (s : Option Slot) → slot_in p.0 ≡ s → option_map (λ slot. (record { slot = slot; bytes = p.1.0 }, p.1.1)) s ≡ Some (own, behind) → is_kept own.slot ≡ true
-        named None is f = cc
-        named (Some slot) is f = subst (λ s. is_kept s ≡ true) (same f) (slot_kept p.0 slot is)
-          where
-            same : Some (record { slot = slot; bytes = p.1.0 }, p.1.1) ≡ Some (own, behind) → slot ≡ own.slot
-            same f = cc
+    by (Some p) f = named_kept p own behind f
+
+-- the outputs that an answer has before what is left
+abbrev outputs_of : Option (List OwnBytes × List ℕ) → Option (List OwnBytes)
+outputs_of o = option_map (λ r. r.0) o
+
+some_outputs : (a b : List OwnBytes) → Some a ≡ Some b → a ≡ b
+some_outputs a b e = cc
+
+-- one output before those of another answer
+abbrev before_more : OwnBytes → List OwnBytes × List ℕ → List OwnBytes × List ℕ
+before_more own more = (own ∷ more.0, more.1)
+
+abbrev then_more : List Data → OwnBytes × List ℕ → Option (List OwnBytes × List ℕ)
+then_more values first = option_map (before_more first.0) (all_taken own_in values first.1)
 
 -- the outputs that are read have kept slots
 all_kept : (values : List Data) (rest : List ℕ) (own : List OwnBytes) (behind : List ℕ) → all_taken own_in values rest ≡ Some (own, behind) → list_all (λ o. is_kept o.slot) own ≡ true
-all_kept [] rest own behind e = subst (λ xs. list_all (λ o. is_kept o.slot) xs ≡ true) (same e) refl
+all_kept [] rest own behind e = subst (λ xs. list_all (λ o. is_kept o.slot) xs ≡ true) (some_outputs [] own (ap outputs_of e)) refl
+all_kept (value ∷ values) rest own behind e = by (own_in value rest) refl e (all_kept values)
   where
-    same : Some ([], rest) ≡ Some (own, behind) → [] ≡ own
-    same e = cc
-all_kept (value ∷ values) rest own behind e = by (own_in value rest) refl e
-  where
-    by : (o : Option (OwnBytes × List ℕ)) → own_in value rest ≡ o
-        → option_and_then (λ first. option_map (λ more. (first.0 ∷ more.0, more.1)) (all_taken own_in values first.1)) o ≡ Some (own, behind) → list_all (λ o. is_kept o.slot) own ≡ true
-    by None is f = cc
-    by (Some first) is f = more (all_taken own_in values first.1) refl f
+    by : (o : Option (OwnBytes × List ℕ)) → own_in value rest ≡ o → option_and_then (then_more values) o ≡ Some (own, behind)
+        → ((rest : List ℕ) (own : List OwnBytes) (behind : List ℕ) → all_taken own_in values rest ≡ Some (own, behind) → list_all (λ o. is_kept o.slot) own ≡ true)
+        → list_all (λ o. is_kept o.slot) own ≡ true
+    by None is f again = cc
+    by (Some first) is f again = more (all_taken own_in values first.1) refl f
       where
-        more : (o : Option (List OwnBytes × List ℕ)) → all_taken own_in values first.1 ≡ o → option_map (λ more. (first.0 ∷ more.0, more.1)) o ≡ Some (own, behind) → list_all (λ o. is_kept o.slot) own ≡ true
+        more : (o : Option (List OwnBytes × List ℕ)) → all_taken own_in values first.1 ≡ o → option_map (before_more first.0) o ≡ Some (own, behind) → list_all (λ o. is_kept o.slot) own ≡ true
         more None all f = cc
         more (Some others) all f =
-            subst (λ xs. list_all (λ o. is_kept o.slot) xs ≡ true) (same f)
-            (ap₂ (λ a b. a && b) (own_kept value rest first.0 first.1 is) (all_kept values first.1 others.0 others.1 all))
-          where
-            same : Some (first.0 ∷ others.0, others.1) ≡ Some (own, behind) → first.0 ∷ others.0 ≡ own
-            same f = cc
+            subst (λ xs. list_all (λ o. is_kept o.slot) xs ≡ true) (some_outputs (first.0 ∷ others.0) own (ap outputs_of f))
+            (ap₂ (λ a b. a && b) (own_kept value rest first.0 first.1 is) (again first.1 others.0 others.1 all))
 
 pub listed_kept : (key : List ℕ) (value : Data) (bytes : List ℕ) (own : List OwnBytes) (behind : List ℕ) → listed own_in key value bytes ≡ Some (own, behind) → HasOwnSlots own
 listed_kept key value bytes own behind e = by (items_at key value) e

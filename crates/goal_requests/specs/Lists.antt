@@ -3,6 +3,8 @@ use Rattle.std.specs.Prelude.{ℕ, nat_eq, nat_le, List, [], ◌∷◌, length, 
 use Rattle.std.specs.Cmp.Lexicographic.{pointwise}
 use Rattle.serde_json.specs.Data.{Data}
 use Rattle.serde_json.specs.Find.{as_str, as_null, as_array}
+use Rattle.serde_json.specs.View.{view}
+use Rattle.serde_json.specs.declared.value.Value.{Value}
 use Rattle.goal_types.specs.declared.goal.Slot.{Slot}
 use Rattle.goal_types.specs.declared.goal.Slot.TheVariants.{Classes, TestClasses, Main, Tests, Sources, Javadoc}
 use Rattle.goal_types.specs.declared.goal.SourceFile.{SourceFile}
@@ -23,6 +25,13 @@ name_and_count [] = None
 name_and_count (a ∷ []) = None
 name_and_count (a ∷ b ∷ []) = option_map (λ name. (name, b)) (as_str a)
 name_and_count (a ∷ b ∷ c ∷ more) = None
+
+-- the same of the program's values
+abbrev pub pair_of : List Value → Option (List ℕ × Data)
+pair_of [] = None
+pair_of (a ∷ []) = None
+pair_of (a ∷ b ∷ []) = option_map (λ name. (name, view b)) (as_str (view a))
+pair_of (a ∷ b ∷ c ∷ more) = None
 
 abbrev pub named_in : Data → Option (List ℕ × Data)
 named_in value = option_and_then name_and_count (option_map items_list (as_array value))

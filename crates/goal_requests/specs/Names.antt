@@ -24,21 +24,26 @@ is_valid gav classifier extension = is_group gav.group && is_name gav.artifact &
 unfoldable pub file_at : Gav → List ℕ → List ℕ → List ℕ → Option (List ℕ)
 file_at gav classifier extension path = if is_valid gav classifier extension && pointwise nat_eq (file_name gav classifier extension) path then Some path else None
 
+-- the step that stands so many before the end, counted from 1; empty where there is none
+abbrev pub from_end : ℕ → List (List ℕ) → List ℕ
+from_end back steps = if nat_lt (length steps) back then [] else slice_index_or steps (length steps - back) []
+
+-- the group that the first steps name: those before the last three
+abbrev pub group_by : List (List ℕ) → List ℕ
+group_by steps = join_by (λ s. s) (codes ".") (take (length steps - 3) steps)
+
 -- the coordinates that a path's steps name: a group's steps, an artifact, a version
 abbrev pub gav_by : List (List ℕ) → Gav
-gav_by steps =
-    let count = length steps in
-    record { group = join_by (λ s. s) (codes ".") (take (count - 3) steps); artifact = slice_index_or steps (count - 3) []; version = slice_index_or steps (count - 2) [] }
+gav_by steps = record { group = group_by steps; artifact = from_end 3 steps; version = from_end 2 steps }
 
--- the classifier and the extension that the last step names, behind these coordinates
-abbrev pub tail_by : Gav → List (List ℕ) → Option (List ℕ × List ℕ)
-tail_by gav steps = option_and_then tail_of (behind (gav.artifact ++ codes "-" ++ gav.version) (slice_index_or steps (length steps - 1) []))
+-- the file of these coordinates whose last step this is, where this is its path
+abbrev pub file_behind : Gav → List ℕ → List ℕ → Option (List ℕ)
+file_behind gav last path =
+    option_and_then (λ tail. file_at gav tail.0 tail.1 path) (option_and_then tail_of (behind (gav.artifact ++ codes "-" ++ gav.version) last))
 
 -- the file at a path of these steps
 abbrev pub file_by : List (List ℕ) → List ℕ → Option (List ℕ)
-file_by steps path =
-    if nat_lt (length steps) 3 then None
-    else option_and_then (λ tail. file_at (gav_by steps) tail.0 tail.1 path) (tail_by (gav_by steps) steps)
+file_by steps path = if nat_lt (length steps) 3 then None else file_behind (gav_by steps) (from_end 1 steps) path
 
 -- the file at a path
 unfoldable pub file_in : List ℕ → Option (List ℕ)

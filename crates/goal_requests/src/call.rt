@@ -44,7 +44,7 @@ fn call_of(
     configuration: List<Setting>,
 ) -> Mem<GoalCall>
     ensures { IfOk result (λ call. Some call
-        ≡ call_of (Some (plugin_parts plugin)) (Some goal.now) (Some execution.now)
+        ≡ call_of (Some (plugin_parts plugin.entry)) (Some goal.now) (Some execution.now)
         (Some phase) (Some configuration)) }
 {
     let rule = goal_rule(

@@ -5,7 +5,7 @@ ghost use Rattle.goal_types.specs.Requests.{slot_name};
 ghost use Rattle.std.specs.Option.{option_map};
 ghost use Rattle.serde_json.specs.Data.{Data};
 ghost use Rattle.serde_json.specs.View.{view};
-ghost use Rattle.goal_requests.specs.Lists.{with_rest, named_in, part_of, slot_in, counted_in, listed};
+ghost use Rattle.goal_requests.specs.Lists.{with_rest, pair_of, named_in, part_of, slot_in, counted_in, listed};
 
 use crate::members::{items_at, number_in};
 use crate::name::file_in;
@@ -39,13 +39,24 @@ const KEPT: [Slot; 6] = [
     Slot::Javadoc,
 ];
 
-// A name and what is said of its bytes: an array of exactly these two.
+// A name and what is said of its bytes: exactly these two.
+fn pair_of(values: &[Value]) -> Option<(&str, &Value)>
+    ensures { option_map (λ p. (p.0.now, view p.1.now)) result ≡ pair_of values.now }
+{
+    match values {
+        [name, count] => Some((name.as_str()?, count)),
+        _ => None,
+    }
+}
+
+// The same of an array.
+#[tactic(auto, using(crate::proofs::Members::paired))]
 fn named_in(value: &Value) -> Option<(&str, &Value)>
     ensures { option_map (λ p. (p.0.now, view p.1.now)) result ≡ named_in (view value.now) }
 {
-    match value.as_array()?.as_slice() {
-        [name, count] => Some((name.as_str()?, count)),
-        _ => None,
+    match value.as_array() {
+        Some(items) => pair_of(items.as_slice()),
+        None => None,
     }
 }
 

@@ -1,9 +1,9 @@
 // The name of a repository's file, read from its path.
-ghost use Rattle.std.specs.Prelude.{◌≡◌, ◌≤◌, ◌==◌, ◌++◌, codes, length, map, option_and_then, IfOk};
+ghost use Rattle.std.specs.Prelude.{◌≡◌, ◌==◌, ◌++◌, codes, map, option_and_then, IfOk};
 ghost use Rattle.std.specs.String.{string_bytes};
 ghost use Rattle.std.specs.Option.{option_map};
 ghost use Rattle.std.specs.List.{slice_split};
-ghost use Rattle.goal_requests.specs.Names.{classifier_in, tail_of, gav_by, is_valid, file_at, file_by, file_in};
+ghost use Rattle.goal_requests.specs.Names.{classifier_in, tail_of, from_end, group_by, gav_by, is_valid, file_at, file_behind, file_by, file_in};
 ghost use Rattle.goal_requests.specs.Texts.{behind};
 
 use crate::text::{behind, cut};
@@ -46,15 +46,52 @@ fn tail_behind<'a>(front: &str, last: &'a str) -> Option<(&'a str, &'a str)>
     tail_of(behind(front, last)?)
 }
 
+// The last step but two.
+fn third_last<'a>(steps: &[&'a str]) -> &'a str
+    ensures { result.now ≡ from_end 3 (map (λ s. s.now) steps.now) }
+{
+    match steps {
+        [.., step, _, _] => step,
+        _ => "",
+    }
+}
+
+// The last step but one.
+fn second_last<'a>(steps: &[&'a str]) -> &'a str
+    ensures { result.now ≡ from_end 2 (map (λ s. s.now) steps.now) }
+{
+    match steps {
+        [.., step, _] => step,
+        _ => "",
+    }
+}
+
+// The last step.
+fn last<'a>(steps: &[&'a str]) -> &'a str
+    ensures { result.now ≡ from_end 1 (map (λ s. s.now) steps.now) }
+{
+    match steps {
+        [.., step] => step,
+        _ => "",
+    }
+}
+
+// The group that the first steps name.
+#[tactic(auto, using(crate::proofs::Steps::group_joined))]
+fn group_by(alloc: Global, steps: &[&str]) -> Mem<Text>
+    ensures { IfOk result (λ group. group ≡ group_by (map (λ s. s.now) steps.now)) }
+{
+    let count = steps.len().saturating_sub(3);
+    Ok(Text::of(steps[..count].join(alloc, ".")?))
+}
+
 // The coordinates that a path's steps name.
 fn gav_by(alloc: Global, steps: &[&str]) -> Mem<Gav>
-    requires { 3 ≤ length steps.now }
     ensures { IfOk result (λ gav. gav ≡ gav_by (map (λ s. s.now) steps.now)) }
 {
-    let count = steps.len();
-    let group = Text::of(steps[..count - 3].join(alloc, ".")?);
-    let artifact = Text::from_str(alloc, steps[count - 3])?;
-    let version = Text::from_str(alloc, steps[count - 2])?;
+    let group = group_by(alloc, steps)?;
+    let artifact = Text::from_str(alloc, third_last(steps))?;
+    let version = Text::from_str(alloc, second_last(steps))?;
     Ok(Gav {
         group,
         artifact,
@@ -107,22 +144,42 @@ fn file_at(
     }
 }
 
+// The same of words.
+fn file_with(
+    alloc: Global,
+    gav: &Gav,
+    classifier: &str,
+    extension: &str,
+    path: &str,
+) -> Mem<Option<FileName>>
+    ensures { IfOk result
+        (λ found. found ≡ file_at gav.now classifier.now extension.now path.now) }
+{
+    let classifier = Text::from_str(alloc, classifier)?;
+    let extension = Text::from_str(alloc, extension)?;
+    file_at(alloc, gav, &classifier, &extension, path)
+}
+
+// The file of these coordinates whose last step this is, where this is its path.
+fn file_behind(alloc: Global, gav: &Gav, last: &str, path: &str) -> Mem<Option<FileName>>
+    ensures { IfOk result (λ found. found ≡ file_behind gav.now last.now path.now) }
+{
+    let front = front_of(alloc, gav)?;
+    match tail_behind(front.as_str(), last) {
+        Some((classifier, extension)) => file_with(alloc, gav, classifier, extension, path),
+        None => Ok(None),
+    }
+}
+
 // The file at a path of these steps.
 fn file_by(alloc: Global, steps: &[&str], path: &str) -> Mem<Option<FileName>>
     ensures { IfOk result (λ found. found ≡ file_by (map (λ s. s.now) steps.now) path.now) }
 {
-    let count = steps.len();
-    if count < 3 {
+    if steps.len() < 3 {
         return Ok(None);
     }
     let gav = gav_by(alloc, steps)?;
-    let front = front_of(alloc, &gav)?;
-    let Some((classifier, extension)) = tail_behind(front.as_str(), steps[count - 1]) else {
-        return Ok(None);
-    };
-    let classifier = Text::from_str(alloc, classifier)?;
-    let extension = Text::from_str(alloc, extension)?;
-    file_at(alloc, &gav, &classifier, &extension, path)
+    file_behind(alloc, &gav, last(steps), path)
 }
 
 /// The name of the file at a path of a repository; None where no file of valid coordinates has it. Costs its length.

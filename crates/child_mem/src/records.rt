@@ -1,5 +1,6 @@
 // The records of children in memory, changed by each call.
-ghost use Rattle.std.specs.Prelude.{◌≡◌, ◌≤◌, length, slice_get, IfSome, OnOk, OnErr};
+ghost use Rattle.std.specs.Prelude.{◌≡◌, ◌≤◌, length, drop, slice_get, IfSome, OnOk, OnErr};
+ghost use Rattle.std.specs.Vec.Iter.{into_iter_items};
 ghost use Rattle.child_outside.specs.Children.{change_at, given_more, input_closed, read_on, unread};
 ghost use Rattle.child_outside.specs.Reading.{IsFront};
 ghost use Rattle.child_mem.specs.Scripts.{child_of};
@@ -9,6 +10,7 @@ use crate::spawner::ChildScript;
 use child_outside::ChildRecord;
 use mvn_shared::{Bytes, Mem};
 use std::alloc::Global;
+use std::vec::IntoIter;
 
 /// The record of a child that is started with this script.
 pub(crate) fn fresh_record(alloc: Global, script: Option<ChildScript>) -> ChildRecord
@@ -24,6 +26,17 @@ pub(crate) fn fresh_record(alloc: Global, script: Option<ChildScript>) -> ChildR
         output,
         taken: 0,
         status,
+    }
+}
+
+/// The next script, where there is one.
+pub(crate) fn next_script(scripts: &mut IntoIter<ChildScript>) -> Option<ChildScript>
+    ensures taken { result ≡ slice_get (into_iter_items scripts.old) 0 }
+    ensures left { into_iter_items scripts.new ≡ drop 1 (into_iter_items scripts.old) }
+{
+    match scripts.next() {
+        Some(script) => Some(script),
+        None => None,
     }
 }
 

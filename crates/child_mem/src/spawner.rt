@@ -1,6 +1,6 @@
-ghost use Rattle.std.specs.Prelude.{◌≡◌, [], true, length, IfOk};
+ghost use Rattle.std.specs.Prelude.{◌≡◌, ℕ, ◌==◌, [], true, length, IfOk};
 
-use crate::records::{close, fresh_record, give, status_of, take};
+use crate::records::{close, fresh_record, give, next_script, status_of, take};
 use child_outside::{ChildRecord, Failed, Spawner};
 use mvn_outside::DeviceFault;
 use mvn_shared::{Bytes, List, Mem};
@@ -28,6 +28,8 @@ pub struct MemSpawner<F> {
 }
 
 impl MemSpawner<Calls> {
+    ghost use Rattle.std.specs.List.{list_any};
+    ghost use Rattle.outside_mem.specs.Calls.{fails};
     ghost use Rattle.child_mem.specs.Spawner.{scripts_left, child_records, present};
 
     /// These scripts, in order. The calls with the numbers fail, from 0 on.
@@ -39,6 +41,8 @@ impl MemSpawner<Calls> {
         ensures scripts { IfOk result (λ spawner. scripts_left spawner ≡ scripts) }
         ensures records { IfOk result (λ spawner. child_records spawner ≡ []) }
         ensures present { IfOk result (λ spawner. present spawner ≡ []) }
+        ensures failing { IfOk result (λ spawner. (n : ℕ) →
+            fails spawner.calls n ≡ list_any (λ m. n == m) failing.now) }
         ensures never { failing.now ≡ [] → IfOk result
             (λ spawner. ⟦<MemSpawner<Calls> as Spawner>⟧.never_fails spawner ≡ true) }
     {
@@ -92,8 +96,13 @@ impl<F> MemSpawner<F> {
 }
 
 impl<F: Failures> Spawner for MemSpawner<F> {
-    ghost use Rattle.std.specs.Prelude.{Some};
+    ghost use Rattle.std.specs.Prelude.{Some, false, ◌∷◌, ◌++◌, drop, slice_get, OnOk, OnErr};
+    ghost use Rattle.mvn_shared.specs.Cause.{HasCause};
+    ghost use Rattle.mvn_outside.specs.Faults.{device_failed};
+    ghost use Rattle.child_outside.specs.Children.{is_there, with_child};
     ghost use Rattle.child_outside.specs.Numbers.{numbers};
+    ghost use Rattle.child_mem.specs.Scripts.{child_of};
+    ghost use Rattle.child_mem.specs.Spawner.{scripts_left, child_records, children_there};
 
     ghost children = { λ spawner. numbers spawner.there.keys };
 
@@ -105,9 +114,24 @@ impl<F: Failures> Spawner for MemSpawner<F> {
 
     ghost no_faults = { λ spawner. F.no_faults spawner.calls };
 
-    // A number is given once.
-    #[tactic(auto, using(child_outside::proofs::Present::not_there, child_outside::proofs::Present::one_added, child_outside::proofs::Present::came_and_went))]
-    fn start(&mut self) -> Result<u64, DeviceFault> {
+    /// Starts a child with the next script. A call that fails uses up none.
+    #[tactic(auto, using(child_outside::proofs::Present::not_there, child_outside::proofs::Present::one_added))]
+    fn start(&mut self) -> Result<u64, DeviceFault>
+        ensures script { OnOk result (child_records self.new
+            ≡ child_records self.old ++ child_of (slice_get (scripts_left self.old) 0) ∷ []) }
+        ensures next { OnOk result (scripts_left self.new ≡ drop 1 (scripts_left self.old)) }
+        ensures kept { OnErr result (scripts_left self.new ≡ scripts_left self.old) }
+        ensures fresh { IfOk result
+            (λ child. is_there (children_there self.old) child ≡ false) }
+        ensures there { IfOk result
+            (λ child. children_there self.new ≡ with_child (children_there self.old) child) }
+        ensures place { IfOk result (λ child. child ≡ length (child_records self.old)) }
+        ensures err { OnErr result (child_records self.new ≡ child_records self.old) }
+        ensures none { OnErr result (children_there self.new ≡ children_there self.old) }
+        ensures never { F.never_fails self.new.calls ≡ F.never_fails self.old.calls }
+        ensures cause { HasCause (F.count self.old.calls) (F.count self.new.calls)
+            (device_failed result) }
+    {
         if self.calls.next_fails() {
             return Err(DeviceFault::Failed);
         }
@@ -115,17 +139,15 @@ impl<F: Failures> Spawner for MemSpawner<F> {
         if self.there.contains(&child) {
             return Err(DeviceFault::Memory);
         }
+        let Ok(()) = self.records.reserve(1) else {
+            return Err(DeviceFault::Memory);
+        };
         if self.there.insert(child).is_err() {
             return Err(DeviceFault::Memory);
         }
-        let record = fresh_record(self.alloc, self.scripts.next());
-        match self.records.push(record) {
-            Ok(()) => Ok(child),
-            Err(_) => {
-                self.there.remove(&child);
-                Err(DeviceFault::Memory)
-            }
-        }
+        let script = next_script(&mut self.scripts);
+        self.records.push_reserved(fresh_record(self.alloc, script));
+        Ok(child)
     }
 
     fn write(&mut self, child: u64, bytes: &[u8]) -> Result<usize, DeviceFault> {

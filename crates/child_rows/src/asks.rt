@@ -136,8 +136,13 @@ pub(crate) fn produced(alloc: Global, count: &str) -> Mem<Bytes> {
     asked(alloc, ChildScript { output, status: 0 }, &List::new(alloc))
 }
 
-/// The gate's answer to so many bytes that are none, of a child that ends with 7.
-pub(crate) fn long(alloc: Global, count: &str) -> Mem<Bytes> {
+/// The gate's answer to so many bytes that are none, of a child that ends with 7; with a second number, where that call of the spawner fails.
+pub(crate) fn long(alloc: Global, numbers: &str) -> Mem<Bytes> {
+    let (count, call) = numbers.split_once(' ').unwrap_or((numbers, ""));
     let output = lengthened(alloc, "", count)?;
-    asked(alloc, ChildScript { output, status: 7 }, &List::new(alloc))
+    let mut failing = List::new(alloc);
+    if let Ok(call) = call.parse::<u64>() {
+        failing.push(call)?;
+    }
+    asked(alloc, ChildScript { output, status: 7 }, &failing)
 }

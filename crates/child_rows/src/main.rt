@@ -4,7 +4,7 @@
 //!
 //! - `ask STATUS OUTPUT`: the gate's answer where its child writes the output and ends with the status
 //! - `fail N`: the same of a child that is done, where call N of the spawner fails, from 0 on
-//! - `produced N`, `long N`: the same of an answer with N bytes of output, and of N bytes that are no answer
+//! - `produced N`, `long N`: the same of an answer with N bytes of output, and of N bytes that are no answer; `long N K`: where call K fails
 //! - `build STATUS OUTPUT`: the status and the report of an install whose first goal's child does that; `build`: of one whose children do well;
 //!   `fault N`: the same where call N of the spawner fails
 //! - `goal BYTES`: the status of the goal program, and what it writes; `read N BYTES`, `write N BYTES`: the same where that read or write fails

@@ -3,7 +3,7 @@ ghost use Rattle.std.specs.Prelude.{◌≡◌, ◌<◌, nat_le, length, Some, No
 ghost use Rattle.mvn_shared.specs.Cause.{HasCause};
 ghost use Rattle.mvn_outside.specs.Faults.{device_failed};
 ghost use Rattle.goal_requests.specs.Requests.{most_request};
-ghost use Rattle.goal_program.specs.Reading.{ReadsMore};
+ghost use Rattle.goal_program.specs.Reading.{ReadsMore, ReadsUpTo, most_read};
 
 use child_outside::Source;
 use goal_requests::MOST_REQUEST;
@@ -15,6 +15,7 @@ use std::alloc::Global;
 const PART: usize = 65536;
 
 // Reads once, and puts behind `bytes` what came. Says whether the stream has ended.
+#[tactic(auto, using(crate::proofs::Steps::read_none, crate::proofs::Steps::read_some))]
 fn read_more<I: Source>(
     input: &mut I,
     part: &mut [u8],
@@ -23,6 +24,7 @@ fn read_more<I: Source>(
     requires { 0 < length part.old }
     ensures reads { IfOk result (λ ended. ReadsMore (I.left input.old) (I.left input.new)
         (length part.old) bytes.old.items bytes.new.items ended) }
+    ensures up_to { ReadsUpTo (length part.old) (I.left input.old) (I.left input.new) }
     ensures never { I.never_fails input.new ≡ I.never_fails input.old }
     ensures cause { HasCause (I.faults input.old) (I.faults input.new) (device_failed result) }
 {
@@ -36,12 +38,14 @@ fn read_more<I: Source>(
 }
 
 /// All that is left of a stream; None where that is more than a request has. It reads one byte more than that at most.
+#[tactic(auto, using(crate::proofs::Steps::read_none, crate::proofs::Steps::read_further, crate::proofs::Steps::read_so_far))]
 pub(crate) fn read_all<I: Source>(
     alloc: Global,
     input: &mut I,
 ) -> Result<Option<Bytes>, DeviceFault>
     ensures all { IfOk result (λ found. IfSome (I.left input.old)
         (λ rest. found ≡ (if nat_le (length rest) most_request then Some rest else None))) }
+    ensures stops { ReadsUpTo most_read (I.left input.old) (I.left input.new) }
     ensures never { I.never_fails input.new ≡ I.never_fails input.old }
     ensures cause { HasCause (I.faults input.old) (I.faults input.new) (device_failed result) }
 {

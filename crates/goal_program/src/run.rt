@@ -2,6 +2,7 @@ ghost use Rattle.std.specs.Prelude.{◌≡◌, ◌==◌, IfOk, IfSome};
 ghost use Rattle.mvn_shared.specs.Cause.{HasCause};
 ghost use Rattle.mvn_outside.specs.Faults.{device_failed};
 ghost use Rattle.goal_program.specs.Answering.{reply_from};
+ghost use Rattle.goal_program.specs.Reading.{ReadsUpTo, most_read};
 ghost use Rattle.goal_program.specs.Running.{IsStatus, Answered, Refused, WritesPart, HasOneCause};
 
 use crate::answering::reply_to;
@@ -28,6 +29,7 @@ pub const NO_MEMORY: u8 = 4;
 fn reply<I: Source>(alloc: Global, input: &mut I) -> Result<Option<Bytes>, DeviceFault>
     ensures value { IfOk result
         (λ reply. IfSome (I.left input.old) (λ text. reply ≡ reply_from text)) }
+    ensures stops { ReadsUpTo most_read (I.left input.old) (I.left input.new) }
     ensures never { I.never_fails input.new ≡ I.never_fails input.old }
     ensures cause { HasCause (I.faults input.old) (I.faults input.new) (device_failed result) }
 {
@@ -48,6 +50,7 @@ pub fn goal_main<I: Source, O: Sink>(alloc: Global, input: &mut I, out: &mut O) 
     ensures refused { result ≡ 2 → IfSome (I.left input.old) (λ text. Refused text) }
     ensures part { IfSome (I.left input.old)
         (λ text. WritesPart text (O.written out.old) (O.written out.new)) }
+    ensures stops { ReadsUpTo most_read (I.left input.old) (I.left input.new) }
     ensures input_never { I.never_fails input.new ≡ I.never_fails input.old }
     ensures output_never { O.never_fails out.new ≡ O.never_fails out.old }
     ensures cause { HasOneCause (I.faults input.old) (I.faults input.new)

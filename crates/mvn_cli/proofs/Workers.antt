@@ -1,5 +1,5 @@
 -- Workers' handles, one after another: what runs the goals is the same for each.
-use Rattle.std.proofs.Common.{◌≡◌, ℕ, ◌+◌, List, [], ◌∷◌, ◌++◌, length, refl, sym, ap, subst, ◌∙◌, arith}
+use Rattle.std.proofs.Common.{◌≡◌, ℕ, List, [], ◌∷◌, ◌++◌, sym, subst}
 use Rattle.std.specs.List.{All}
 use Rattle.std.proofs.lemmas.List.Elements.{All-push}
 use Rattle.mvn_outside.specs.declared.hand.Hand.{Hand}
@@ -11,5 +11,4 @@ use Rattle.mvn_cli.specs.Gates.{named_program, gate_program}
 pub gates_pushed : {A B R : Type 0} {old new : List (Hand A B (AnyGate (RealSpawner R)))} {x : Hand A B (AnyGate (RealSpawner R))} (program : List ℕ) → new ≡ old ++ x ∷ []
     → All (λ hand. gate_program hand.gate ≡ named_program program) old → gate_program x.gate ≡ named_program program
     → All (λ hand. gate_program hand.gate ≡ named_program program) new
-gates_pushed {old = old} {x = x} program e all one =
-    subst (λ hands. All (λ hand. gate_program hand.gate ≡ named_program program) hands) (sym e) (All-push (λ hand. gate_program hand.gate ≡ named_program program) old x all one)
+gates_pushed program e all one = subst (λ hands. All (λ hand. gate_program hand.gate ≡ named_program program) hands) (sym e) (All-push (λ hand. gate_program hand.gate ≡ named_program program) _ _ all one)

@@ -1,4 +1,4 @@
-use Rattle.std.proofs.Common.{◌≡◌, ◌+◌, length, arith}
+use Rattle.std.proofs.Common.{arith}
 use Rattle.mvn_cli.proofs.Workers.{gates_pushed}
 use Rattle.mvn_cli.proofs.hands.Goals as goal
 

@@ -1,5 +1,5 @@
 mod Examples
-pub mod Members
+pub mod Arrays
 pub mod Settings
 pub mod Steps
 pub mod Taking

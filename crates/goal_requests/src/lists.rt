@@ -50,7 +50,7 @@ fn pair_of(values: &[Value]) -> Option<(&str, &Value)>
 }
 
 // The same of an array.
-#[tactic(auto, using(crate::proofs::Members::paired))]
+#[tactic(auto, using(crate::proofs::Arrays::paired))]
 fn named_in(value: &Value) -> Option<(&str, &Value)>
     ensures { option_map (λ p. (p.0.now, view p.1.now)) result ≡ named_in (view value.now) }
 {

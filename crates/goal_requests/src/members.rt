@@ -25,7 +25,7 @@ pub(crate) fn text_at<'a>(value: &'a Value, key: &str) -> Option<&'a str>
 }
 
 /// The items of the array under a key.
-#[tactic(auto, using(crate::proofs::Members::items_found))]
+#[tactic(auto, using(crate::proofs::Arrays::items_found))]
 pub(crate) fn items_at<'a>(value: &'a Value, key: &str) -> Option<&'a [Value]>
     ensures { option_map (λ items. views items.now) result ≡ items_at key.now (view value.now) }
 {

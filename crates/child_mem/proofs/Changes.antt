@@ -11,6 +11,6 @@ change_set f d (suc n) (x ∷ xs) low = ap (λ ys. x ∷ ys) (change_set f d n x
 
 -- behind the last item there is nothing to change
 pub change_beyond : {A : Type 0} (f : A → A) (n : ℕ) (xs : List A) → (n < length xs → ⊥) → change_at f n xs ≡ xs
-change_beyond f n [] no = refl
-change_beyond f zero (x ∷ xs) no = absurd (no (omega arith))
-change_beyond f (suc n) (x ∷ xs) no = ap (λ ys. x ∷ ys) (change_beyond f n xs (λ low. no (omega (arith, low))))
+change_beyond f n [] past = refl
+change_beyond f zero (x ∷ xs) past = absurd (past (omega arith))
+change_beyond f (suc n) (x ∷ xs) past = ap (λ ys. x ∷ ys) (change_beyond f n xs (λ low. past (omega (arith, low))))

@@ -1,11 +1,13 @@
 -- The lists of a request, item by item, and that the slots of its outputs are kept ones.
-use Rattle.std.proofs.Common.{◌≡◌, ℕ, Bool, true, false, ◌&&◌, List, [], ◌∷◌, ◌++◌, Option, Some, None, option_map, option_and_then, find, cond, refl, sym, ap, ap₂, subst, ◌∙◌, append_assoc}
+use Rattle.std.proofs.Common.{◌≡◌, ℕ, Bool, true, false, ◌&&◌, List, [], ◌∷◌, ◌++◌, Option, Some, None, option_map, option_and_then, find, cond, nat_eq, refl, sym, ap, ap₂, subst, ◌∙◌, append_assoc}
 use Rattle.std.specs.List.{list_all}
+use Rattle.std.specs.Cmp.Lexicographic.{pointwise}
 use Rattle.serde_json.specs.Data.{Data}
 use Rattle.goal_types.specs.declared.goal.Slot.{Slot}
 use Rattle.goal_types.specs.declared.goal.Slot.TheVariants.{Classes, TestClasses, Main, Tests, Sources, Javadoc}
 use Rattle.goal_types.specs.declared.goal.OwnBytes.{OwnBytes}
 use Rattle.goal_types.specs.Goals.{is_kept, HasOwnSlots}
+use Rattle.goal_types.specs.Requests.{slot_name}
 use Rattle.goal_requests.specs.Members.{items_at}
 use Rattle.goal_requests.specs.Lists.{all_taken, listed, own_in, counted_in, slot_in}
 
@@ -58,7 +60,7 @@ found_passes t k (y ∷ ys) x all e = by (t y) (k y) refl refl (found_passes t k
 
 -- a slot that is found by its name is a kept one
 slot_kept : (word : List ℕ) (slot : Slot) → slot_in word ≡ Some slot → is_kept slot ≡ true
-slot_kept word slot e = found_passes _ is_kept (Classes ∷ TestClasses ∷ Main ∷ Tests ∷ Sources ∷ Javadoc ∷ []) slot refl e
+slot_kept word slot e = found_passes (λ slot. pointwise nat_eq (slot_name slot) word) is_kept (Classes ∷ TestClasses ∷ Main ∷ Tests ∷ Sources ∷ Javadoc ∷ []) slot refl e
 
 -- an output of this slot, of what was counted, and what is left
 abbrev own_with : List ℕ × (List ℕ × List ℕ) → Slot → OwnBytes × List ℕ
@@ -120,8 +122,8 @@ all_kept (value ∷ values) rest own behind e = by (own_in value rest) refl e (a
             subst (λ xs. list_all (λ o. is_kept o.slot) xs ≡ true) (some_outputs (first.0 ∷ others.0) own (ap outputs_of f))
             (ap₂ (λ a b. a && b) (own_kept value rest first.0 first.1 is) (again first.1 others.0 others.1 all))
 
-pub listed_kept : (key : List ℕ) (value : Data) (bytes : List ℕ) (own : List OwnBytes) (behind : List ℕ) → listed own_in key value bytes ≡ Some (own, behind) → HasOwnSlots own
-listed_kept key value bytes own behind e = by (items_at key value) e
+pub listed_kept : (key : List ℕ) (value : Data) (bytes : List ℕ) (own : List OwnBytes) (behind : List ℕ) → Some (own, behind) ≡ listed own_in key value bytes → HasOwnSlots own
+listed_kept key value bytes own behind e = by (items_at key value) (sym e)
   where
     by : (o : Option (List Data)) → option_and_then (λ values. all_taken own_in values bytes) o ≡ Some (own, behind) → HasOwnSlots own
     by None f = cc

@@ -1,6 +1,7 @@
-use Rattle.std.proofs.Common.{◌-◌, ◌<◌, ◌≤◌, length, length-take, vec_len, true, refl, sym, subst, ◌∙◌, arith}
+use Rattle.std.proofs.Common.{◌-◌, ◌+◌, ◌<◌, ◌≤◌, length, length-take, take, vec_len, true, refl, sym, subst, ◌∙◌, arith}
 use Rattle.goal_requests.specs.Requests.{most_request}
-use Rattle.goal_program.proofs.Steps.{ReadSoFar, read_nothing, read_step, read_to_end, read_too_much}
+use Rattle.goal_program.specs.Reading.{most_read}
+use Rattle.goal_program.proofs.Steps.{ReadSoFar, read_nothing, read_step, read_to_end, read_too_much, read_none, read_further, read_so_far}
 use Rattle.goal_program.proofs.input.read_all.Goals as goal
 
 pub loop-bytes-init : goal.loop-bytes-init
@@ -46,3 +47,25 @@ pub returns-clause-all : goal.returns-clause-all
 returns-clause-all g c =
     let long : most_request < length c.loop-bytes.bytes.items = omega (arith, c.loop-bytes.bytes.ok.0, c.len.ensures, c.loop-bytes-test.false) in
     read_too_much (g.I.Source.left c.args.input.now) (g.I.Source.left c.loop-bytes.input) c.loop-bytes.bytes.items long c.loop-bytes.invariant.so_far
+
+pub returns-in_default-clause-stops : goal.returns-in_default-clause-stops
+returns-in_default-clause-stops g c = read_none most_read (g.I.Source.left c.args.input.now) (g.I.Source.left c.args.input.now) refl
+
+pub returns-in_err-read_more-clause-stops : goal.returns-in_err-read_more-clause-stops
+returns-in_err-read_more-clause-stops g c =
+    let room = length (take c.min-room.result c.deref_mut.result.now) in
+    let low : length c.loop-bytes.bytes.items + room ≤ most_read =
+    omega (arith, length-take c.min-room.result c.deref_mut.result.now, c.min-room.ensures, c.len-in-loop-bytes.ensures, c.loop-bytes.bytes.ok.0, c.loop-bytes.invariant.within) in
+    read_further (g.I.Source.left c.args.input.now) (g.I.Source.left c.loop-bytes.input) (g.I.Source.left c.read_more.new.input) c.loop-bytes.bytes.items room low c.loop-bytes.invariant.so_far c.in_err-read_more.ensures.up_to
+
+pub returns-then-branch-clause-stops : goal.returns-then-branch-clause-stops
+returns-then-branch-clause-stops g c =
+    let room = length (take c.min-room.result c.deref_mut.result.now) in
+    let low : length c.loop-bytes.bytes.items + room ≤ most_read =
+    omega (arith, length-take c.min-room.result c.deref_mut.result.now, c.min-room.ensures, c.len-in-loop-bytes.ensures, c.loop-bytes.bytes.ok.0, c.loop-bytes.invariant.within) in
+    read_further (g.I.Source.left c.args.input.now) (g.I.Source.left c.loop-bytes.input) (g.I.Source.left c.read_more.new.input) c.loop-bytes.bytes.items room low c.loop-bytes.invariant.so_far c.in_ok-read_more.ensures.up_to
+
+pub returns-clause-stops : goal.returns-clause-stops
+returns-clause-stops g c =
+    let low : length c.loop-bytes.bytes.items ≤ most_read = omega (arith, c.loop-bytes.bytes.ok.0, c.loop-bytes.invariant.within) in
+    read_so_far (g.I.Source.left c.args.input.now) (g.I.Source.left c.loop-bytes.input) c.loop-bytes.bytes.items low c.loop-bytes.invariant.so_far

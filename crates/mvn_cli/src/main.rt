@@ -1,8 +1,7 @@
 //! The program `mvn`: its words and its folder, given to the top call.
 #![tactic(auto)]
 
-ghost use Rattle.std.specs.Prelude.{◌≡◌, length, IfOk};
-ghost use Rattle.std.specs.List.{All};
+ghost use Rattle.std.specs.Prelude.{◌≡◌, length, map, replicate, IfOk};
 ghost use Rattle.mvn_cli.specs.Gates.{named_program, gate_program};
 
 mod environment;
@@ -69,7 +68,27 @@ fn status_of_text<O: Sink>(sink: &mut O, text: &str) -> u8 {
     }
 }
 
-// The hands: each with the remote, its own staging folder in the repository, and what runs the goals.
+// The hand with this number: the remote, its own staging folder in the repository, and what runs the goals.
+fn hand<'a>(
+    rt: &'a HostRuntime,
+    repository: &Text,
+    remote: &Text,
+    process: &Text,
+    program: &Text,
+    number: usize,
+) -> Mem<RealHand<'a>>
+    ensures { IfOk result (λ hand. gate_program hand.gate ≡ named_program program.now) }
+{
+    let alloc = rt.alloc();
+    let staging = format!(in alloc; "{repository}/.staging/{number}")?;
+    Ok(Hand {
+        remote: RealRemote::new(rt, remote.clone()?),
+        area: RealArea::new(rt, Text::of(staging), process.clone()?),
+        gate: gate(rt, program)?,
+    })
+}
+
+// The hands, all of which run the goals alike.
 fn hands<'a>(
     rt: &'a HostRuntime,
     repository: &Text,
@@ -78,18 +97,13 @@ fn hands<'a>(
     program: &Text,
 ) -> Mem<Vec<RealHand<'a>>>
     ensures count { IfOk result (λ hands. length hands.items ≡ 16) }
-    ensures gates { IfOk result (λ hands.
-        All (λ hand. gate_program hand.gate ≡ named_program program.now) hands.items) }
+    ensures gates { IfOk result (λ hands. map (λ hand. gate_program hand.gate) hands.items
+        ≡ replicate 16 (named_program program.now)) }
 {
     let alloc = rt.alloc();
     let mut hands = Vec::with_capacity(alloc, HANDS)?;
     for i in 0..HANDS {
-        let staging = format!(in alloc; "{repository}/.staging/{i}")?;
-        hands.push(Hand {
-            remote: RealRemote::new(rt, remote.clone()?),
-            area: RealArea::new(rt, Text::of(staging), process.clone()?),
-            gate: gate(rt, program)?,
-        })?;
+        hands.push(hand(rt, repository, remote, process, program, i)?)?;
     }
     Ok(hands)
 }

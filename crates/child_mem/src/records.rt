@@ -40,47 +40,73 @@ pub(crate) fn next_script(scripts: &mut IntoIter<ChildScript>) -> Option<ChildSc
     }
 }
 
+// Gives a child more bytes.
+fn give_to(record: &mut ChildRecord, bytes: &[u8]) -> Mem<()>
+    ensures ok { OnOk result (record.new ≡ given_more bytes.now record.old) }
+    ensures err { OnErr result (record.new ≡ record.old) }
+{
+    record.given.extend_from_slice(bytes)
+}
+
 /// Gives a child more bytes, where it has a record.
-#[tactic(auto, using(crate::proofs::Changes::change_set, crate::proofs::Changes::change_beyond))]
+#[tactic(auto, using(crate::proofs::Changes::changed_there, crate::proofs::Changes::kept_there, crate::proofs::Changes::change_beyond))]
 pub(crate) fn give(records: &mut [ChildRecord], at: usize, bytes: &[u8]) -> Mem<()>
     ensures ok { OnOk result (records.new ≡ change_at (given_more bytes.now) at records.old) }
     ensures err { OnErr result (records.new ≡ records.old) }
 {
-    match records.get_mut(at) {
-        Some(record) => record.given.extend_from_slice(bytes),
-        None => Ok(()),
+    if at >= records.len() {
+        return Ok(());
     }
+    match give_to(&mut records[at], bytes) {
+        Ok(()) => Ok(()),
+        Err(e) => Err(e),
+    }
+}
+
+// Closes a child's input.
+fn close_of(record: &mut ChildRecord)
+    ensures { record.new ≡ input_closed record.old }
+{
+    record.closed = true;
 }
 
 /// Closes a child's input, where it has a record.
-#[tactic(auto, using(crate::proofs::Changes::change_set, crate::proofs::Changes::change_beyond))]
+#[tactic(auto, using(crate::proofs::Changes::changed_there, crate::proofs::Changes::change_beyond))]
 pub(crate) fn close(records: &mut [ChildRecord], at: usize)
     ensures { records.new ≡ change_at input_closed at records.old }
 {
-    if let Some(record) = records.get_mut(at) {
-        record.closed = true;
+    if at >= records.len() {
+        return;
     }
+    close_of(&mut records[at]);
+}
+
+// Reads on in a child's output.
+fn take_from(record: &mut ChildRecord, into: &mut [u8]) -> usize
+    ensures within { result ≤ length into.new }
+    ensures front { IsFront (unread record.old) into.new result }
+    ensures reads { record.new ≡ read_on result record.old }
+{
+    let count = match record.output.as_slice().get(record.taken..) {
+        Some(rest) => copy_front(rest, into),
+        None => 0,
+    };
+    record.taken = record.taken.saturating_add(count);
+    count
 }
 
 /// Reads on in a child's output, where it has a record.
-#[tactic(auto, using(crate::proofs::Changes::change_set, crate::proofs::Changes::change_beyond))]
+#[tactic(auto, using(crate::proofs::Changes::changed_there, crate::proofs::Changes::change_beyond, crate::proofs::Changes::found_there, crate::proofs::Changes::found_beyond))]
 pub(crate) fn take(records: &mut [ChildRecord], at: usize, into: &mut [u8]) -> usize
     ensures within { result ≤ length into.new }
     ensures front { IfSome (slice_get records.old at)
         (λ known. IsFront (unread known) into.new result) }
     ensures reads { records.new ≡ change_at (read_on result) at records.old }
 {
-    match records.get_mut(at) {
-        Some(record) => {
-            let count = match record.output.as_slice().get(record.taken..) {
-                Some(rest) => copy_front(rest, into),
-                None => 0,
-            };
-            record.taken = record.taken.saturating_add(count);
-            count
-        }
-        None => 0,
+    if at >= records.len() {
+        return 0;
     }
+    take_from(&mut records[at], into)
 }
 
 /// What a child ends with, where it has a record.

@@ -1,7 +1,8 @@
 -- Changing the record at a place, against writing to a slice.
-use Rattle.std.proofs.Common.{◌≡◌, ℕ, zero, suc, ◌<◌, ◌≤◌, List, [], ◌∷◌, length, IfSome, refl, ap, ◌∙◌, arith}
+use Rattle.std.proofs.Common.{◌≡◌, ℕ, zero, suc, ◌<◌, ◌≤◌, ◌+◌, List, [], ◌∷◌, length, IfSome, refl, ap, ◌∙◌, arith}
 use Rattle.std.specs.Prelude.{slice_get, slice_set, slice_index_or}
-use Rattle.child_outside.specs.Children.{change_at}
+use Rattle.child_outside.specs.declared.spawner.ChildRecord.{ChildRecord}
+use Rattle.child_outside.specs.Children.{change_at, read_on}
 
 -- a change is a write of the changed item
 change_set : {A : Type 0} (f : A → A) (d : A) (n : ℕ) (xs : List A) → n < length xs → slice_set xs n (f (slice_index_or xs n d)) ≡ change_at f n xs
@@ -37,3 +38,9 @@ pub found_beyond : {A : Type 0} (P : A → Type 0) (n : ℕ) (xs : List A) → l
 found_beyond P n [] past = tt
 found_beyond P zero (x ∷ xs) past = absurd (omega (arith, past))
 found_beyond P (suc n) (x ∷ xs) past = found_beyond P n xs (omega (arith, past))
+
+-- a child of whose output nothing was read
+pub read_nothing_on : (child : ChildRecord) → child ≡ read_on 0 child
+read_nothing_on child =
+    let same : child.taken ≡ child.taken + 0 = omega arith in
+    ap (λ n. record child { taken = n }) same

@@ -41,11 +41,11 @@ pub(crate) fn next_script(scripts: &mut IntoIter<ChildScript>) -> Option<ChildSc
 }
 
 // Gives a child more bytes.
-fn give_to(record: &mut ChildRecord, bytes: &[u8]) -> Mem<()>
-    ensures ok { OnOk result (record.new ≡ given_more bytes.now record.old) }
-    ensures err { OnErr result (record.new ≡ record.old) }
+fn give_to(child: &mut ChildRecord, bytes: &[u8]) -> Mem<()>
+    ensures ok { OnOk result (child.new ≡ given_more bytes.now child.old) }
+    ensures err { OnErr result (child.new ≡ child.old) }
 {
-    record.given.extend_from_slice(bytes)
+    child.given.extend_from_slice(bytes)
 }
 
 /// Gives a child more bytes, where it has a record.
@@ -64,10 +64,10 @@ pub(crate) fn give(records: &mut [ChildRecord], at: usize, bytes: &[u8]) -> Mem<
 }
 
 // Closes a child's input.
-fn close_of(record: &mut ChildRecord)
-    ensures { record.new ≡ input_closed record.old }
+fn close_of(child: &mut ChildRecord)
+    ensures { child.new ≡ input_closed child.old }
 {
-    record.closed = true;
+    child.closed = true;
 }
 
 /// Closes a child's input, where it has a record.
@@ -82,17 +82,20 @@ pub(crate) fn close(records: &mut [ChildRecord], at: usize)
 }
 
 // Reads on in a child's output.
-fn take_from(record: &mut ChildRecord, into: &mut [u8]) -> usize
+#[tactic(auto, using(crate::proofs::Changes::read_nothing_on))]
+fn take_from(child: &mut ChildRecord, into: &mut [u8]) -> usize
     ensures within { result ≤ length into.new }
-    ensures front { IsFront (unread record.old) into.new result }
-    ensures reads { record.new ≡ read_on result record.old }
+    ensures front { IsFront (unread child.old) into.new result }
+    ensures reads { child.new ≡ read_on result child.old }
 {
-    let count = match record.output.as_slice().get(record.taken..) {
-        Some(rest) => copy_front(rest, into),
+    match child.output.as_slice().get(child.taken..) {
+        Some(rest) => {
+            let count = copy_front(rest, into);
+            child.taken += count;
+            count
+        }
         None => 0,
-    };
-    record.taken = record.taken.saturating_add(count);
-    count
+    }
 }
 
 /// Reads on in a child's output, where it has a record.

@@ -1,5 +1,5 @@
 -- The lists of a request, item by item, and that the slots of its outputs are kept ones.
-use Rattle.std.proofs.Common.{◌≡◌, ℕ, Bool, true, false, ◌&&◌, List, [], ◌∷◌, ◌++◌, Option, Some, None, option_map, option_and_then, find, cond, nat_eq, refl, sym, ap, ap₂, subst, ◌∙◌, append_assoc}
+use Rattle.std.proofs.Common.{◌≡◌, ℕ, Bool, true, false, ◌&&◌, List, [], ◌∷◌, ◌++◌, Option, Some, None, option_map, option_and_then, find, cond, nat_eq, refl, sym, ap, ap₂, subst, ◌∙◌, append_assoc, Bor}
 use Rattle.std.specs.List.{list_all}
 use Rattle.std.specs.Cmp.Lexicographic.{pointwise}
 use Rattle.serde_json.specs.Data.{Data}
@@ -9,7 +9,7 @@ use Rattle.goal_types.specs.declared.goal.OwnBytes.{OwnBytes}
 use Rattle.goal_types.specs.Goals.{is_kept, HasOwnSlots}
 use Rattle.goal_types.specs.Requests.{slot_name}
 use Rattle.goal_requests.specs.Members.{items_at}
-use Rattle.goal_requests.specs.Lists.{all_taken, listed, own_in, counted_in, slot_in}
+use Rattle.goal_requests.specs.Lists.{all_taken, listed, own_in, counted_in, slot_in, with_rest}
 
 -- these items before those of another answer
 abbrev pub prefixed : {A : Type 0} → List A → Option (List A × List ℕ) → Option (List A × List ℕ)
@@ -128,3 +128,7 @@ listed_kept key value bytes own behind e = by (items_at key value) (sym e)
     by : (o : Option (List Data)) → option_and_then (λ values. all_taken own_in values bytes) o ≡ Some (own, behind) → HasOwnSlots own
     by None f = cc
     by (Some values) f = all_kept values bytes own behind f
+
+-- the same of a list that was found
+pub found_kept : (key : List ℕ) (value : Data) (bytes : List ℕ) (found : Option (List OwnBytes × Bor (List ℕ))) (own : List OwnBytes) (rest : Bor (List ℕ)) → found ≡ Some (own, rest) → option_map with_rest found ≡ listed own_in key value bytes → HasOwnSlots own
+found_kept key value bytes found own rest is e = listed_kept key value bytes own rest.now (sym (ap (option_map with_rest) is) ∙ e)

@@ -18,7 +18,6 @@ use std::alloc::Global;
 pub const MOST_REQUEST: usize = 536_870_912;
 
 // A request of these, with its lists from the bytes behind the line, which they use up.
-#[tactic(auto, using(crate::proofs::Taking::listed_kept))]
 fn lists_of(
     alloc: Global,
     gav: Gav,

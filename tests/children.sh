@@ -1,9 +1,8 @@
 #!/usr/bin/env bash
 # Runs the built program with goals in children, each a program of a few lines whose deeds decide the report: what real children, pipes and
-# signals do, which no clause can say. The program is the one that MVN names, or bin/mvn; mvn_goal is that of MVN_GOAL, or of crates/mvn_goal.
+# signals do, which no clause can say. The program is the one that MVN names, or bin/mvn.
 . "$(dirname "$0")/cases.sh"
 find_program
-mvn_goal=$(realpath -m -- "${MVN_GOAL-crates/mvn_goal/out/mvn_goal}")
 cd "$work" || exit 1
 mkdir -p bin small/src/main/resources large/src/main/resources
 for project in small large; do
@@ -75,14 +74,4 @@ absent() {
 absent 'no such program' ./none
 absent 'a program that may not be run' ./pom.xml
 
-# the built-in goals as a child give the same files as in mvn itself
-if [ -x "$mvn_goal" ]; then
-  for project in small large; do
-    inside=$(cd "$project" && rm -rf .m2 && "$mvn" install; cat .m2/repository/demo/app/1.0/*)
-    outside=$(cd "$project" && rm -rf .m2 && MVN_GATE=$mvn_goal "$mvn" install; cat .m2/repository/demo/app/1.0/*)
-    if [ "$inside" = "$outside" ]; then pass "mvn_goal, $project"; else fail "mvn_goal, $project" "$(printf 'wanted %q, got %q' "$inside" "$outside")"; fi
-  done
-else
-  echo "left out  mvn_goal: it is not built at $mvn_goal"
-fi
 tell

@@ -1,7 +1,7 @@
 #!/usr/bin/env bash
 # Runs the session of each folder of examples/ in a copy of it, and compares what each command writes. In the file `session` a line
 # `$ COMMAND` is a command, the lines below it are what it writes, and `status N` is the last of them where its status isn't 0. `mvn` is the
-# program that MVN names, or bin/mvn.
+# program that MVN names, or bin/mvn. An example with a file `needs` is left out where a program that it names isn't installed.
 . "$(dirname "$0")/cases.sh"
 find_program
 mkdir "$work/path"
@@ -22,6 +22,11 @@ done
 for folder in examples/*/; do
   name=$(basename "$folder")
   [ -f "$folder/session" ] || { fail "$name" "it has no session"; continue; }
+  absent=
+  for program in $(cat "$folder/needs" 2> /dev/null); do
+    command -v "$program" > /dev/null || absent+=" $program"
+  done
+  [ -z "$absent" ] || { echo "left out  $name: it needs$absent"; continue; }
   cp -R "$folder" "$work/$name"
   rm -rf "$work/$name/.m2"
   command=

@@ -24,11 +24,12 @@ pub struct RealSpawner<'a, R: Processes<Started = SystemProcess> + AllocGlobal> 
 }
 
 impl<'a, R: Processes<Started = SystemProcess> + AllocGlobal> RealSpawner<'a, R> {
-    ghost use Rattle.child_real.specs.Spawner.{spawner_faults};
+    ghost use Rattle.child_real.specs.Spawner.{spawner_faults, spawner_program};
 
     /// Children that run this program: a path, or a name that is looked for in `PATH`.
     pub fn new(rt: &'a R, program: Text) -> RealSpawner<'a, R>
-        ensures { spawner_faults result ≡ 0 }
+        ensures faults { spawner_faults result ≡ 0 }
+        ensures program { spawner_program result ≡ program }
     {
         let there = BTreeSet::new(rt.alloc());
         let children = BTreeMap::new(rt.alloc());

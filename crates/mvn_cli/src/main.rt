@@ -1,13 +1,15 @@
 //! The program `mvn`: its words and its folder, given to the top call.
 #![tactic(auto)]
 
-ghost use Rattle.std.specs.Prelude.{◌≡◌, length, IfOk};
+ghost use Rattle.std.specs.Prelude.{◌≡◌, length, map, replicate, IfOk};
+ghost use Rattle.mvn_cli.specs.Gates.{named_program, gate_program};
 
 mod environment;
+mod gates;
 mod words;
 
 use environment::{machine, process_name, variable_or, variables, words};
-use gate_builtin::Builtin;
+use gates::{RealGate, gate};
 use mvn_outside::{DeviceFault, Hand, Sink, write_all};
 use mvn_shared::{Bytes, Mem, Text};
 use mvn_top::{FAULT, NO_MEMORY, mvn};
@@ -20,7 +22,7 @@ use words::{asks_for_help, asks_for_version};
 const HANDS: usize = 16;
 
 /// What one worker works with here.
-type RealHand<'a> = Hand<RealRemote<'a, HostRuntime>, RealArea<'a, HostRuntime>, Builtin>;
+type RealHand<'a> = Hand<RealRemote<'a, HostRuntime>, RealArea<'a, HostRuntime>, RealGate<'a>>;
 
 const HELP: &str = "\
 mvn builds a Maven project (POM model 4.0.0). It is not Apache Maven.
@@ -34,8 +36,9 @@ Words:
   -h, --help      print this help
   -v, --version   print the version
 
-mvn does not compile: the output of a goal is a SHA-256 digest of its input. Don't
-point MVN_REPO at a repository that Maven uses.
+The built-in goals do not compile: the output of a goal is a SHA-256 digest of its
+input. Don't point MVN_REPO at a repository that Maven uses. A program that MVN_GATE
+names runs the goals in their place.
 
 Anything else is answered by `not built yet`. So is a POM that needs more than a group,
 an artifact, a version and the packaging jar.
@@ -44,6 +47,8 @@ Environment:
   MVN_REPO        the local repository (by default .m2/repository in the project)
   MVN_REMOTE      a folder that stands for a remote repository (by default .m2/remote
                   in the project); nothing is fetched yet
+  MVN_GATE        a program that runs the goals, once for each (by default the
+                  built-in goals)
 
 Exit status: 0 built, 1 a goal failed, 2 refused or not built yet, 3 reading or
 writing failed, 4 out of memory.
@@ -63,24 +68,42 @@ fn status_of_text<O: Sink>(sink: &mut O, text: &str) -> u8 {
     }
 }
 
-// The hands: each with the remote, its own staging folder in the repository, and the built-in goals.
+// The hand with this number: the remote, its own staging folder in the repository, and what runs the goals.
+fn hand<'a>(
+    rt: &'a HostRuntime,
+    repository: &Text,
+    remote: &Text,
+    process: &Text,
+    program: &Text,
+    number: usize,
+) -> Mem<RealHand<'a>>
+    ensures { IfOk result (λ hand. gate_program hand.gate ≡ named_program program.now) }
+{
+    let alloc = rt.alloc();
+    let staging = format!(in alloc; "{repository}/.staging/{number}")?;
+    Ok(Hand {
+        remote: RealRemote::new(rt, remote.clone()?),
+        area: RealArea::new(rt, Text::of(staging), process.clone()?),
+        gate: gate(rt, program)?,
+    })
+}
+
+// The hands, all of which run the goals alike.
 fn hands<'a>(
     rt: &'a HostRuntime,
     repository: &Text,
     remote: &Text,
     process: &Text,
+    program: &Text,
 ) -> Mem<Vec<RealHand<'a>>>
-    ensures { IfOk result (λ hands. length hands.items ≡ 16) }
+    ensures count { IfOk result (λ hands. length hands.items ≡ 16) }
+    ensures gates { IfOk result (λ hands. map (λ hand. gate_program hand.gate) hands.items
+        ≡ replicate 16 (named_program program.now)) }
 {
     let alloc = rt.alloc();
     let mut hands = Vec::with_capacity(alloc, HANDS)?;
     for i in 0..HANDS {
-        let staging = format!(in alloc; "{repository}/.staging/{i}")?;
-        hands.push(Hand {
-            remote: RealRemote::new(rt, remote.clone()?),
-            area: RealArea::new(rt, Text::of(staging), process.clone()?),
-            gate: Builtin::new(alloc),
-        })?;
+        hands.push(hand(rt, repository, remote, process, program, i)?)?;
     }
     Ok(hands)
 }
@@ -92,8 +115,9 @@ fn build<O: Sink>(rt: &HostRuntime, words: &[Bytes], out: &mut O) -> Mem<u8> {
     let machine = machine(alloc, &variables)?;
     let repository = variable_or(alloc, &variables, "MVN_REPO", ".m2/repository")?;
     let remote = variable_or(alloc, &variables, "MVN_REMOTE", ".m2/remote")?;
+    let program = variable_or(alloc, &variables, "MVN_GATE", "")?;
     let process = process_name(rt, alloc)?;
-    let mut hands = hands(rt, &repository, &remote, &process)?;
+    let mut hands = hands(rt, &repository, &remote, &process, &program)?;
     let mut tree = RealTree::new(rt, Text::from_str(alloc, ".")?);
     let shelf = RealShelf::new(rt, repository);
     let ended = mvn(alloc, words, &machine, &mut tree, shelf, &mut hands, out);

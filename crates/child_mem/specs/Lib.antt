@@ -1,0 +1,8 @@
+pub use Rattle.child_outside.specs.Children
+pub use Rattle.child_outside.specs.Reading
+pub use Rattle.mvn_outside.specs.Faults
+pub use Rattle.mvn_shared.specs.Cause
+pub use Rattle.outside_mem.specs.Calls
+pub mod Scripts
+pub mod Source
+pub mod Spawner

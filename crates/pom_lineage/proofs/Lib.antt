@@ -1,0 +1,6 @@
+pub mod Expressions
+pub mod Holding
+pub mod Joining
+pub mod Keeping
+pub mod Naming
+pub mod Telling

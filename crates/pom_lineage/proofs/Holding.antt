@@ -25,7 +25,7 @@ and_right : (a b : Bool) → (a && b) ≡ true → b ≡ true
 and_right true b e = e
 and_right false b e = cc
 
-same_gav : (a b : Gav) → gav_eq a b ≡ true → a ≡ b
+pub same_gav : (a b : Gav) → gav_eq a b ≡ true → a ≡ b
 same_gav a b e =
     let group = (bytes_eq-Decides a.group b.group).0 (and_left _ (bytes_eq a.artifact b.artifact && bytes_eq a.version b.version) e) in
     let rest = and_right (bytes_eq a.group b.group) _ e in
@@ -33,7 +33,7 @@ same_gav a b e =
     let version = (bytes_eq-Decides a.version b.version).0 (and_right (bytes_eq a.artifact b.artifact) _ rest) in
     (λ i. record { group = group i; artifact = artifact i; version = version i })
 
-same_path : (a b : List ℕ) → bytes_eq a b ≡ true → a ≡ b
+pub same_path : (a b : List ℕ) → bytes_eq a b ≡ true → a ≡ b
 same_path a b e = (bytes_eq-Decides a b).0 e
 
 some_is : {A : Type 0} (x y : A) → ◌≡◌ {A = Option A} (Some x) (Some y) → x ≡ y

@@ -26,46 +26,46 @@ use Rattle.pom_lineage.specs.declared.origin.Candidate.TheVariants as candidates
 use Rattle.pom_lineage.specs.declared.origin.Origin.{Origin}
 use Rattle.pom_lineage.specs.declared.origin.Origin.TheVariants.{Beside, Elsewhere}
 
-or_left : (a b : Bool) → (a || b) ≡ false → a ≡ false
+pub or_left : (a b : Bool) → (a || b) ≡ false → a ≡ false
 or_left true b e = e
 or_left false b e = refl
 
-or_right : (a b : Bool) → (a || b) ≡ false → b ≡ false
+pub or_right : (a b : Bool) → (a || b) ≡ false → b ≡ false
 or_right true b e = cc
 or_right false b e = e
 
-both_false : (a b : Bool) → a ≡ false → b ≡ false → (a || b) ≡ false
+pub both_false : (a b : Bool) → a ≡ false → b ≡ false → (a || b) ≡ false
 both_false a b p q = ap (λ x. x || b) p ∙ q
 
-in_more : (pom more : PomId) (seen : List PomId) → is_in pom (next_poms seen more) ≡ (is_in pom seen || is_in pom (more ∷ []))
+pub in_more : (pom more : PomId) (seen : List PomId) → is_in pom (next_poms seen more) ≡ (is_in pom seen || is_in pom (more ∷ []))
 in_more pom more seen = list_any-append (λ other. pom_eq other pom) seen (more ∷ [])
 
-meets_more : (poms seen : List PomId) (pom : PomId) → meets (next_poms poms pom) seen ≡ (meets poms seen || meets (pom ∷ []) seen)
+pub meets_more : (poms seen : List PomId) (pom : PomId) → meets (next_poms poms pom) seen ≡ (meets poms seen || meets (pom ∷ []) seen)
 meets_more poms seen pom = list_any-append (λ p. is_in p seen) poms (pom ∷ [])
 
 -- POMs apart from some and from one more are apart from all of them, and the other way round
-apart_both : (poms seen : List PomId) (more : PomId) → meets poms seen ≡ false → meets poms (more ∷ []) ≡ false → meets poms (next_poms seen more) ≡ false
+pub apart_both : (poms seen : List PomId) (more : PomId) → meets poms seen ≡ false → meets poms (more ∷ []) ≡ false → meets poms (next_poms seen more) ≡ false
 apart_both [] seen more a b = refl
 apart_both (p ∷ ps) seen more a b =
     both_false (is_in p (next_poms seen more)) (meets ps (next_poms seen more))
     (in_more p more seen ∙ both_false (is_in p seen) (is_in p (more ∷ [])) (or_left (is_in p seen) (meets ps seen) a) (or_left (is_in p (more ∷ [])) (meets ps (more ∷ [])) b))
     (apart_both ps seen more (or_right (is_in p seen) (meets ps seen) a) (or_right (is_in p (more ∷ [])) (meets ps (more ∷ [])) b))
 
-apart_first : (poms seen : List PomId) (more : PomId) → meets poms (next_poms seen more) ≡ false → meets poms seen ≡ false
+pub apart_first : (poms seen : List PomId) (more : PomId) → meets poms (next_poms seen more) ≡ false → meets poms seen ≡ false
 apart_first [] seen more a = refl
 apart_first (p ∷ ps) seen more a =
     both_false (is_in p seen) (meets ps seen)
     (or_left (is_in p seen) (is_in p (more ∷ [])) (sym (in_more p more seen) ∙ or_left (is_in p (next_poms seen more)) (meets ps (next_poms seen more)) a))
     (apart_first ps seen more (or_right (is_in p (next_poms seen more)) (meets ps (next_poms seen more)) a))
 
-apart_last : (poms seen : List PomId) (more : PomId) → meets poms (next_poms seen more) ≡ false → meets poms (more ∷ []) ≡ false
+pub apart_last : (poms seen : List PomId) (more : PomId) → meets poms (next_poms seen more) ≡ false → meets poms (more ∷ []) ≡ false
 apart_last [] seen more a = refl
 apart_last (p ∷ ps) seen more a =
     both_false (is_in p (more ∷ [])) (meets ps (more ∷ []))
     (or_right (is_in p seen) (is_in p (more ∷ [])) (sym (in_more p more seen) ∙ or_left (is_in p (next_poms seen more)) (meets ps (next_poms seen more)) a))
     (apart_last ps seen more (or_right (is_in p (next_poms seen more)) (meets ps (next_poms seen more)) a))
 
-alone : (a : Bool) → (a || false) ≡ false → a ≡ false
+pub alone : (a : Bool) → (a || false) ≡ false → a ≡ false
 alone true e = e
 alone false e = refl
 
@@ -98,18 +98,18 @@ packed_there child other gav raw r e = by (bytes_eq raw.coordinates.packaging (c
 
 module _ (world : World) (given : Given) where
   -- the steps that a lineage was built by
-  record Step (left : ℕ) (child : PomId) (seen : List PomId) (origin : Origin) (kept : Joined) : Type 0 where
-    s_found : Candidate
-    s_raw : RawModel
-    s_higher : Joined
-    s_there : candidate world child origin ≡ Ok s_found
-    s_off : is_in (pom_of s_found) seen ≡ false
-    s_text : text_of s_found ≡ Ok s_raw
-    s_pack : (other : PomId) → packed other (gav_of origin) s_raw ≡ Ok s_raw
-    s_over : above (joined_up world given left s_raw.pom (next_poms seen s_raw.pom)) s_raw.parent ≡ Ok s_higher
-    s_same : put_over s_raw.pom (with_profiles given world.there s_raw) s_higher ≡ kept
+  pub record Step (left : ℕ) (child : PomId) (seen : List PomId) (origin : Origin) (kept : Joined) : Type 0 where
+    pub s_found : Candidate
+    pub s_raw : RawModel
+    pub s_higher : Joined
+    pub s_there : candidate world child origin ≡ Ok s_found
+    pub s_off : is_in (pom_of s_found) seen ≡ false
+    pub s_text : text_of s_found ≡ Ok s_raw
+    pub s_pack : (other : PomId) → packed other (gav_of origin) s_raw ≡ Ok s_raw
+    pub s_over : above (joined_up world given left s_raw.pom (next_poms seen s_raw.pom)) s_raw.parent ≡ Ok s_higher
+    pub s_same : put_over s_raw.pom (with_profiles given world.there s_raw) s_higher ≡ kept
 
-  step : (left : ℕ) (child : PomId) (seen : List PomId) (origin : Origin) (kept : Joined) → joined_from world given (suc left) child seen origin ≡ Ok kept → Step left child seen origin kept
+  pub step : (left : ℕ) (child : PomId) (seen : List PomId) (origin : Origin) (kept : Joined) → joined_from world given (suc left) child seen origin ≡ Ok kept → Step left child seen origin kept
   unfolding joined_from
   step left child seen origin kept e =
       let one = bound (parent_from world child seen origin) _ kept e in
@@ -133,7 +133,7 @@ module _ (world : World) (given : Given) where
       }
 
   -- and by which it is built again
-  built : (n : ℕ) (other : PomId) (before : List PomId) (origin : Origin) (kept : Joined) (found : Candidate) (raw : RawModel) (p : Joined)
+  pub built : (n : ℕ) (other : PomId) (before : List PomId) (origin : Origin) (kept : Joined) (found : Candidate) (raw : RawModel) (p : Joined)
       → candidate world other origin ≡ Ok found → is_in (pom_of found) before ≡ false → text_of found ≡ Ok raw → packed other (gav_of origin) raw ≡ Ok raw
       → above (joined_up world given n raw.pom (next_poms before raw.pom)) raw.parent ≡ Ok p → put_over raw.pom (with_profiles given world.there raw) p ≡ kept
       → joined_from world given (suc n) other before origin ≡ Ok kept
@@ -147,12 +147,12 @@ module _ (world : World) (given : Given) where
       ∙ ap (λ k. Ok k) same
 
   -- where no POM may come, none does
-  nothing_more : {A : Type 0} (child : PomId) (seen : List PomId) (origin : Origin) (kept : Joined) → joined_from world given zero child seen origin ≡ Ok kept → A
+  pub nothing_more : {A : Type 0} (child : PomId) (seen : List PomId) (origin : Origin) (kept : Joined) → joined_from world given zero child seen origin ≡ Ok kept → A
   unfolding joined_from
   nothing_more child seen origin kept e = let one = bound (parent_from world child seen origin) _ kept e in cc
 
   -- the POMs of a lineage aren't among those met before
-  apart : (left : ℕ) (child : PomId) (seen : List PomId) (origin : Origin) (kept : Joined) → joined_from world given left child seen origin ≡ Ok kept → meets kept.poms seen ≡ false
+  pub apart : (left : ℕ) (child : PomId) (seen : List PomId) (origin : Origin) (kept : Joined) → joined_from world given left child seen origin ≡ Ok kept → meets kept.poms seen ≡ false
   apart zero child seen origin kept e = nothing_more child seen origin kept e
   apart (suc left) child seen origin kept e =
       let s = step left child seen origin kept e in

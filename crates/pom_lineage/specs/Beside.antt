@@ -1,5 +1,5 @@
 -- The POM that is looked for first as a parent: in the project, by a path from the child's folder on. POM Reference,
--- "Inheritance"; where its coordinates aren't the parent's, the parent is looked for by coordinates.
+-- "Inheritance"; if its coordinates aren't the parent's, the parent is looked for by coordinates.
 use Rattle.std.specs.Prelude.{ℕ, Bool, ◌&&◌, List, [], ◌∷◌, codes, Option, None, Some, Ok, if◌then◌else◌}
 use Rattle.std.specs.Option.{option_or}
 use Rattle.std.specs.Str.{bytes_eq}
@@ -41,7 +41,7 @@ abbrev pub gav_eq : Gav → Gav → Bool
 gav_eq a b =
     bytes_eq a.group b.group && (bytes_eq a.artifact b.artifact && bytes_eq a.version b.version)
 
--- a POM that was looked for, where its coordinates are these
+-- the POM that was looked for at a path, if its coordinates are these, or else the coordinates
 abbrev pub of_gav : Gav → List ℕ → Option RawModel → Origin
 of_gav gav path None = Elsewhere gav
 of_gav gav path (Some raw) = if gav_eq (raw_gav raw) gav then Beside path raw else Elsewhere gav

@@ -23,7 +23,7 @@ elements pom (Err e) = Err (Refused (record { pom = pom; rule = e.0; place = Byt
 unfoldable pub read : PomId → List ℕ → Built RawModel
 read pom bytes = elements pom (answer bytes) >>= (λ nodes. refused (raw nodes pom))
 
--- so of a file, where there is one
+-- so of a file, if there is one
 abbrev pub read_file : PomId → Option (List ℕ) → Built (Option RawModel)
 read_file pom None = Ok None
 read_file pom (Some bytes) = read pom bytes >>= (λ raw. Ok (Some raw))

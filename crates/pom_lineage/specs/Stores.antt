@@ -1,5 +1,5 @@
 -- What a store keeps of the POMs of a run. Project rule.
-use Rattle.std.specs.Prelude.{◌≡◌, ℕ, ◌≤◌, Bool, false, List, length, Option, Some, IfSome, Ok}
+use Rattle.std.specs.Prelude.{◌≡◌, ℕ, ◌≤◌, nat_le, Bool, true, false, not, ◌&&◌, List, length, Option, None, Some, is_some, IfSome, Ok, if◌then◌else◌}
 use Rattle.std.specs.HashMap.{get}
 use Rattle.std.specs.List.{list_any}
 use Rattle.std.specs.Str.{bytes_eq}
@@ -27,6 +27,23 @@ abbrev pub line_in : Store → Origin → Option Joined
 line_in store (Beside path raw) = get bytes_eq store.beside path
 line_in store (Elsewhere gav) = get gav_eq store.elsewhere gav
 
+-- nothing that was read is forgotten
+abbrev pub KeepsRead : Store → Store → Type 0
+KeepsRead old new =
+    (path : List ℕ) (found : Option RawModel) → read_in old path ≡ Some found → read_in new path ≡ Some found
+
+-- and no lineage; another one may take its place
+abbrev pub KeepsLines : Store → Store → Type 0
+KeepsLines old new = (origin : Origin) → is_some (line_in old origin) ≡ true → is_some (line_in new origin) ≡ true
+
+-- a lineage serves one who may meet so many POMs and has met these
+abbrev pub serves : ℕ → List PomId → Joined → Bool
+serves left seen kept = nat_le (length kept.poms) left && not (meets kept.poms seen)
+
+abbrev pub if_serves : ℕ → List PomId → Option Joined → Option Joined
+if_serves left seen None = None
+if_serves left seen (Some kept) = if serves left seen kept then Some kept else None
+
 module _ (world : World) where
   -- what an origin says of the POM at its path is so
   abbrev pub IsAt : Origin → Type 0
@@ -38,7 +55,7 @@ module _ (world : World) where
   HoldsRead store = (path : List ℕ) → IfSome (read_in store path) (λ found. read_at world path ≡ Ok found)
 
   module _ (given : Given) where
-    -- a lineage from an origin on, whoever asks, where its POMs aren't met already and there may be as many
+    -- a lineage from an origin on, whoever asks, if none of its POMs was met and there may be as many
     unfoldable pub IsKept : Origin → Joined → Type 0
     IsKept origin kept = (left : ℕ) (child : PomId) (seen : List PomId) → length kept.poms ≤ left
         → meets kept.poms seen ≡ false → joined_from world given left child seen origin ≡ Ok kept

@@ -1,4 +1,4 @@
-ghost use Rattle.std.specs.Prelude.{◌≡◌, false, IfOk};
+ghost use Rattle.std.specs.Prelude.{◌≡◌, false, Some, IfOk, OnSome};
 ghost use Rattle.mvn_shared.specs.Cause.{HasCause};
 ghost use Rattle.pom_source.specs.Answers.{Says, build_failed};
 ghost use Rattle.pom_source.specs.Worlds.{World};
@@ -7,7 +7,7 @@ ghost use Rattle.pom_lineage.specs.Beside.{at_either, at_path, at_second, gav_eq
 ghost use Rattle.pom_paths.specs.Paths.{joined};
 ghost use Rattle.profile_activation.specs.Activation.{folder_of};
 ghost use Rattle.pom_lineage.specs.Reading.{read_file};
-ghost use Rattle.pom_lineage.specs.Stores.{Holds, IsAt};
+ghost use Rattle.pom_lineage.specs.Stores.{Holds, IsAt, KeepsLines, KeepsRead, read_in};
 
 use crate::origin::Origin;
 use crate::reading::read;
@@ -72,7 +72,7 @@ fn has_gav(raw: &RawModel, gav: &Gav) -> bool
         && version_of(raw) == gav.version.as_str()
 }
 
-// A POM that was looked for, where its coordinates are these.
+// The POM that was looked for at a path, if its coordinates are these, or else the coordinates.
 fn of_gav(gav: &Gav, path: &Text, found: Option<Shared<RawModel>>) -> Mem<Origin>
     ensures { IfOk result (λ origin. origin ≡ of_gav gav.now path.now found) }
 {
@@ -87,7 +87,7 @@ fn of_gav(gav: &Gav, path: &Text, found: Option<Shared<RawModel>>) -> Mem<Origin
     }
 }
 
-// What a file says, where there is one.
+// What a file says, if there is one.
 fn read_file(
     alloc: Global,
     pom: &PomId,
@@ -124,8 +124,10 @@ fn read_anew<P: PomSource>(
     }
 }
 
-/// The POM at a path of the project: as it was read before, or read and kept; none where no file is there. Costs the POM's bytes
-/// the first time, and the path after that.
+/// The POM at a path of the project: as it was read before, or read and kept; none if no file is there; or what its text breaks first.
+/// What was read stays in the store and isn't asked for again. `Source` comes only if the source's count of faults rose. Costs the
+/// POM's bytes the first time, and the path after that. Project rule.
+#[tactic(auto, using(crate::proofs::Kept::unread, crate::proofs::Kept::untouched))]
 pub fn read_at<P: PomSource>(
     alloc: Global,
     store: &mut Store,
@@ -137,6 +139,10 @@ pub fn read_at<P: PomSource>(
     ensures fit { (world : World) → P.fits_poms source.old world → P.fits_poms source.new world }
     ensures holds { (world : World) (given : givens.Given) → P.fits_poms source.old world
         → Holds world given store.old → Holds world given store.new }
+    ensures kept { IfOk result (λ found. read_in store.new path.now ≡ Some found) }
+    ensures unasked { OnSome (read_in store.old path.now) (source.new ≡ source.old) }
+    ensures keeps { KeepsRead store.old store.new }
+    ensures keeps_lines { KeepsLines store.old store.new }
     ensures cause { HasCause (P.faults source.old) (P.faults source.new) (build_failed result) }
 {
     if let Some(kept) = store.find_read(path)? {
@@ -167,6 +173,8 @@ fn at_second<P: PomSource>(
     ensures fit { (world : World) → P.fits_poms source.old world → P.fits_poms source.new world }
     ensures holds { (world : World) (given : givens.Given) → P.fits_poms source.old world
         → Holds world given store.old → Holds world given store.new }
+    ensures keeps { KeepsRead store.old store.new }
+    ensures keeps_lines { KeepsLines store.old store.new }
     ensures cause { HasCause (P.faults source.old) (P.faults source.new) (build_failed result) }
 {
     let found = read_at(alloc, store, source, path)?;
@@ -192,6 +200,8 @@ fn at_either<P: PomSource>(
     ensures fit { (world : World) → P.fits_poms source.old world → P.fits_poms source.new world }
     ensures holds { (world : World) (given : givens.Given) → P.fits_poms source.old world
         → Holds world given store.old → Holds world given store.new }
+    ensures keeps { KeepsRead store.old store.new }
+    ensures keeps_lines { KeepsLines store.old store.new }
     ensures cause { HasCause (P.faults source.old) (P.faults source.new) (build_failed result) }
 {
     match read_at(alloc, store, source, first)? {
@@ -218,6 +228,8 @@ fn at_path<P: PomSource>(
     ensures fit { (world : World) → P.fits_poms source.old world → P.fits_poms source.new world }
     ensures holds { (world : World) (given : givens.Given) → P.fits_poms source.old world
         → Holds world given store.old → Holds world given store.new }
+    ensures keeps { KeepsRead store.old store.new }
+    ensures keeps_lines { KeepsLines store.old store.new }
     ensures cause { HasCause (P.faults source.old) (P.faults source.new) (build_failed result) }
 {
     let first = joined(alloc, path, &Text::from_str(alloc, "pom.xml")?)?;
@@ -251,6 +263,8 @@ fn origin_from<P: PomSource>(
     ensures fit { (world : World) → P.fits_poms source.old world → P.fits_poms source.new world }
     ensures holds { (world : World) (given : givens.Given) → P.fits_poms source.old world
         → Holds world given store.old → Holds world given store.new }
+    ensures keeps { KeepsRead store.old store.new }
+    ensures keeps_lines { KeepsLines store.old store.new }
     ensures cause { HasCause (P.faults source.old) (P.faults source.new) (build_failed result) }
 {
     if parent.relative_path.is_empty() {
@@ -263,7 +277,7 @@ fn origin_from<P: PomSource>(
     }
 }
 
-/// Where a parent comes from: the POM of the project at its path, from the child's folder on, where the coordinates are the
+/// Where a parent comes from: the POM of the project at its path, from the child's folder on, if the coordinates are the
 /// parent's; else its coordinates. Costs the path, and the POM's bytes the first time. POM Reference, "Inheritance".
 #[tactic(auto, unfolding(crate::specs::Beside::found_origin))]
 pub(crate) fn found_origin<P: PomSource>(
@@ -280,6 +294,8 @@ pub(crate) fn found_origin<P: PomSource>(
     ensures fit { (world : World) → P.fits_poms source.old world → P.fits_poms source.new world }
     ensures holds { (world : World) (given : givens.Given) → P.fits_poms source.old world
         → Holds world given store.old → Holds world given store.new }
+    ensures keeps { KeepsRead store.old store.new }
+    ensures keeps_lines { KeepsLines store.old store.new }
     ensures cause { HasCause (P.faults source.old) (P.faults source.new) (build_failed result) }
 {
     match child {

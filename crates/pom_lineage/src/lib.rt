@@ -1,4 +1,4 @@
-//! What a POM builds on: the POMs from its parent up, each read once a run.
+//! What a POM builds on: the POMs from its parent up. A POM of the project is read once a run, by a store of what was read.
 #![tactic(auto)]
 
 mod beside;

@@ -4,7 +4,7 @@ ghost use Rattle.pom_source.specs.Answers.{Says, build_failed};
 ghost use Rattle.pom_source.specs.Refusals.{gav_refused};
 ghost use Rattle.pom_source.specs.Worlds.{World};
 ghost use Rattle.pom_source.specs.declared.found.Given as givens;
-ghost use Rattle.pom_lineage.specs.Stores.{Holds, IsAt};
+ghost use Rattle.pom_lineage.specs.Stores.{Holds, IsAt, KeepsLines, KeepsRead};
 ghost use Rattle.pom_lineage.specs.Lineage.{candidate, first_of, gav_of, has_range, is_in, next_poms, origin_of, packed, parent_from, pom_of, put_over, text_of, top, unmet, unstated};
 
 use crate::beside::{found_origin, raw_gav};
@@ -111,6 +111,8 @@ pub(crate) fn origin_of<P: PomSource>(
     ensures fit { (world : World) → P.fits_poms source.old world → P.fits_poms source.new world }
     ensures holds { (world : World) (given : givens.Given) → P.fits_poms source.old world
         → Holds world given store.old → Holds world given store.new }
+    ensures keeps { KeepsRead store.old store.new }
+    ensures keeps_lines { KeepsLines store.old store.new }
     ensures cause { HasCause (P.faults source.old) (P.faults source.new) (build_failed result) }
 {
     match unstated(&parent.gav) {
@@ -156,7 +158,7 @@ fn pom_of(found: &Candidate) -> &PomId
     }
 }
 
-/// What a POM says that was found as a parent. Costs its bytes where it wasn't read.
+/// What a POM says that was found as a parent. Costs its bytes if it wasn't read.
 pub(crate) fn text_of(alloc: Global, found: &Candidate) -> Result<Shared<RawModel>, BuildFault>
     ensures says { Says (text_of found.now) result }
     ensures cause { build_failed result ≡ false }

@@ -1,4 +1,4 @@
-ghost use Rattle.std.specs.Prelude.{◌≡◌, ◌≤◌, ℕ, List as Items, Ok, Some, length, IfOk, IfSome, OnOk, OnErr, true, false, if◌then◌else◌};
+ghost use Rattle.std.specs.Prelude.{◌≡◌, ◌≤◌, ℕ, List as Items, Ok, None, Some, length, is_some, IfOk, IfSome, OnOk, OnErr, true, false, if◌then◌else◌};
 ghost use Rattle.std.specs.HashMap.{get};
 ghost use Rattle.std.specs.Str.{bytes_eq};
 ghost use Rattle.mvn_base.specs.declared.gav.Gav as gavs;
@@ -7,7 +7,7 @@ ghost use Rattle.pom_source.specs.Worlds.{World};
 ghost use Rattle.pom_source.specs.declared.found.Given as givens;
 ghost use Rattle.pom_lineage.specs.Beside.{gav_eq, read_at};
 ghost use Rattle.pom_lineage.specs.Lineage.{joined_from};
-ghost use Rattle.pom_lineage.specs.Stores.{Holds, IsAt, IsKept, line_in, meets, read_in};
+ghost use Rattle.pom_lineage.specs.Stores.{Holds, IsAt, IsKept, KeepsLines, KeepsRead, if_serves, line_in, meets, read_in, serves};
 
 use crate::joined::Joined;
 use crate::origin::Origin;
@@ -19,7 +19,8 @@ use std::alloc::Global;
 use std::collections::HashMap;
 
 /// What was read in a run: the POM at each path that was asked for, and what parents build on, by the path or the coordinates
-/// that led to them. So a parent that a thousand modules share is read, activated and joined once.
+/// that led to them. So a parent that a thousand modules share is read, activated and joined once, if it has one way to it. A store
+/// serves one `Given` and one project. Nothing in it is forgotten, and refusals aren't kept. Project rule.
 #[derive(Drop)]
 pub struct Store {
     read: HashMap<Text, Option<Shared<RawModel>>>,
@@ -36,6 +37,7 @@ fn meets(poms: &List<PomId>, seen: &List<PomId>) -> bool
 
 // Whether a lineage serves one who has met these POMs and may meet so many.
 fn serves(kept: &Joined, left: u32, seen: &List<PomId>) -> bool
+    ensures value { result ≡ serves left seen.now kept.now }
     ensures few { result ≡ true → length kept.now.poms ≤ left }
     ensures apart { result ≡ true → meets kept.now.poms seen.now ≡ false }
 {
@@ -120,7 +122,8 @@ impl Store {
     /// What was read at a path before. Costs the path.
     #[tactic(auto, using(crate::proofs::Holding::read_serves))]
     pub(crate) fn find_read(&self, path: &Text) -> Mem<Option<Option<Shared<RawModel>>>>
-        ensures { (world : World) (given : givens.Given) → Holds world given self.now
+        ensures value { IfOk result (λ found. found ≡ read_in self.now path.now) }
+        ensures told { (world : World) (given : givens.Given) → Holds world given self.now
             → IfOk result (λ kept. IfSome kept (λ found. read_at world path.now ≡ Ok found)) }
     {
         let kept = self.read_there(path)?;
@@ -130,7 +133,10 @@ impl Store {
     /// Keeps what was read at a path. Costs the path.
     #[tactic(auto, using(crate::proofs::Holding::holds_same, crate::proofs::Holding::read_more))]
     pub(crate) fn keep_read(&mut self, path: &Text, found: &Option<Shared<RawModel>>) -> Mem<()>
-        ensures { (world : World) (given : givens.Given) → Holds world given self.old
+        ensures kept { OnOk result (read_in self.new path.now ≡ Some found.now) }
+        ensures keeps { read_in self.old path.now ≡ None → KeepsRead self.old self.new }
+        ensures keeps_lines { KeepsLines self.old self.new }
+        ensures holds { (world : World) (given : givens.Given) → Holds world given self.old
             → read_at world path.now ≡ Ok found.now → Holds world given self.new }
     {
         set_read(&mut self.read, path, found)
@@ -159,7 +165,9 @@ impl Store {
         seen: &List<PomId>,
         origin: &Origin,
     ) -> Mem<Option<Shared<Joined>>>
-        ensures { (world : World) (given : givens.Given) (child : poms.PomId)
+        ensures value { IfOk result (λ found. found
+            ≡ if_serves left seen.now (line_in self.now origin.now)) }
+        ensures told { (world : World) (given : givens.Given) (child : poms.PomId)
             → Holds world given self.now → IsAt world origin.now
             → IfOk result (λ found. IfSome found (λ kept.
             joined_from world given left child seen.now origin.now ≡ Ok kept)) }
@@ -177,7 +185,10 @@ impl Store {
     /// Keeps the lineage from an origin on. Costs the path or the coordinates.
     #[tactic(auto, using(crate::proofs::Holding::beside_more, crate::proofs::Holding::elsewhere_more, crate::proofs::Holding::holds_same))]
     pub(crate) fn keep_line(&mut self, origin: &Origin, line: &Shared<Joined>) -> Mem<()>
-        ensures { (world : World) (given : givens.Given) → Holds world given self.old
+        ensures kept { OnOk result (is_some (line_in self.new origin.now) ≡ true) }
+        ensures keeps { KeepsRead self.old self.new }
+        ensures keeps_lines { KeepsLines self.old self.new }
+        ensures holds { (world : World) (given : givens.Given) → Holds world given self.old
             → IsAt world origin.now → IsKept world given origin.now line.now
             → Holds world given self.new }
     {

@@ -1,9 +1,9 @@
-ghost use Rattle.std.specs.Prelude.{◌≡◌};
+ghost use Rattle.std.specs.Prelude.{◌≡◌, true, is_some, IfSome, OnOk};
 ghost use Rattle.mvn_shared.specs.Cause.{HasCause};
 ghost use Rattle.pom_source.specs.Answers.{Says, build_failed};
 ghost use Rattle.pom_source.specs.Worlds.{World};
 ghost use Rattle.pom_lineage.specs.Lineage.{above, entered, gav_of, joined_from, joined_up, line, lineage, next_poms};
-ghost use Rattle.pom_lineage.specs.Stores.{Holds, IsAt};
+ghost use Rattle.pom_lineage.specs.Stores.{Holds, IsAt, KeepsLines, KeepsRead, line_in, serves};
 
 use crate::joined::Joined;
 use crate::origin::{Candidate, Origin};
@@ -20,7 +20,7 @@ use std::alloc::Global;
 
 // What is built on from a parent's origin on, at most `left` POMs; kept, or built and then kept.
 #[cycle(stored)]
-#[tactic(auto, using(crate::proofs::Keeping::is_kept))]
+#[tactic(auto, using(crate::proofs::Keeping::is_kept, crate::proofs::Kept::served_there, crate::proofs::Kept::unserved, crate::proofs::Kept::untouched_line))]
 fn joined_from<P: PomSource>(
     alloc: Global,
     store: &mut Store,
@@ -37,6 +37,11 @@ fn joined_from<P: PomSource>(
     ensures fit { (world : World) → P.fits_poms source.old world → P.fits_poms source.new world }
     ensures holds { (world : World) → P.fits_poms source.old world → Holds world given.now store.old
         → IsAt world origin.now → Holds world given.now store.new }
+    ensures kept { OnOk result (is_some (line_in store.new origin.now) ≡ true) }
+    ensures unasked { IfSome (line_in store.old origin.now) (λ line. serves left seen.now line ≡ true
+        → source.new ≡ source.old) }
+    ensures keeps { KeepsRead store.old store.new }
+    ensures keeps_lines { KeepsLines store.old store.new }
     ensures cause { HasCause (P.faults source.old) (P.faults source.new) (build_failed result) }
 {
     if let Some(kept) = store.find_line(left, seen, origin)? {
@@ -50,7 +55,7 @@ fn joined_from<P: PomSource>(
     Ok(line)
 }
 
-// The same, where it isn't kept.
+// The same, if it isn't kept.
 #[cycle(stored)]
 #[tactic(auto, using(crate::proofs::Joining::joined_stops, crate::proofs::Joining::joined_zero, crate::proofs::Joining::joined_more))]
 fn fresh<P: PomSource>(
@@ -68,6 +73,8 @@ fn fresh<P: PomSource>(
     ensures fit { (world : World) → P.fits_poms source.old world → P.fits_poms source.new world }
     ensures holds { (world : World) → P.fits_poms source.old world → Holds world given.now store.old
         → Holds world given.now store.new }
+    ensures keeps { KeepsRead store.old store.new }
+    ensures keeps_lines { KeepsLines store.old store.new }
     ensures cause { HasCause (P.faults source.old) (P.faults source.new) (build_failed result) }
 {
     let found = match parent_from(alloc, source, child, seen, origin) {
@@ -109,6 +116,8 @@ fn entered<P: PomSource>(
     ensures fit { (world : World) → P.fits_poms source.old world → P.fits_poms source.new world }
     ensures holds { (world : World) → P.fits_poms source.old world → Holds world given.now store.old
         → Holds world given.now store.new }
+    ensures keeps { KeepsRead store.old store.new }
+    ensures keeps_lines { KeepsLines store.old store.new }
     ensures cause { HasCause (P.faults source.old) (P.faults source.new) (build_failed result) }
 {
     let raw = text_of(alloc, found)?;
@@ -135,6 +144,8 @@ fn line<P: PomSource>(
     ensures fit { (world : World) → P.fits_poms source.old world → P.fits_poms source.new world }
     ensures holds { (world : World) → P.fits_poms source.old world → Holds world given.now store.old
         → Holds world given.now store.new }
+    ensures keeps { KeepsRead store.old store.new }
+    ensures keeps_lines { KeepsLines store.old store.new }
     ensures cause { HasCause (P.faults source.old) (P.faults source.new) (build_failed result) }
 {
     let above = above(
@@ -169,6 +180,8 @@ fn above<P: PomSource>(
     ensures fit { (world : World) → P.fits_poms source.old world → P.fits_poms source.new world }
     ensures holds { (world : World) → P.fits_poms source.old world → Holds world given.now store.old
         → Holds world given.now store.new }
+    ensures keeps { KeepsRead store.old store.new }
+    ensures keeps_lines { KeepsLines store.old store.new }
     ensures cause { HasCause (P.faults source.old) (P.faults source.new) (build_failed result) }
 {
     match parent {
@@ -187,8 +200,9 @@ fn above<P: PomSource>(
 /// A POM with its active profiles, over all that it builds on: its parents, each with its own profiles, and the super POM. Or the
 /// first refusal, from the POM up: an expression or a range in a parent's coordinates; a POM at its path that has no model; a
 /// parent that isn't found; one that was met before; the 33rd POM, which names the first; what the parent's text breaks; and a
-/// parent whose packaging isn't `pom`. Costs each POM that wasn't read before, and the model that is joined. POM Reference,
-/// "Inheritance"; limits are project rules.
+/// parent whose packaging isn't `pom`. `Source` comes only if the source's count of faults rose. Costs the models that are joined, and
+/// the bytes of each POM on the way: of one at a path of the project the first time, of one by coordinates unless what it builds on is
+/// kept and serves. POM Reference, "Inheritance"; limits are project rules.
 pub fn lineage<P: PomSource>(
     alloc: Global,
     store: &mut Store,
@@ -201,6 +215,8 @@ pub fn lineage<P: PomSource>(
     ensures fit { (world : World) → P.fits_poms source.old world → P.fits_poms source.new world }
     ensures holds { (world : World) → P.fits_poms source.old world → Holds world given.now store.old
         → Holds world given.now store.new }
+    ensures keeps { KeepsRead store.old store.new }
+    ensures keeps_lines { KeepsLines store.old store.new }
     ensures cause { HasCause (P.faults source.old) (P.faults source.new) (build_failed result) }
 {
     let none = List::new(alloc);

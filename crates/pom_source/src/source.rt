@@ -14,20 +14,24 @@ pub trait PomSource: Files {
     /// answers fits each world that has them.
     ghost fits_poms: { Self → World → Type 0 };
 
-    /// The POM at a path of the project, of which a longer text than a POM may have is cut one byte behind that limit; none
-    /// where no file is there.
+    /// The POM at a path of the project, or none if no file is there. A text that is longer than a POM's may be is refused anyway, so
+    /// a source may cut it one byte behind that limit.
     fn by_path(&mut self, path: &Text) -> Result<Option<Bytes>, DeviceFault>
         ensures tells { (world : World) → fits_poms self.old world
             → IfOk result (λ found. found ≡ world.by_path path.now) }
         ensures fit { (world : World) → fits_poms self.old world → fits_poms self.new world }
+        ensures same { Self.tells_same self.old self.new }
+        ensures never { Self.never_fails self.new ≡ Self.never_fails self.old }
         ensures cause { HasCause (Self.faults self.old) (Self.faults self.new)
             (device_failed result) };
 
-    /// The POM of coordinates: one of the project first, and else one of a repository; none where there is none.
+    /// The POM of coordinates, or none: one of the project first, and else one of a repository.
     fn by_gav(&mut self, gav: &Gav) -> Result<Option<Found>, DeviceFault>
         ensures tells { (world : World) → fits_poms self.old world
             → IfOk result (λ found. found ≡ world.by_gav gav.now) }
         ensures fit { (world : World) → fits_poms self.old world → fits_poms self.new world }
+        ensures same { Self.tells_same self.old self.new }
+        ensures never { Self.never_fails self.new ≡ Self.never_fails self.old }
         ensures cause { HasCause (Self.faults self.old) (Self.faults self.new)
             (device_failed result) };
 

@@ -24,7 +24,6 @@ use Rattle.pom_lineage.specs.Stores.{IsAt}
 use Rattle.pom_lineage.specs.declared.joined.Joined.{Joined}
 use Rattle.pom_lineage.specs.declared.origin.Origin.{Origin}
 use Rattle.pom_lineage.specs.declared.origin.Origin.TheVariants.{Beside, Elsewhere}
-use Rattle.pom_lineage.proofs.Holding.{at_is}
 use Rattle.lineage_laws.specs.Lines.{IsLine, IsParent, LeadsTo, is_stated, model_of}
 use Rattle.lineage_laws.proofs.Once.{and_left, and_right, both_true}
 use Rattle.lineage_laws.proofs.Rooted.{alone_stated}
@@ -36,13 +35,21 @@ WasRead raw = (pom : PomId) × (bytes : List ℕ) × (read pom bytes ≡ Ok raw)
 
 module _ (world : World) where
   -- what is said of a POM at a path is so
+  is_at : (gav : Gav) (path : List ℕ) (found : Option RawModel) (o : Origin) → read_at world path ≡ Ok found → of_gav gav path found ≡ o → IsAt world o
+  is_at gav path None o is e = subst (λ o. IsAt world o) e (record {})
+  is_at gav path (Some raw) o is e = subst (λ o. IsAt world o) e (by (gav_eq (raw_gav raw) gav))
+    where
+      by : (b : Bool) → IsAt world (if b then Beside path raw else Elsewhere gav)
+      by true = is
+      by false = record {}
+
   second_at : (gav : Gav) (path : List ℕ) (o : Origin) → at_second world gav path ≡ Ok o → IsAt world o
   second_at gav path o e =
       let found = bound (read_at world path) _ o e in
-      at_is world gav path found.0 o found.1 (sym (ok_is (of_gav gav path found.0) o found.2))
+      is_at gav path found.0 o found.1 (ok_is (of_gav gav path found.0) o found.2)
 
   either_at : (gav : Gav) (first second : List ℕ) (found : Option RawModel) (o : Origin) → read_at world first ≡ Ok found → or_at world gav first second found ≡ Ok o → IsAt world o
-  either_at gav first second (Some raw) o is e = at_is world gav first (Some raw) o is (sym (ok_is (of_gav gav first (Some raw)) o e))
+  either_at gav first second (Some raw) o is e = is_at gav first (Some raw) o is (ok_is (of_gav gav first (Some raw)) o e)
   either_at gav first second None o is e = second_at gav second o e
 
   from_at : (child : List ℕ) (gav : Gav) (path : List ℕ) (o : Origin) → origin_from world child gav path ≡ Ok o → IsAt world o

@@ -6,14 +6,21 @@ use Rattle.std.specs.Str.{bytes_eq}
 use Rattle.std.proofs.lemmas.Slice.Eq.{bytes_eq-Decides}
 use Rattle.mvn_base.specs.declared.gav.Gav.{Gav}
 use Rattle.mvn_base.specs.declared.refusal.PomId.{PomId}
+use Rattle.model_types.specs.declared.model.Parent.{Parent}
 use Rattle.model_types.specs.declared.model.RawModel.{RawModel}
+use Rattle.pom_source.specs.Chains.{ok_is}
+use Rattle.pom_source.specs.Worlds.{World}
 use Rattle.pom_lineage.specs.Beside.{gav_eq}
-use Rattle.pom_lineage.specs.Stores.{KeepsLines, KeepsRead, if_serves, line_in, read_in, serves}
+use Rattle.pom_lineage.specs.Lineage.{origin_of}
+use Rattle.pom_lineage.specs.Stores.{KeepsLines, KeepsParent, KeepsRead, if_serves, line_in, read_in, serves}
 use Rattle.pom_lineage.specs.declared.joined.Joined.{Joined}
 use Rattle.pom_lineage.specs.declared.origin.Origin.{Origin}
 use Rattle.pom_lineage.specs.declared.origin.Origin.TheVariants.{Beside, Elsewhere}
 use Rattle.pom_lineage.specs.declared.store.Store.{Store}
 use Rattle.pom_lineage.proofs.Holding.{same_path}
+
+some_is : {A : Type 0} (x y : A) → ◌≡◌ {A = Option A} (Some x) (Some y) → x ≡ y
+some_is x y e = cc
 
 none_some : {A B : Type 0} (x : A) → ◌≡◌ {A = Option A} None (Some x) → B
 none_some x e = cc
@@ -49,6 +56,24 @@ served_there left seen (Some kept) line e = refl
 pub unserved : {A : Type 0} (left : ℕ) (seen : List PomId) (o : Option Joined) → None ≡ if_serves left seen o → IfSome o (λ line. serves left seen line ≡ true → A)
 unserved left seen None e = record {}
 unserved left seen (Some kept) e = λ yes. none_some kept (e ∙ ap (λ b. if b then Some kept else None) yes)
+
+-- whether what is kept serves
+pub serves_not_there : (left : ℕ) (seen : List PomId) (o : Option Joined) → None ≡ o → None ≡ if_serves left seen o
+serves_not_there left seen o e = ap (if_serves left seen) e
+
+pub serves_there : (left : ℕ) (seen : List PomId) (o : Option Joined) (line : Joined) → Some line ≡ o → serves left seen line ≡ true → Some line ≡ if_serves left seen o
+serves_there left seen o line e yes = sym (ap (λ b. if b then Some line else None) yes) ∙ ap (if_serves left seen) e
+
+pub serves_not : (left : ℕ) (seen : List PomId) (o : Option Joined) (line : Joined) → Some line ≡ o → serves left seen line ≡ false → None ≡ if_serves left seen o
+serves_not left seen o line e no_ = sym (ap (λ b. if b then Some line else None) no_) ∙ ap (if_serves left seen) e
+
+-- what a parent builds on is kept, where its origin led
+pub no_parent_kept : (world : World) (store : Store) (pom : PomId) → KeepsParent world store pom None
+no_parent_kept world store pom named origin none = none_some named none
+
+pub parent_kept : (world : World) (store : Store) (pom : PomId) (parent : Parent) (origin : Origin) → origin_of world pom parent ≡ Ok origin → is_some (line_in store origin) ≡ true → KeepsParent world store pom (Some parent)
+parent_kept world store pom parent origin led there named other says comes =
+    subst (λ o. is_some (line_in store o) ≡ true) (ok_is origin other (sym led ∙ ap (origin_of world pom) (some_is parent named says) ∙ comes)) there
 
 -- what was put under a path is there
 pub read_kept : {T E : Type 0} (r : Result T E) (old new : Store) (path : List ℕ) (found : Option RawModel)

@@ -5,11 +5,12 @@ use Rattle.std.specs.List.{list_any}
 use Rattle.std.specs.Str.{bytes_eq}
 use Rattle.mvn_base.specs.declared.gav.Gav.{Gav}
 use Rattle.mvn_base.specs.declared.refusal.PomId.{PomId}
+use Rattle.model_types.specs.declared.model.Parent.{Parent}
 use Rattle.model_types.specs.declared.model.RawModel.{RawModel}
 use Rattle.pom_source.specs.Worlds.{World}
 use Rattle.pom_source.specs.declared.found.Given.{Given}
 use Rattle.pom_lineage.specs.Beside.{gav_eq, read_at}
-use Rattle.pom_lineage.specs.Lineage.{is_in, joined_from}
+use Rattle.pom_lineage.specs.Lineage.{is_in, joined_from, origin_of}
 use Rattle.pom_lineage.specs.declared.joined.Joined.{Joined}
 use Rattle.pom_lineage.specs.declared.origin.Origin.{Origin}
 use Rattle.pom_lineage.specs.declared.origin.Origin.TheVariants.{Beside, Elsewhere}
@@ -49,6 +50,12 @@ module _ (world : World) where
   abbrev pub IsAt : Origin → Type 0
   IsAt (Beside path raw) = read_at world path ≡ Ok (Some raw)
   IsAt (Elsewhere gav) = Unit {0}
+
+  -- what the parent of a POM builds on is kept
+  abbrev pub KeepsParent : Store → PomId → Option Parent → Type 0
+  KeepsParent store pom parent =
+      (named : Parent) (origin : Origin) → parent ≡ Some named → origin_of world pom named ≡ Ok origin
+      → is_some (line_in store origin) ≡ true
 
   -- what was read at each path
   unfoldable pub HoldsRead : Store → Type 0

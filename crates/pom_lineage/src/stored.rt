@@ -3,7 +3,7 @@ ghost use Rattle.mvn_shared.specs.Cause.{HasCause};
 ghost use Rattle.pom_source.specs.Answers.{Says, build_failed};
 ghost use Rattle.pom_source.specs.Worlds.{World};
 ghost use Rattle.pom_lineage.specs.Lineage.{above, entered, gav_of, joined_from, joined_up, line, lineage, next_poms};
-ghost use Rattle.pom_lineage.specs.Stores.{Holds, IsAt, KeepsLines, KeepsRead, line_in, serves};
+ghost use Rattle.pom_lineage.specs.Stores.{Holds, IsAt, KeepsLines, KeepsParent, KeepsRead, line_in, serves};
 
 use crate::joined::Joined;
 use crate::origin::{Candidate, Origin};
@@ -38,8 +38,8 @@ fn joined_from<P: PomSource>(
     ensures holds { (world : World) → P.fits_poms source.old world → Holds world given.now store.old
         → IsAt world origin.now → Holds world given.now store.new }
     ensures kept { OnOk result (is_some (line_in store.new origin.now) ≡ true) }
-    ensures unasked { IfSome (line_in store.old origin.now) (λ line. serves left seen.now line ≡ true
-        → source.new ≡ source.old) }
+    ensures unasked { IfSome (line_in store.old origin.now) (λ line.
+        serves left seen.now line ≡ true → source.new ≡ source.old) }
     ensures keeps { KeepsRead store.old store.new }
     ensures keeps_lines { KeepsLines store.old store.new }
     ensures cause { HasCause (P.faults source.old) (P.faults source.new) (build_failed result) }
@@ -144,6 +144,8 @@ fn line<P: PomSource>(
     ensures fit { (world : World) → P.fits_poms source.old world → P.fits_poms source.new world }
     ensures holds { (world : World) → P.fits_poms source.old world → Holds world given.now store.old
         → Holds world given.now store.new }
+    ensures kept { (world : World) → P.fits_poms source.old world → Holds world given.now store.old
+        → OnOk result (KeepsParent world store.new raw.now.pom raw.now.parent) }
     ensures keeps { KeepsRead store.old store.new }
     ensures keeps_lines { KeepsLines store.old store.new }
     ensures cause { HasCause (P.faults source.old) (P.faults source.new) (build_failed result) }
@@ -164,6 +166,7 @@ fn line<P: PomSource>(
 
 // What a POM builds on, by its parent.
 #[cycle(stored)]
+#[tactic(auto, using(crate::proofs::Kept::no_parent_kept, crate::proofs::Kept::parent_kept))]
 fn above<P: PomSource>(
     alloc: Global,
     store: &mut Store,
@@ -180,6 +183,8 @@ fn above<P: PomSource>(
     ensures fit { (world : World) → P.fits_poms source.old world → P.fits_poms source.new world }
     ensures holds { (world : World) → P.fits_poms source.old world → Holds world given.now store.old
         → Holds world given.now store.new }
+    ensures kept { (world : World) → P.fits_poms source.old world → Holds world given.now store.old
+        → OnOk result (KeepsParent world store.new pom.now parent.now) }
     ensures keeps { KeepsRead store.old store.new }
     ensures keeps_lines { KeepsLines store.old store.new }
     ensures cause { HasCause (P.faults source.old) (P.faults source.new) (build_failed result) }
@@ -215,6 +220,8 @@ pub fn lineage<P: PomSource>(
     ensures fit { (world : World) → P.fits_poms source.old world → P.fits_poms source.new world }
     ensures holds { (world : World) → P.fits_poms source.old world → Holds world given.now store.old
         → Holds world given.now store.new }
+    ensures kept { (world : World) → P.fits_poms source.old world → Holds world given.now store.old
+        → OnOk result (KeepsParent world store.new raw.now.pom raw.now.parent) }
     ensures keeps { KeepsRead store.old store.new }
     ensures keeps_lines { KeepsLines store.old store.new }
     ensures cause { HasCause (P.faults source.old) (P.faults source.new) (build_failed result) }

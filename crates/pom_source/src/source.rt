@@ -36,7 +36,8 @@ pub trait PomSource: Files {
             (device_failed result) };
 
     /// A world that it fits says which files are there.
-    ghost files_fit: { (source : Self) (world : World) → fits_poms source world → Self.fits source world.there };
+    ghost files_fit: { (source : Self) (world : World) → fits_poms source world
+        → Self.fits source world.there };
 
     /// What tells the same fits the same worlds.
     ghost fits_on: { (before now : Self) (world : World) → Self.tells_same before now

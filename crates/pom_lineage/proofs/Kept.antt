@@ -33,11 +33,6 @@ gav_itself gav =
     ap (λ b. b && (bytes_eq gav.artifact gav.artifact && bytes_eq gav.version gav.version)) (path_itself gav.group)
     ∙ ap (λ b. b && bytes_eq gav.version gav.version) (path_itself gav.artifact) ∙ path_itself gav.version
 
--- nothing is promised where nothing was read
-pub unread : {A : Type 0} (o : Option (Option RawModel)) → None ≡ o → OnSome o A
-unread None e = record {}
-unread (Some x) e = none_some x e
-
 -- what is so is so whatever was read
 pub untouched : {A : Type 0} (o : Option (Option RawModel)) → A → OnSome o A
 untouched None so = record {}
@@ -45,29 +40,14 @@ untouched (Some x) so = so
 
 pub untouched_line : {A : Type 0} (left : ℕ) (seen : List PomId) (o : Option Joined) → A → IfSome o (λ line. serves left seen line ≡ true → A)
 untouched_line left seen None so = record {}
-untouched_line left seen (Some kept) so = λ yes. so
+untouched_line left seen (Some kept) so = λ fitting. so
 
 -- a lineage that serves is there
 pub served_there : (left : ℕ) (seen : List PomId) (o : Option Joined) (line : Joined) → Some line ≡ if_serves left seen o → is_some o ≡ true
 served_there left seen None line e = none_some line (sym e)
 served_there left seen (Some kept) line e = refl
 
--- and none does where none was found
-pub unserved : {A : Type 0} (left : ℕ) (seen : List PomId) (o : Option Joined) → None ≡ if_serves left seen o → IfSome o (λ line. serves left seen line ≡ true → A)
-unserved left seen None e = record {}
-unserved left seen (Some kept) e = λ yes. none_some kept (e ∙ ap (λ b. if b then Some kept else None) yes)
-
--- whether what is kept serves
-pub serves_not_there : (left : ℕ) (seen : List PomId) (o : Option Joined) → None ≡ o → None ≡ if_serves left seen o
-serves_not_there left seen o e = ap (if_serves left seen) e
-
-pub serves_there : (left : ℕ) (seen : List PomId) (o : Option Joined) (line : Joined) → Some line ≡ o → serves left seen line ≡ true → Some line ≡ if_serves left seen o
-serves_there left seen o line e yes = sym (ap (λ b. if b then Some line else None) yes) ∙ ap (if_serves left seen) e
-
-pub serves_not : (left : ℕ) (seen : List PomId) (o : Option Joined) (line : Joined) → Some line ≡ o → serves left seen line ≡ false → None ≡ if_serves left seen o
-serves_not left seen o line e no_ = sym (ap (λ b. if b then Some line else None) no_) ∙ ap (if_serves left seen) e
-
--- what a parent builds on is kept, where its origin led
+-- what a parent builds on is kept under its origin
 pub no_parent_kept : (world : World) (store : Store) (pom : PomId) → KeepsParent world store pom None
 no_parent_kept world store pom named origin none = none_some named none
 

@@ -127,7 +127,7 @@ fn read_anew<P: PomSource>(
 /// The POM at a path of the project: as it was read before, or read and kept; none if no file is there; or what its text breaks first.
 /// What was read stays in the store and isn't asked for again. `Source` comes only if the source's count of faults rose. Costs the
 /// POM's bytes the first time, and the path after that. Project rule.
-#[tactic(auto, using(crate::proofs::Kept::unread, crate::proofs::Kept::untouched))]
+#[tactic(auto, using(crate::proofs::Kept::untouched))]
 pub fn read_at<P: PomSource>(
     alloc: Global,
     store: &mut Store,

@@ -158,7 +158,7 @@ impl Store {
 
     /// The lineage from an origin on, if it is kept and serves one who has met these POMs and may meet so many. Costs a
     /// comparison of these with its POMs.
-    #[tactic(auto, using(crate::proofs::Holding::line_serves, crate::proofs::Kept::serves_not, crate::proofs::Kept::serves_not_there, crate::proofs::Kept::serves_there))]
+    #[tactic(auto, using(crate::proofs::Holding::line_serves))]
     pub(crate) fn find_line(
         &self,
         left: u32,

@@ -20,7 +20,7 @@ use std::alloc::Global;
 
 // What is built on from a parent's origin on, at most `left` POMs; kept, or built and then kept.
 #[cycle(stored)]
-#[tactic(auto, using(crate::proofs::Keeping::is_kept, crate::proofs::Kept::served_there, crate::proofs::Kept::unserved, crate::proofs::Kept::untouched_line))]
+#[tactic(auto, using(crate::proofs::Keeping::is_kept, crate::proofs::Kept::served_there, crate::proofs::Kept::untouched_line))]
 fn joined_from<P: PomSource>(
     alloc: Global,
     store: &mut Store,

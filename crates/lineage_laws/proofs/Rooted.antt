@@ -1,5 +1,5 @@
 -- A POM without a parent states its group and its version, or it is refused.
-use Rattle.std.proofs.Common.{◌≡◌, ⊥, ℕ, Bool, true, false, not, ◌&&◌, List, [], ◌∷◌, Option, None, Some, Result, Ok, Err, refl, sym, ap, subst, ◌∙◌, if◌then◌else◌}
+use Rattle.std.proofs.Common.{◌≡◌, ℕ, suc, Bool, true, false, not, ◌&&◌, List, [], ◌∷◌, Option, None, Some, Result, Ok, Err, refl, sym, ap, subst, ◌∙◌, if◌then◌else◌}
 use Rattle.std.specs.Prelude.{codes, find, is_some, option_map, slice_get}
 use Rattle.std.specs.Str.{bytes_eq}
 use Rattle.mvn_base.specs.declared.refusal.PomId.{PomId}
@@ -9,7 +9,7 @@ use Rattle.model_types.specs.declared.model.RawModel.{RawModel}
 use Rattle.pom_text.specs.Answers.{answer}
 use Rattle.pom_text.specs.declared.node.Node.{Node}
 use Rattle.pom_model.specs.Elements.{child, text_of}
-use Rattle.pom_model.specs.Faults.{at_path, ended, fault_within, first_fault, is_alone, missing, or, root_fault, under}
+use Rattle.pom_model.specs.Faults.{among, at_path, ended, fault_within, first_fault, is_alone, is_missing, missing, or, root_fault, under}
 use Rattle.pom_model.specs.Fields.{coordinates, model, parent}
 use Rattle.pom_model.specs.Raw.{raw, unless}
 use Rattle.pom_model.specs.Table.{kind_number, table}
@@ -51,15 +51,26 @@ there true (Some x) is e = refl
 there true None is e = cc
 there false o is e = cc
 
+-- what is refused in an element, one level at a time
+within_is : (depth : ℕ) → fault_within (suc depth) ≡ (λ nodes kind node. or (among (fault_within depth nodes) nodes kind [] node.children) (ended nodes kind node))
+unfolding fault_within
+within_is depth = refl
+
+top_level : 64 ≡ suc 63
+top_level = refl
+
 -- of the lines of the table the third asks for a group, and the fourth for a version, of a POM without a parent
 root_states : (nodes : List Node) (root : Node) → root_fault nodes (Some root) ≡ None → is_alone nodes root ≡ true
     → (is_some (text_of nodes (codes "groupId") (Some root)) ≡ true) × (is_some (text_of nodes (codes "version") (Some root)) ≡ true)
-unfolding fault_within ended missing table kind_number
+unfolding ended missing table kind_number
 root_states nodes root e alone =
-    let within = unmapped (under (codes "project")) _ (chosen (bytes_eq root.name (codes "project")) _ _ e) in
-    let lacks = second_none _ _ (second_none _ _ within) in
-    let found = unmapped _ _ (unmapped (at_path MissingField) _ lacks) in
-    let rows = third_fourth _ _ _ _ _ _ found in
+    let one = chosen (bytes_eq root.name (codes "project")) _ _ e in
+    let within = unmapped (under (codes "project")) _ one in
+    let opened = sym (ap (λ f. f nodes _ root) (ap fault_within top_level ∙ within_is 63)) ∙ within in
+    let lacks = second_none _ _ (second_none _ _ opened) in
+    let unnamed = unmapped (at_path MissingField) _ lacks in
+    let found = unmapped (λ r. r.name) _ unnamed in
+    let rows = third_fourth (is_missing nodes _ root (is_alone nodes root)) _ _ _ _ _ found in
     (there (is_alone nodes root) (text_of nodes (codes "groupId") (Some root)) alone rows.0, there (is_alone nodes root) (text_of nodes (codes "version") (Some root)) alone rows.1)
 
 -- a POM that has no element for its parent

@@ -1,0 +1,4 @@
+pub use Rattle.pom_source.specs.Answers
+pub use Rattle.pom_source.specs.Worlds
+pub use Rattle.pom_lineage.specs.Stores
+pub mod Effective

@@ -1,0 +1,137 @@
+ghost use Rattle.std.specs.Prelude.{◌≡◌, [], ◌∷◌, IfOk};
+ghost use Rattle.mvn_shared.specs.Cause.{HasCause};
+ghost use Rattle.pom_source.specs.Answers.{Says, build_failed};
+ghost use Rattle.pom_source.specs.Worlds.{World};
+ghost use Rattle.pom_source.specs.declared.found.Given as givens;
+ghost use Rattle.pom_lineage.specs.Stores.{Holds};
+ghost use Rattle.effective.specs.Effective.{asked, asked_path, effective, read_found};
+
+use crate::imports::whole;
+use model_types::{Model, RawModel};
+use mvn_base::{Gav, PomId};
+use mvn_shared::{List, Mem, Shared, Text};
+use pom_lineage::{Store, read, read_at};
+use pom_source::{BuildFault, Given, PomSource};
+use std::alloc::Global;
+
+// A list of one POM.
+fn only(alloc: Global, pom: &PomId) -> Mem<List<PomId>>
+    ensures { IfOk result (λ list. list ≡ pom.now ∷ []) }
+{
+    let mut list = List::new(alloc);
+    list.push(pom.clone()?)?;
+    Ok(list)
+}
+
+// The POM at a path of the project.
+fn asked_path<P: PomSource>(
+    alloc: Global,
+    store: &mut Store,
+    source: &mut P,
+    path: &Text,
+) -> Result<Shared<RawModel>, BuildFault>
+    ensures says { (world : World) (given : givens.Given) → P.fits_poms source.old world
+        → Holds world given store.old → Says (asked_path world path.now) result }
+    ensures fit { (world : World) → P.fits_poms source.old world → P.fits_poms source.new world }
+    ensures holds { (world : World) (given : givens.Given) → P.fits_poms source.old world
+        → Holds world given store.old → Holds world given store.new }
+    ensures cause { HasCause (P.faults source.old) (P.faults source.new) (build_failed result) }
+{
+    match read_at(alloc, store, source, path)? {
+        Some(raw) => Ok(raw),
+        None => Err(BuildFault::Absent),
+    }
+}
+
+// The POM of coordinates.
+fn asked_gav<P: PomSource>(
+    alloc: Global,
+    source: &mut P,
+    gav: &Gav,
+) -> Result<Shared<RawModel>, BuildFault>
+    ensures says { (world : World) → P.fits_poms source.old world
+        → Says (read_found (world.by_gav gav.now)) result }
+    ensures fit { (world : World) → P.fits_poms source.old world → P.fits_poms source.new world }
+    ensures cause { HasCause (P.faults source.old) (P.faults source.new) (build_failed result) }
+{
+    match source.by_gav(gav)? {
+        Some(found) => match read(alloc, &found.pom, &found.bytes) {
+            Ok(raw) => Ok(raw),
+            Err(fault) => Err(fault),
+        },
+        None => Err(BuildFault::Absent),
+    }
+}
+
+// The POM that is asked for.
+fn asked<P: PomSource>(
+    alloc: Global,
+    store: &mut Store,
+    source: &mut P,
+    pom: &PomId,
+) -> Result<Shared<RawModel>, BuildFault>
+    ensures says { (world : World) (given : givens.Given) → P.fits_poms source.old world
+        → Holds world given store.old → Says (asked world pom.now) result }
+    ensures fit { (world : World) → P.fits_poms source.old world → P.fits_poms source.new world }
+    ensures holds { (world : World) (given : givens.Given) → P.fits_poms source.old world
+        → Holds world given store.old → Holds world given store.new }
+    ensures cause { HasCause (P.faults source.old) (P.faults source.new) (build_failed result) }
+{
+    match pom {
+        PomId::Path(path) => match asked_path(alloc, store, source, path) {
+            Ok(raw) => Ok(raw),
+            Err(fault) => Err(fault),
+        },
+        PomId::Gav(gav) => match asked_gav(alloc, source, gav) {
+            Ok(raw) => Ok(raw),
+            Err(fault) => Err(fault),
+        },
+    }
+}
+
+/// The effective model of a POM, like `effective`, with a store of what was read in the run. What the store keeps is so in each world
+/// that fits the source, before the call and after it. Costs the POMs that weren't read before, and the model.
+pub fn effective_with<P: PomSource>(
+    alloc: Global,
+    store: &mut Store,
+    source: &mut P,
+    given: &Given,
+    pom: &PomId,
+) -> Result<Model, BuildFault>
+    ensures says { (world : World) → P.fits_poms source.old world → Holds world given.now store.old
+        → Says (effective world given.now pom.now) result }
+    ensures fit { (world : World) → P.fits_poms source.old world → P.fits_poms source.new world }
+    ensures holds { (world : World) → P.fits_poms source.old world → Holds world given.now store.old
+        → Holds world given.now store.new }
+    ensures cause { HasCause (P.faults source.old) (P.faults source.new) (build_failed result) }
+{
+    let raw = asked(alloc, store, source, pom)?;
+    let building = only(alloc, &raw.pom)?;
+    match whole(alloc, store, source, given, 31, &building, &raw) {
+        Ok(model) => Ok(model),
+        Err(fault) => Err(fault),
+    }
+}
+
+/// The effective model of a POM, or its first refusal; absent exactly where the source has no such POM. The steps, in this order: the
+/// POM and its parents, each with its active profiles, and what is inherited; expressions and folders; managed plugins, and the goals that
+/// the packaging binds; imports; what is managed, and scopes; and what is checked in the end. In every world that fits the source the answer
+/// is this world's. `Source` only where its count of faults rose. Costs the POMs that are read, and for each what is joined, on the
+/// average. Maven Model Builder, "Model building"; POM Reference, "The Effective POM".
+pub fn effective<P: PomSource>(
+    alloc: Global,
+    source: &mut P,
+    given: &Given,
+    pom: &PomId,
+) -> Result<Model, BuildFault>
+    ensures says { (world : World) → P.fits_poms source.old world
+        → Says (effective world given.now pom.now) result }
+    ensures fit { (world : World) → P.fits_poms source.old world → P.fits_poms source.new world }
+    ensures cause { HasCause (P.faults source.old) (P.faults source.new) (build_failed result) }
+{
+    let mut store = Store::new(alloc);
+    match effective_with(alloc, &mut store, source, given, pom) {
+        Ok(model) => Ok(model),
+        Err(fault) => Err(fault),
+    }
+}

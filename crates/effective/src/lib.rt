@@ -1,0 +1,8 @@
+//! The effective model of a POM: its profiles, its parents and its imports counted in, its expressions filled, what is managed applied,
+//! and its packaging's goals bound.
+#![tactic(auto)]
+
+mod asked;
+mod imports;
+
+pub use asked::{effective, effective_with};

@@ -1,0 +1,124 @@
+// The POMs of a project on a disk, and their effective models.
+use crate::library::{LIMIT, read_library};
+use effective::effective_with;
+use model_json::write_model_json;
+use mvn_base::{Choice, Machine, PomId};
+use mvn_outside::Tree;
+use mvn_shared::{Bytes, List, Text};
+use outside_mem::NoFailures;
+use outside_real::RealTree;
+use pom_lineage::{Store, raw_gav, read};
+use pom_source::{BuildFault, Found, Given};
+use source_mem::MemPoms;
+use std::alloc::Global;
+
+/// The POMs of a project, in memory.
+#[derive(Drop)]
+pub(crate) struct Project {
+    source: MemPoms<NoFailures>,
+    paths: Vec<Text>,
+}
+
+// A machine whose root is `/w`.
+fn given(alloc: Global) -> anyhow::Result<Given> {
+    let machine = Machine {
+        root: Text::from_str(alloc, "/w")?,
+        env: List::new(alloc),
+        system: List::new(alloc),
+        jdk: Text::from_str(alloc, "17.0.1")?,
+        os_name: Text::from_str(alloc, "Linux")?,
+        os_family: Text::from_str(alloc, "unix")?,
+        os_arch: Text::from_str(alloc, "amd64")?,
+        os_version: Text::from_str(alloc, "6.1")?,
+    };
+    let choice = Choice {
+        on: List::new(alloc),
+        off: List::new(alloc),
+    };
+    Ok(Given {
+        machine,
+        defines: List::new(alloc),
+        choice,
+    })
+}
+
+// How it is told that a POM has no model.
+fn fault_text(alloc: Global, fault: &BuildFault) -> anyhow::Result<String> {
+    let text = match fault {
+        BuildFault::Refused(refusal) => format!(in alloc; "{refusal}")?,
+        BuildFault::Absent => String::from_str(alloc, "no such POM")?,
+        BuildFault::Source => String::from_str(alloc, "the source failed")?,
+        BuildFault::Memory => String::from_str(alloc, "out of memory")?,
+    };
+    Ok(text)
+}
+
+impl Project {
+    // A POM of the project, by its path and by its coordinates.
+    fn put(&mut self, alloc: Global, path: &Text, bytes: Bytes) -> anyhow::Result<()> {
+        let pom = PomId::Path(path.clone()?);
+        if let Ok(raw) = read(alloc, &pom, &bytes) {
+            let gav = raw_gav(alloc, &raw)?;
+            let bytes = bytes.clone()?;
+            self.source.put_found(gav, Found { pom, bytes })?;
+        }
+        self.source.put_file(path.clone()?, bytes)?;
+        self.paths.push(path.clone()?)?;
+        Ok(())
+    }
+
+    /// The POMs of a project, and those of a repository.
+    pub(crate) fn read(rt: &HostRuntime, folder: &str, repository: &str) -> anyhow::Result<Project> {
+        let alloc = rt.alloc();
+        let mut project = Project {
+            source: MemPoms::new(alloc, NoFailures),
+            paths: Vec::new(alloc),
+        };
+        if !repository.is_empty() {
+            read_library(rt, &mut project.source, repository)?;
+        }
+        let mut tree = RealTree::new(rt, Text::from_str(alloc, folder)?);
+        for path in tree.list(&Text::from_str(alloc, "")?)?.as_slice() {
+            if path.as_str().ends_with("pom.xml") {
+                if let Some(bytes) = tree.read(path, LIMIT)? {
+                    project.put(alloc, path, bytes)?;
+                }
+            }
+        }
+        Ok(project)
+    }
+
+    /// Prints each POM with its model.
+    pub(crate) fn print(&mut self, rt: &HostRuntime) -> anyhow::Result<()> {
+        let alloc = rt.alloc();
+        let given = given(alloc)?;
+        let mut store = Store::new(alloc);
+        for path in self.paths.as_slice() {
+            let pom = PomId::Path(path.clone()?);
+            let text = match effective_with(alloc, &mut store, &mut self.source, &given, &pom) {
+                Ok(model) => String::from_utf8(write_model_json(alloc, &model)?.into_vec())?,
+                Err(fault) => fault_text(alloc, &fault)?,
+            };
+            println!(rt; "{path} {text}")?;
+        }
+        Ok(())
+    }
+
+    /// Prints how many models there are, and how long their JSON is.
+    pub(crate) fn count(&mut self, rt: &HostRuntime) -> anyhow::Result<()> {
+        let alloc = rt.alloc();
+        let given = given(alloc)?;
+        let mut store = Store::new(alloc);
+        let mut models = 0u32;
+        let mut written = 0usize;
+        for path in self.paths.as_slice() {
+            let pom = PomId::Path(path.clone()?);
+            if let Ok(model) = effective_with(alloc, &mut store, &mut self.source, &given, &pom) {
+                models = models.saturating_add(1);
+                written = written.saturating_add(write_model_json(alloc, &model)?.len());
+            }
+        }
+        println!(rt; "{models} models, {written} bytes")?;
+        Ok(())
+    }
+}

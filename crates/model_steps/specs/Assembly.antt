@@ -1,0 +1,77 @@
+-- The effective model, before it is checked: what is managed, the dependencies under it, and the coordinates. Introduction to the
+-- Dependency Mechanism, "Dependency Management"; that a POM read by coordinates loses what isn't transitive is a project rule.
+use Rattle.std.specs.Prelude.{ℕ, Bool, true, false, not, ◌||◌, List, [], map, filter, codes, Option, None, Some, option_map, if◌then◌else◌}
+use Rattle.std.specs.Option.{option_or}
+use Rattle.std.specs.Str.{bytes_eq}
+use Rattle.mvn_base.specs.declared.gav.Gav.{Gav}
+use Rattle.mvn_base.specs.declared.key.Key.{Key}
+use Rattle.mvn_base.specs.declared.refusal.PomId.{PomId}
+use Rattle.mvn_base.specs.declared.refusal.PomId.TheVariants as ids
+use Rattle.model_types.specs.declared.build.Build.{Build}
+use Rattle.model_types.specs.declared.build.BuildBase.{BuildBase}
+use Rattle.model_types.specs.declared.dependency.Dependency.{Dependency}
+use Rattle.model_types.specs.declared.model.Coordinates.{Coordinates}
+use Rattle.model_types.specs.declared.model.Model.{Model}
+use Rattle.model_types.specs.declared.model.ModelBase.{ModelBase}
+use Rattle.model_types.specs.declared.model.Parent.{Parent}
+use Rattle.model_types.specs.declared.model.RawModel.{RawModel}
+use Rattle.managed_deps.specs.Managed.{all_entries, apply_one, first_of_each, is_scope}
+
+-- a dependency that one who depends on the POM doesn't get
+abbrev pub is_dropped : Dependency → Bool
+is_dropped d =
+    bytes_eq d.optional (codes "true") || is_scope (codes "test") d.scope
+    || is_scope (codes "provided") d.scope || is_scope (codes "system") d.scope
+
+abbrev pub kept_as : PomId → List Dependency → List Dependency
+kept_as (ids.Path path) dependencies = dependencies
+kept_as (ids.Gav gav) dependencies = filter (λ d. not (is_dropped d)) dependencies
+
+-- a dependency has the scope `compile` where it has none
+abbrev pub with_scope : Dependency → Dependency
+with_scope d = record {
+  group = d.group;
+  artifact = d.artifact;
+  version = d.version;
+  kind = d.kind;
+  classifier = d.classifier;
+  scope = option_or d.scope (Some (codes "compile"));
+  optional = d.optional;
+  exclusions = d.exclusions;
+}
+
+-- what is managed: the own entries and those of imports, the first of each key
+abbrev pub managed_set : List Dependency → List (List Dependency) → List (Key × Dependency)
+managed_set own imports = first_of_each (all_entries own imports)
+
+abbrev pub completed : PomId → List (Key × Dependency) → List Dependency → List Dependency
+completed pom set dependencies = map with_scope (map (apply_one set) (kept_as pom dependencies))
+
+abbrev pub text_or_none : Option (List ℕ) → List ℕ
+text_or_none (Some text) = text
+text_or_none None = []
+
+abbrev pub gav_of : Coordinates → Gav
+gav_of c = record { group = text_or_none c.group; artifact = c.artifact; version = text_or_none c.version }
+
+abbrev pub base_of : PomId → List (Key × Dependency) → ModelBase → ModelBase
+base_of pom set b = record {
+  modules = b.modules;
+  properties = b.properties;
+  managed = map (λ e. e.1) set;
+  dependencies = completed pom set b.dependencies;
+}
+
+abbrev pub build_of : Build → BuildBase → Build
+build_of b base = record { outputs = b.outputs; sources = b.sources; base = base; extensions = b.extensions }
+
+-- a filled model with its plugins and with the entries that its imports stand for
+unfoldable pub model_of : RawModel → BuildBase → List (List Dependency) → Model
+model_of raw base imports = record {
+  pom = raw.pom;
+  gav = gav_of raw.coordinates;
+  packaging = raw.coordinates.packaging;
+  parent = option_map (λ (p : Parent). p.gav) raw.parent;
+  base = base_of raw.pom (managed_set raw.base.managed imports) raw.base;
+  build = build_of raw.build base;
+}

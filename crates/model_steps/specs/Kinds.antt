@@ -1,0 +1,17 @@
+-- What a version states. POM Reference, "Dependency Version Requirement Specification".
+use Rattle.std.specs.Prelude.{ℕ, List, Option, None, Some, Result, Ok, Err}
+use Rattle.version_order.specs.Requirements.{requirement}
+use Rattle.version_order.specs.declared.requirement.Requirement.{Requirement}
+use Rattle.version_order.specs.declared.requirement.Requirement.TheVariants as requirements
+use Rattle.model_steps.specs.declared.kind.VersionKind.{VersionKind}
+use Rattle.model_steps.specs.declared.kind.VersionKind.TheVariants.{Missing, Soft, Range, Unreadable}
+
+abbrev pub kind_by : Result Requirement ℕ → VersionKind
+kind_by (Ok (requirements.Soft version)) = Soft
+kind_by (Ok (requirements.Hard intervals)) = Range
+kind_by (Err place) = Unreadable
+
+-- nothing, one version, a range, or what is no requirement
+abbrev pub kind_of : Option (List ℕ) → VersionKind
+kind_of None = Missing
+kind_of (Some version) = kind_by (requirement version)

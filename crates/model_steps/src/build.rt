@@ -1,0 +1,63 @@
+ghost use Rattle.std.specs.Prelude.{◌≡◌, false, IfOk};
+ghost use Rattle.pom_source.specs.Answers.{Says, build_failed};
+ghost use Rattle.model_steps.specs.Building.{bound_base, built, built_by};
+ghost use Rattle.lifecycle.specs.Bindings.{bindings};
+
+use lifecycle::{bind, bindings};
+use managed_deps::apply_plugins;
+use model_types::{BuildBase, Plugin, RawModel};
+use mvn_base::{PomId, Rule};
+use mvn_shared::{List, Mem, Shared, Text};
+use pom_source::{BuildFault, text_refused};
+use std::alloc::Global;
+
+// The declared plugins under their managed entries, with those that are bound.
+fn bound_base(
+    alloc: Global,
+    base: &BuildBase,
+    bound: List<Shared<Plugin>>,
+) -> Mem<Shared<BuildBase>>
+    ensures { IfOk result (λ it. it ≡ bound_base base.now bound) }
+{
+    let managed = base.managed_plugins.as_slice();
+    let declared = apply_plugins(alloc, base.plugins.as_slice(), managed)?;
+    let plugins = bind(alloc, declared.as_slice(), managed, bound)?;
+    let managed_plugins = base.managed_plugins.clone()?;
+    Shared::new(
+        alloc,
+        BuildBase {
+            plugins,
+            managed_plugins,
+        },
+    )
+}
+
+// The plugins of a module of a packaging.
+fn built_by(
+    alloc: Global,
+    pom: &PomId,
+    packaging: &Text,
+    base: &BuildBase,
+) -> Result<Shared<BuildBase>, BuildFault>
+    ensures says { Says (built_by pom.now packaging.now base.now (bindings packaging.now)) result }
+    ensures cause { build_failed result ≡ false }
+{
+    match bindings(alloc, packaging)? {
+        None => text_refused(pom, Rule::UnknownPackaging, packaging),
+        Some(bound) => Ok(bound_base(alloc, base, bound)?),
+    }
+}
+
+/// The plugins of a filled model: the declared ones under their managed entries, and those that its packaging binds; refused is an
+/// unknown packaging. A POM read by coordinates isn't built, so it keeps its plugins. Costs the plugins, on the average. POM Reference,
+/// "Plugin Management"; Introduction to the Build Lifecycle.
+#[tactic(auto, unfolding(crate::specs::Building::built))]
+pub fn built(alloc: Global, raw: &RawModel) -> Result<Shared<BuildBase>, BuildFault>
+    ensures says { Says (built raw.now) result }
+    ensures cause { build_failed result ≡ false }
+{
+    match raw.pom.value() {
+        PomId::Gav(_) => Ok(raw.build.base.share()?),
+        PomId::Path(_) => built_by(alloc, &raw.pom, &raw.coordinates.packaging, &raw.build.base),
+    }
+}

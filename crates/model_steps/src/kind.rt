@@ -1,0 +1,38 @@
+ghost use Rattle.std.specs.Prelude.{◌≡◌, Some, IfOk};
+ghost use Rattle.model_steps.specs.Kinds.{kind_of};
+
+use mvn_shared::{Mem, OutOfMemory, Text};
+use std::alloc::Global;
+use version_order::{Requirement, RequirementError};
+
+/// What a version states: nothing, one version, a range, or what is no requirement. POM Reference, "Dependency Version Requirement
+/// Specification".
+#[derive(Clone, Copy)]
+pub enum VersionKind {
+    Missing,
+    Soft,
+    Range,
+    Unreadable,
+}
+
+/// What the text of a version states. Costs its length.
+pub(crate) fn kind_of_text(alloc: Global, version: &Text) -> Mem<VersionKind>
+    ensures { IfOk result (λ kind. kind ≡ kind_of (Some version.now)) }
+{
+    match Requirement::parse(alloc, version) {
+        Ok(Requirement::Soft(_)) => Ok(VersionKind::Soft),
+        Ok(Requirement::Hard(_)) => Ok(VersionKind::Range),
+        Err(RequirementError::BadRange { place: _ }) => Ok(VersionKind::Unreadable),
+        Err(RequirementError::Memory) => Err(OutOfMemory),
+    }
+}
+
+/// What a version states. Costs its length.
+pub(crate) fn kind_of(alloc: Global, version: &Option<Text>) -> Mem<VersionKind>
+    ensures { IfOk result (λ kind. kind ≡ kind_of version.now) }
+{
+    match version {
+        Some(version) => kind_of_text(alloc, version),
+        None => Ok(VersionKind::Missing),
+    }
+}

@@ -1,0 +1,19 @@
+//! The steps that make the effective model of a POM that is joined with all that it builds on: its expressions and folders, its
+//! plugins, what is managed, and what is refused in the end.
+#![tactic(auto)]
+
+mod assembly;
+mod build;
+mod folders;
+mod import;
+mod kind;
+mod stop;
+mod validation;
+
+pub use assembly::model_of;
+pub use build::built;
+pub use folders::{basedir_in, filled};
+pub use import::{import_gav, is_import};
+pub use kind::VersionKind;
+pub use stop::Stop;
+pub use validation::checked;

@@ -1,0 +1,7 @@
+pub mod Expressions
+pub mod Holding
+pub mod Joining
+pub mod Keeping
+pub mod Kept
+pub mod Naming
+pub mod Telling

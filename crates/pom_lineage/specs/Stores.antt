@@ -1,0 +1,77 @@
+-- What a store keeps of the POMs of a run. Project rule.
+use Rattle.std.specs.Prelude.{◌≡◌, ℕ, ◌≤◌, nat_le, Bool, true, false, not, ◌&&◌, List, length, Option, None, Some, is_some, IfSome, Ok, if◌then◌else◌}
+use Rattle.std.specs.HashMap.{get}
+use Rattle.std.specs.List.{list_any}
+use Rattle.std.specs.Str.{bytes_eq}
+use Rattle.mvn_base.specs.declared.gav.Gav.{Gav}
+use Rattle.mvn_base.specs.declared.refusal.PomId.{PomId}
+use Rattle.model_types.specs.declared.model.Parent.{Parent}
+use Rattle.model_types.specs.declared.model.RawModel.{RawModel}
+use Rattle.pom_source.specs.Worlds.{World}
+use Rattle.pom_source.specs.declared.found.Given.{Given}
+use Rattle.pom_lineage.specs.Beside.{gav_eq, read_at}
+use Rattle.pom_lineage.specs.Lineage.{is_in, joined_from, origin_of}
+use Rattle.pom_lineage.specs.declared.joined.Joined.{Joined}
+use Rattle.pom_lineage.specs.declared.origin.Origin.{Origin}
+use Rattle.pom_lineage.specs.declared.origin.Origin.TheVariants.{Beside, Elsewhere}
+use Rattle.pom_lineage.specs.declared.store.Store.{Store}
+
+-- one of the POMs is among the others
+abbrev pub meets : List PomId → List PomId → Bool
+meets poms seen = list_any (λ pom. is_in pom seen) poms
+
+abbrev pub read_in : Store → List ℕ → Option (Option RawModel)
+read_in store path = get bytes_eq store.read path
+
+-- a lineage that is kept under the path or the coordinates that led to its lowest POM
+abbrev pub line_in : Store → Origin → Option Joined
+line_in store (Beside path raw) = get bytes_eq store.beside path
+line_in store (Elsewhere gav) = get gav_eq store.elsewhere gav
+
+-- nothing that was read is forgotten
+abbrev pub KeepsRead : Store → Store → Type 0
+KeepsRead old new =
+    (path : List ℕ) (found : Option RawModel) → read_in old path ≡ Some found → read_in new path ≡ Some found
+
+-- and no lineage; another one may take its place
+abbrev pub KeepsLines : Store → Store → Type 0
+KeepsLines old new = (origin : Origin) → is_some (line_in old origin) ≡ true → is_some (line_in new origin) ≡ true
+
+-- a lineage serves one who may meet so many POMs and has met these
+abbrev pub serves : ℕ → List PomId → Joined → Bool
+serves left seen kept = nat_le (length kept.poms) left && not (meets kept.poms seen)
+
+abbrev pub if_serves : ℕ → List PomId → Option Joined → Option Joined
+if_serves left seen None = None
+if_serves left seen (Some kept) = if serves left seen kept then Some kept else None
+
+module _ (world : World) where
+  -- what an origin says of the POM at its path is so
+  abbrev pub IsAt : Origin → Type 0
+  IsAt (Beside path raw) = read_at world path ≡ Ok (Some raw)
+  IsAt (Elsewhere gav) = Unit {0}
+
+  -- what the parent of a POM builds on is kept
+  abbrev pub KeepsParent : Store → PomId → Option Parent → Type 0
+  KeepsParent store pom parent =
+      (named : Parent) (origin : Origin) → parent ≡ Some named → origin_of world pom named ≡ Ok origin
+      → is_some (line_in store origin) ≡ true
+
+  -- what was read at each path
+  unfoldable pub HoldsRead : Store → Type 0
+  HoldsRead store = (path : List ℕ) → IfSome (read_in store path) (λ found. read_at world path ≡ Ok found)
+
+  module _ (given : Given) where
+    -- a lineage from an origin on, whoever asks, if none of its POMs was met and there may be as many
+    unfoldable pub IsKept : Origin → Joined → Type 0
+    IsKept origin kept = (left : ℕ) (child : PomId) (seen : List PomId) → length kept.poms ≤ left
+        → meets kept.poms seen ≡ false → joined_from world given left child seen origin ≡ Ok kept
+
+    unfoldable pub HoldsLines : Store → Type 0
+    HoldsLines store = (origin : Origin) → IsAt origin
+        → IfSome (line_in store origin) (λ kept. IsKept origin kept)
+
+    -- all that a store keeps is so in a world
+    pub record Holds (store : Store) : Type 0 where
+      pub read : HoldsRead store
+      pub lines : HoldsLines store

@@ -1,0 +1,19 @@
+//! What a POM builds on: the POMs from its parent up. A POM of the project is read once a run, by a store of what was read.
+#![tactic(auto)]
+
+mod beside;
+mod expression;
+mod joined;
+mod origin;
+mod parents;
+mod reading;
+mod store;
+mod stored;
+
+pub use beside::{raw_gav, read_at};
+pub use joined::Joined;
+pub use origin::{Candidate, Origin};
+pub use parents::{is_in, next_poms};
+pub use reading::read;
+pub use store::Store;
+pub use stored::lineage;

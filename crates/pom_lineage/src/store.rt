@@ -1,0 +1,200 @@
+ghost use Rattle.std.specs.Prelude.{◌≡◌, ◌≤◌, ℕ, List as Items, Ok, None, Some, length, is_some, IfOk, IfSome, OnOk, OnErr, true, false, if◌then◌else◌};
+ghost use Rattle.std.specs.HashMap.{get};
+ghost use Rattle.std.specs.Str.{bytes_eq};
+ghost use Rattle.mvn_base.specs.declared.gav.Gav as gavs;
+ghost use Rattle.mvn_base.specs.declared.refusal.PomId as poms;
+ghost use Rattle.pom_source.specs.Worlds.{World};
+ghost use Rattle.pom_source.specs.declared.found.Given as givens;
+ghost use Rattle.pom_lineage.specs.Beside.{gav_eq, read_at};
+ghost use Rattle.pom_lineage.specs.Lineage.{joined_from};
+ghost use Rattle.pom_lineage.specs.Stores.{Holds, IsAt, IsKept, KeepsLines, KeepsRead, if_serves, line_in, meets, read_in, serves};
+
+use crate::joined::Joined;
+use crate::origin::Origin;
+use crate::parents::is_in;
+use model_types::RawModel;
+use mvn_base::{Gav, PomId};
+use mvn_shared::{List, Mem, Shared, Text};
+use std::alloc::Global;
+use std::collections::HashMap;
+
+/// What was read in a run: the POM at each path that was asked for, and what parents build on, by the path or the coordinates
+/// that led to them. So a parent that a thousand modules share is read, activated and joined once, if it has one way to it. A store
+/// serves one `Given` and one project. Nothing in it is forgotten, and refusals aren't kept. Project rule.
+#[derive(Drop)]
+pub struct Store {
+    read: HashMap<Text, Option<Shared<RawModel>>>,
+    beside: HashMap<Text, Shared<Joined>>,
+    elsewhere: HashMap<Gav, Shared<Joined>>,
+}
+
+// Whether one of the POMs is among the others.
+fn meets(poms: &List<PomId>, seen: &List<PomId>) -> bool
+    ensures { result ≡ meets poms.now seen.now }
+{
+    poms.as_slice().iter().any(|pom| is_in(pom, seen))
+}
+
+// Whether a lineage serves one who has met these POMs and may meet so many.
+fn serves(kept: &Joined, left: u32, seen: &List<PomId>) -> bool
+    ensures value { result ≡ serves left seen.now kept.now }
+    ensures few { result ≡ true → length kept.now.poms ≤ left }
+    ensures apart { result ≡ true → meets kept.now.poms seen.now ≡ false }
+{
+    kept.poms.len() <= left as usize && !meets(&kept.poms, seen)
+}
+
+// A copy of what was found.
+fn same_found(found: &Option<Shared<RawModel>>) -> Mem<Option<Shared<RawModel>>>
+    ensures { IfOk result (λ same. same ≡ found.now) }
+{
+    Ok(found.clone()?)
+}
+
+// Puts a lineage under a path.
+fn set_beside(
+    map: &mut HashMap<Text, Shared<Joined>>,
+    path: &Text,
+    line: &Shared<Joined>,
+) -> Mem<()>
+    ensures ok { OnOk result ((other : Items ℕ) → get bytes_eq map.new other
+        ≡ (if bytes_eq path.now other then Some line.now else get bytes_eq map.old other)) }
+    ensures err { OnErr result ((other : Items ℕ) → get bytes_eq map.new other
+        ≡ get bytes_eq map.old other) }
+{
+    map.insert(path.clone()?, line.share()?)?;
+    Ok(())
+}
+
+// Puts a lineage under coordinates.
+fn set_elsewhere(
+    map: &mut HashMap<Gav, Shared<Joined>>,
+    gav: &Gav,
+    line: &Shared<Joined>,
+) -> Mem<()>
+    ensures ok { OnOk result ((other : gavs.Gav) → get gav_eq map.new other
+        ≡ (if gav_eq gav.now other then Some line.now else get gav_eq map.old other)) }
+    ensures err { OnErr result ((other : gavs.Gav) → get gav_eq map.new other
+        ≡ get gav_eq map.old other) }
+{
+    map.insert(gav.clone()?, line.share()?)?;
+    Ok(())
+}
+
+// Puts what was read under a path.
+fn set_read(
+    map: &mut HashMap<Text, Option<Shared<RawModel>>>,
+    path: &Text,
+    found: &Option<Shared<RawModel>>,
+) -> Mem<()>
+    ensures ok { OnOk result ((other : Items ℕ) → get bytes_eq map.new other
+        ≡ (if bytes_eq path.now other then Some found.now else get bytes_eq map.old other)) }
+    ensures err { OnErr result ((other : Items ℕ) → get bytes_eq map.new other
+        ≡ get bytes_eq map.old other) }
+{
+    map.insert(path.clone()?, same_found(found)?)?;
+    Ok(())
+}
+
+impl Store {
+    /// Nothing is kept. Takes no memory.
+    #[tactic(auto, using(crate::proofs::Holding::nothing_held))]
+    pub fn new(alloc: Global) -> Store
+        ensures { (world : World) (given : givens.Given) → Holds world given result }
+    {
+        Store {
+            read: HashMap::new(alloc),
+            beside: HashMap::new(alloc),
+            elsewhere: HashMap::new(alloc),
+        }
+    }
+
+    // What was read at a path, if that was asked for.
+    fn read_there(&self, path: &Text) -> Mem<Option<Option<Shared<RawModel>>>>
+        ensures { IfOk result (λ found. found ≡ read_in self.now path.now) }
+    {
+        match self.read.get(path) {
+            Some(found) => Ok(Some(same_found(found)?)),
+            None => Ok(None),
+        }
+    }
+
+    /// What was read at a path before. Costs the path.
+    #[tactic(auto, using(crate::proofs::Holding::read_serves))]
+    pub(crate) fn find_read(&self, path: &Text) -> Mem<Option<Option<Shared<RawModel>>>>
+        ensures value { IfOk result (λ found. found ≡ read_in self.now path.now) }
+        ensures told { (world : World) (given : givens.Given) → Holds world given self.now
+            → IfOk result (λ kept. IfSome kept (λ found. read_at world path.now ≡ Ok found)) }
+    {
+        let kept = self.read_there(path)?;
+        Ok(kept)
+    }
+
+    /// Keeps what was read at a path. Costs the path.
+    #[tactic(auto, using(crate::proofs::Holding::holds_same, crate::proofs::Holding::read_more))]
+    pub(crate) fn keep_read(&mut self, path: &Text, found: &Option<Shared<RawModel>>) -> Mem<()>
+        ensures kept { OnOk result (read_in self.new path.now ≡ Some found.now) }
+        ensures keeps { read_in self.old path.now ≡ None → KeepsRead self.old self.new }
+        ensures keeps_lines { KeepsLines self.old self.new }
+        ensures holds { (world : World) (given : givens.Given) → Holds world given self.old
+            → read_at world path.now ≡ Ok found.now → Holds world given self.new }
+    {
+        set_read(&mut self.read, path, found)
+    }
+
+    // The lineage that is kept under a path or coordinates.
+    fn line_there(&self, origin: &Origin) -> Mem<Option<Shared<Joined>>>
+        ensures { IfOk result (λ found. found ≡ line_in self.now origin.now) }
+    {
+        let found = match origin {
+            Origin::Beside(path, _) => self.beside.get(path),
+            Origin::Elsewhere(gav) => self.elsewhere.get(gav),
+        };
+        match found {
+            Some(line) => Ok(Some(line.share()?)),
+            None => Ok(None),
+        }
+    }
+
+    /// The lineage from an origin on, if it is kept and serves one who has met these POMs and may meet so many. Costs a
+    /// comparison of these with its POMs.
+    #[tactic(auto, using(crate::proofs::Holding::line_serves))]
+    pub(crate) fn find_line(
+        &self,
+        left: u32,
+        seen: &List<PomId>,
+        origin: &Origin,
+    ) -> Mem<Option<Shared<Joined>>>
+        ensures value { IfOk result (λ found. found
+            ≡ if_serves left seen.now (line_in self.now origin.now)) }
+        ensures told { (world : World) (given : givens.Given) (child : poms.PomId)
+            → Holds world given self.now → IsAt world origin.now
+            → IfOk result (λ found. IfSome found (λ kept.
+            joined_from world given left child seen.now origin.now ≡ Ok kept)) }
+    {
+        let Some(line) = self.line_there(origin)? else {
+            return Ok(None);
+        };
+        if serves(line.value(), left, seen) {
+            Ok(Some(line))
+        } else {
+            Ok(None)
+        }
+    }
+
+    /// Keeps the lineage from an origin on. Costs the path or the coordinates.
+    #[tactic(auto, using(crate::proofs::Holding::beside_more, crate::proofs::Holding::elsewhere_more, crate::proofs::Holding::holds_same))]
+    pub(crate) fn keep_line(&mut self, origin: &Origin, line: &Shared<Joined>) -> Mem<()>
+        ensures kept { OnOk result (is_some (line_in self.new origin.now) ≡ true) }
+        ensures keeps { KeepsRead self.old self.new }
+        ensures keeps_lines { KeepsLines self.old self.new }
+        ensures holds { (world : World) (given : givens.Given) → Holds world given self.old
+            → IsAt world origin.now → IsKept world given origin.now line.now
+            → Holds world given self.new }
+    {
+        match origin {
+            Origin::Beside(path, _) => set_beside(&mut self.beside, path, line),
+            Origin::Elsewhere(gav) => set_elsewhere(&mut self.elsewhere, gav, line),
+        }
+    }
+}

@@ -1,0 +1,234 @@
+ghost use Rattle.std.specs.Prelude.{◌≡◌, true, is_some, IfSome, OnOk};
+ghost use Rattle.mvn_shared.specs.Cause.{HasCause};
+ghost use Rattle.pom_source.specs.Answers.{Says, build_failed};
+ghost use Rattle.pom_source.specs.Worlds.{World};
+ghost use Rattle.pom_lineage.specs.Lineage.{above, entered, gav_of, joined_from, joined_up, line, lineage, next_poms};
+ghost use Rattle.pom_lineage.specs.Stores.{Holds, IsAt, KeepsLines, KeepsParent, KeepsRead, line_in, serves};
+
+use crate::joined::Joined;
+use crate::origin::{Candidate, Origin};
+use crate::parents::{
+    first_of, next_poms, origin_of, origin_refused, packed, parent_from, put_over, text_of, top,
+};
+use crate::reading::with_profiles;
+use crate::store::Store;
+use model_types::{Parent, RawModel};
+use mvn_base::{PomId, Rule};
+use mvn_shared::{List, Shared};
+use pom_source::{BuildFault, Given, PomSource};
+use std::alloc::Global;
+
+// What is built on from a parent's origin on, at most `left` POMs; kept, or built and then kept.
+#[cycle(stored)]
+#[tactic(auto, using(crate::proofs::Keeping::is_kept, crate::proofs::Kept::served_there, crate::proofs::Kept::untouched_line))]
+fn joined_from<P: PomSource>(
+    alloc: Global,
+    store: &mut Store,
+    source: &mut P,
+    given: &Given,
+    left: u32,
+    child: &PomId,
+    seen: &List<PomId>,
+    origin: &Origin,
+) -> Result<Shared<Joined>, BuildFault>
+    ensures says { (world : World) → P.fits_poms source.old world → Holds world given.now store.old
+        → IsAt world origin.now
+        → Says (joined_from world given.now left child.now seen.now origin.now) result }
+    ensures fit { (world : World) → P.fits_poms source.old world → P.fits_poms source.new world }
+    ensures holds { (world : World) → P.fits_poms source.old world → Holds world given.now store.old
+        → IsAt world origin.now → Holds world given.now store.new }
+    ensures kept { OnOk result (is_some (line_in store.new origin.now) ≡ true) }
+    ensures unasked { IfSome (line_in store.old origin.now) (λ line.
+        serves left seen.now line ≡ true → source.new ≡ source.old) }
+    ensures keeps { KeepsRead store.old store.new }
+    ensures keeps_lines { KeepsLines store.old store.new }
+    ensures cause { HasCause (P.faults source.old) (P.faults source.new) (build_failed result) }
+{
+    if let Some(kept) = store.find_line(left, seen, origin)? {
+        return Ok(kept);
+    }
+    let line = match fresh(alloc, store, source, given, left, child, seen, origin) {
+        Ok(line) => line,
+        Err(fault) => return Err(fault),
+    };
+    store.keep_line(origin, &line)?;
+    Ok(line)
+}
+
+// The same, if it isn't kept.
+#[cycle(stored)]
+#[tactic(auto, using(crate::proofs::Joining::joined_stops, crate::proofs::Joining::joined_zero, crate::proofs::Joining::joined_more))]
+fn fresh<P: PomSource>(
+    alloc: Global,
+    store: &mut Store,
+    source: &mut P,
+    given: &Given,
+    left: u32,
+    child: &PomId,
+    seen: &List<PomId>,
+    origin: &Origin,
+) -> Result<Shared<Joined>, BuildFault>
+    ensures says { (world : World) → P.fits_poms source.old world → Holds world given.now store.old
+        → Says (joined_from world given.now left child.now seen.now origin.now) result }
+    ensures fit { (world : World) → P.fits_poms source.old world → P.fits_poms source.new world }
+    ensures holds { (world : World) → P.fits_poms source.old world → Holds world given.now store.old
+        → Holds world given.now store.new }
+    ensures keeps { KeepsRead store.old store.new }
+    ensures keeps_lines { KeepsLines store.old store.new }
+    ensures cause { HasCause (P.faults source.old) (P.faults source.new) (build_failed result) }
+{
+    let found = match parent_from(alloc, source, child, seen, origin) {
+        Ok(found) => found,
+        Err(fault) => return Err(fault),
+    };
+    if left == 0 {
+        return origin_refused(alloc, first_of(seen, child), Rule::LineageTooLong, origin);
+    }
+    entered(
+        alloc,
+        store,
+        source,
+        given,
+        left - 1,
+        child,
+        seen,
+        origin,
+        &found,
+    )
+}
+
+// A parent that was found, and what it builds on.
+#[cycle(stored)]
+fn entered<P: PomSource>(
+    alloc: Global,
+    store: &mut Store,
+    source: &mut P,
+    given: &Given,
+    left: u32,
+    child: &PomId,
+    seen: &List<PomId>,
+    origin: &Origin,
+    found: &Candidate,
+) -> Result<Shared<Joined>, BuildFault>
+    ensures says { (world : World) → P.fits_poms source.old world → Holds world given.now store.old
+        → Says (entered world given.now (joined_up world given.now left) child.now seen.now
+        (gav_of origin.now) found.now) result }
+    ensures fit { (world : World) → P.fits_poms source.old world → P.fits_poms source.new world }
+    ensures holds { (world : World) → P.fits_poms source.old world → Holds world given.now store.old
+        → Holds world given.now store.new }
+    ensures keeps { KeepsRead store.old store.new }
+    ensures keeps_lines { KeepsLines store.old store.new }
+    ensures cause { HasCause (P.faults source.old) (P.faults source.new) (build_failed result) }
+{
+    let raw = text_of(alloc, found)?;
+    let raw = packed(alloc, child, origin, raw)?;
+    match line(alloc, store, source, given, left, seen, &raw) {
+        Ok(line) => Ok(line),
+        Err(fault) => Err(fault),
+    }
+}
+
+// A POM with its profiles, and what it builds on.
+#[cycle(stored)]
+fn line<P: PomSource>(
+    alloc: Global,
+    store: &mut Store,
+    source: &mut P,
+    given: &Given,
+    left: u32,
+    seen: &List<PomId>,
+    raw: &Shared<RawModel>,
+) -> Result<Shared<Joined>, BuildFault>
+    ensures says { (world : World) → P.fits_poms source.old world → Holds world given.now store.old
+        → Says (line world given.now (joined_up world given.now left) seen.now raw.now) result }
+    ensures fit { (world : World) → P.fits_poms source.old world → P.fits_poms source.new world }
+    ensures holds { (world : World) → P.fits_poms source.old world → Holds world given.now store.old
+        → Holds world given.now store.new }
+    ensures kept { (world : World) → P.fits_poms source.old world → Holds world given.now store.old
+        → OnOk result (KeepsParent world store.new raw.now.pom raw.now.parent) }
+    ensures keeps { KeepsRead store.old store.new }
+    ensures keeps_lines { KeepsLines store.old store.new }
+    ensures cause { HasCause (P.faults source.old) (P.faults source.new) (build_failed result) }
+{
+    let above = above(
+        alloc,
+        store,
+        source,
+        given,
+        left,
+        &raw.pom,
+        seen,
+        &raw.parent,
+    )?;
+    let own = with_profiles(alloc, source, given, raw)?;
+    Ok(put_over(alloc, &raw.pom, &own, &above)?)
+}
+
+// What a POM builds on, by its parent.
+#[cycle(stored)]
+#[tactic(auto, using(crate::proofs::Kept::no_parent_kept, crate::proofs::Kept::parent_kept))]
+fn above<P: PomSource>(
+    alloc: Global,
+    store: &mut Store,
+    source: &mut P,
+    given: &Given,
+    left: u32,
+    pom: &PomId,
+    seen: &List<PomId>,
+    parent: &Option<Shared<Parent>>,
+) -> Result<Shared<Joined>, BuildFault>
+    ensures says { (world : World) → P.fits_poms source.old world → Holds world given.now store.old
+        → Says (above (joined_up world given.now left pom.now (next_poms seen.now pom.now))
+        parent.now) result }
+    ensures fit { (world : World) → P.fits_poms source.old world → P.fits_poms source.new world }
+    ensures holds { (world : World) → P.fits_poms source.old world → Holds world given.now store.old
+        → Holds world given.now store.new }
+    ensures kept { (world : World) → P.fits_poms source.old world → Holds world given.now store.old
+        → OnOk result (KeepsParent world store.new pom.now parent.now) }
+    ensures keeps { KeepsRead store.old store.new }
+    ensures keeps_lines { KeepsLines store.old store.new }
+    ensures cause { HasCause (P.faults source.old) (P.faults source.new) (build_failed result) }
+{
+    match parent {
+        None => Ok(top(alloc)?),
+        Some(parent) => {
+            let seen = next_poms(seen, pom)?;
+            let origin = origin_of(alloc, store, source, pom, parent)?;
+            match joined_from(alloc, store, source, given, left, pom, &seen, &origin) {
+                Ok(line) => Ok(line),
+                Err(fault) => Err(fault),
+            }
+        }
+    }
+}
+
+/// A POM with its active profiles, over all that it builds on: its parents, each with its own profiles, and the super POM. Or the
+/// first refusal, from the POM up: an expression or a range in a parent's coordinates; a POM at its path that has no model; a
+/// parent that isn't found; one that was met before; the 33rd POM, which names the first; what the parent's text breaks; and a
+/// parent whose packaging isn't `pom`. `Source` comes only if the source's count of faults rose. Costs the models that are joined, and
+/// the bytes of each POM on the way: of one at a path of the project the first time, of one by coordinates unless what it builds on is
+/// kept and serves. POM Reference, "Inheritance"; limits are project rules.
+pub fn lineage<P: PomSource>(
+    alloc: Global,
+    store: &mut Store,
+    source: &mut P,
+    given: &Given,
+    raw: &Shared<RawModel>,
+) -> Result<Shared<Joined>, BuildFault>
+    ensures says { (world : World) → P.fits_poms source.old world → Holds world given.now store.old
+        → Says (lineage world given.now raw.now) result }
+    ensures fit { (world : World) → P.fits_poms source.old world → P.fits_poms source.new world }
+    ensures holds { (world : World) → P.fits_poms source.old world → Holds world given.now store.old
+        → Holds world given.now store.new }
+    ensures kept { (world : World) → P.fits_poms source.old world → Holds world given.now store.old
+        → OnOk result (KeepsParent world store.new raw.now.pom raw.now.parent) }
+    ensures keeps { KeepsRead store.old store.new }
+    ensures keeps_lines { KeepsLines store.old store.new }
+    ensures cause { HasCause (P.faults source.old) (P.faults source.new) (build_failed result) }
+{
+    let none = List::new(alloc);
+    match line(alloc, store, source, given, 31, &none, raw) {
+        Ok(line) => Ok(line),
+        Err(fault) => Err(fault),
+    }
+}

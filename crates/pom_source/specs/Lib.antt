@@ -1,0 +1,4 @@
+pub mod Answers
+pub mod Chains
+pub mod Refusals
+pub mod Worlds

@@ -1,0 +1,12 @@
+//! Where POMs are looked up, and what a call that builds a model from them answers.
+#![tactic(auto)]
+
+mod fault;
+mod found;
+mod refused;
+mod source;
+
+pub use fault::BuildFault;
+pub use found::{Found, Given};
+pub use refused::{gav_refused, text_refused};
+pub use source::PomSource;

@@ -1,1 +1,3 @@
-pub mod Stopping
+pub mod Completed
+pub mod Problems
+pub mod Validity

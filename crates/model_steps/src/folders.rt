@@ -14,9 +14,8 @@ use pom_source::{BuildFault, Given};
 use profile_activation::{basedir_of, behind};
 use std::alloc::Global;
 
-/// The folder of a POM of the project, as a path of the system; a POM read by coordinates has none. Costs the path. POM Reference,
-/// "Properties".
-pub fn basedir_in(alloc: Global, machine: &Machine, pom: &PomId) -> Mem<Option<Text>>
+// The folder of a POM as a path of the system; a POM that was read by coordinates has none.
+fn basedir_in(alloc: Global, machine: &Machine, pom: &PomId) -> Mem<Option<Text>>
     ensures { IfOk result (λ basedir. basedir ≡ basedir_in machine.now pom.now) }
 {
     match pom {
@@ -57,7 +56,7 @@ fn stays(alloc: Global, basedir: &Text, folder: &Text) -> Mem<bool>
     is_below(alloc, basedir, folder)
 }
 
-// A folder from the basedir on.
+// A relative folder, followed from the basedir on.
 fn from_basedir(alloc: Global, basedir: &Text, folder: &Text) -> Mem<Text>
     ensures { IfOk result (λ path. path ≡ from_basedir basedir.now folder.now) }
 {
@@ -79,7 +78,7 @@ fn placed(alloc: Global, basedir: &Text, folder: &Text) -> Mem<Text>
     from_basedir(alloc, basedir, folder)
 }
 
-// So of one that is stated.
+// A folder as a path of the system, if it is stated.
 fn placed_one(alloc: Global, basedir: &Text, folder: &Option<Text>) -> Mem<Option<Text>>
     ensures { IfOk result (λ path. path ≡ option_map (placed basedir.now) folder.now) }
 {
@@ -89,7 +88,7 @@ fn placed_one(alloc: Global, basedir: &Text, folder: &Option<Text>) -> Mem<Optio
     }
 }
 
-// So of each of some.
+// Folders as paths of the system.
 fn placed_each(alloc: Global, basedir: &Text, folders: &List<Text>) -> Mem<List<Text>>
     ensures { IfOk result (λ paths. paths ≡ map (placed basedir.now) folders.now) }
 {
@@ -100,6 +99,7 @@ fn placed_each(alloc: Global, basedir: &Text, folders: &List<Text>) -> Mem<List<
     Ok(paths)
 }
 
+// Outputs with their folders placed.
 fn placed_outputs(alloc: Global, basedir: &Text, outputs: &Outputs) -> Mem<Shared<Outputs>>
     ensures { IfOk result (λ it. it ≡ placed_outputs basedir.now outputs.now) }
 {
@@ -116,6 +116,7 @@ fn placed_outputs(alloc: Global, basedir: &Text, outputs: &Outputs) -> Mem<Share
     Shared::new(alloc, outputs)
 }
 
+// Sources with their folders placed.
 fn placed_sources(alloc: Global, basedir: &Text, sources: &Sources) -> Mem<Shared<Sources>>
     ensures { IfOk result (λ it. it ≡ placed_sources basedir.now sources.now) }
 {
@@ -186,9 +187,10 @@ fn filled_texts(
     }
 }
 
-/// A joined model with its texts filled, and with its folders as paths of the system where it is one of the project: a relative folder
-/// is taken from the POM's folder on, with `.` and `..` followed. Or the first refusal of a text. Costs the texts, and all that can
-/// be named. POM Reference, "Properties" and "Directories".
+/// A joined model with its expressions replaced, and, if its POM is one of the project, with the folders of its build as paths of the
+/// system; or the first refusal of a text. An absolute folder, the POM's own folder and one that is written below it stay as they
+/// are. Any other is followed from the POM's folder on, with `.` and `..`. Costs the texts, and all that can be named. POM Reference,
+/// "Properties" and "Directories"; which folders stay as they are is a project rule.
 #[tactic(auto, unfolding(crate::specs::Folders::filled))]
 pub fn filled(alloc: Global, given: &Given, raw: &RawModel) -> Result<RawModel, BuildFault>
     ensures says { Says (filled given.now raw.now) result }

@@ -1,9 +1,9 @@
 use mvn_base::Rule;
 use mvn_shared::Text;
 
-/// A rule that isn't met, and the text that the refusal names.
+/// A rule that a model doesn't meet, and the text that the refusal names.
 #[derive(Drop)]
-pub struct Stop {
+pub struct Problem {
     pub rule: Rule,
     pub place: Text,
 }

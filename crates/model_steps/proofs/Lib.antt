@@ -1,3 +1,4 @@
 pub mod Completed
+pub mod Placing
 pub mod Problems
 pub mod Validity

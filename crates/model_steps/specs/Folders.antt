@@ -32,10 +32,10 @@ is_absolute (b ∷ path) = b == 47
 abbrev pub stays : List ℕ → List ℕ → Bool
 stays basedir folder = is_absolute folder || bytes_eq folder basedir || is_some (behind (basedir ++ codes "/") folder)
 
--- a relative folder, followed from the basedir on, which may be absolute
+-- a relative folder, followed from the basedir on, with `.` and `..`
 abbrev pub from_basedir : List ℕ → List ℕ → List ℕ
 from_basedir basedir folder =
-    if is_absolute basedir then 47 ∷ joined basedir folder else joined basedir folder
+    if is_absolute basedir then 47 ∷ joined basedir folder else basedir ++ 47 ∷ joined [] folder
 
 -- a folder as a path of the system
 unfoldable pub placed : List ℕ → List ℕ → List ℕ

@@ -14,13 +14,13 @@ use Rattle.model_steps.specs.declared.kind.VersionKind.{VersionKind}
 use Rattle.model_steps.specs.declared.kind.VersionKind.TheVariants.{Missing, Soft, Range, Unreadable}
 
 -- the coordinates of a dependency; a version that is missing is empty
-abbrev pub gav_of : Dependency → Gav
-gav_of d = record { group = d.group; artifact = d.artifact; version = unwrap_or d.version [] }
+abbrev pub dependency_gav : Dependency → Gav
+dependency_gav d = record { group = d.group; artifact = d.artifact; version = unwrap_or d.version [] }
 
 -- those of an import, by what its version states
 abbrev pub gav_by : PomId → Dependency → VersionKind → Built Gav
 gav_by pom d Missing = Err (text_refused pom VersionMissing (key_text (key_of d)))
-gav_by pom d Soft = Ok (gav_of d)
+gav_by pom d Soft = Ok (dependency_gav d)
 gav_by pom d Range = Err (text_refused pom BadRange (unwrap_or d.version []))
 gav_by pom d Unreadable = Err (text_refused pom BadRange (unwrap_or d.version []))
 

@@ -206,7 +206,7 @@ fn composed(
 /// dependency takes what is managed under its key, and the scope `compile` if it has none. A POM that was read by coordinates loses
 /// the dependencies that are optional or of scope `test`, `provided` or `system` before that. Costs the entries and the
 /// dependencies, on the average. Introduction to the Dependency Mechanism, "Dependency Management"; that a POM by coordinates loses
-/// dependencies is a project rule.
+/// dependencies is a project rule. Dependencies stay in their order, also two of one key.
 #[tactic(auto, using(crate::proofs::Completed::scoped, crate::proofs::Completed::no_import_left))]
 pub fn model_of(
     alloc: Global,

@@ -1,6 +1,7 @@
-ghost use Rattle.std.specs.Prelude.{◌≡◌, ◌++◌, codes, false, is_some, map, option_map, IfOk};
+ghost use Rattle.std.specs.Prelude.{◌≡◌, [], ◌∷◌, ◌++◌, List as Items, ℕ, codes, false, is_some, map, option_map, IfOk};
 ghost use Rattle.profile_activation.specs.Lookups.{behind};
 ghost use Rattle.interpolate.specs.Filling.{fill};
+ghost use Rattle.pom_paths.specs.Paths.{joined};
 ghost use Rattle.pom_source.specs.Answers.{Says, build_failed, refused};
 ghost use Rattle.model_steps.specs.Folders.{basedir_in, filled, filled_in, from_basedir, is_absolute, placed, placed_build, placed_in, placed_outputs, placed_sources, stays};
 
@@ -56,15 +57,23 @@ fn stays(alloc: Global, basedir: &Text, folder: &Text) -> Mem<bool>
     is_below(alloc, basedir, folder)
 }
 
+// A relative folder behind a relative basedir.
+fn below_basedir(alloc: Global, basedir: &Text, folder: &Text) -> Mem<Text>
+    ensures { IfOk result (λ path. path ≡ basedir.now ++ 47 ∷ joined [] folder.now) }
+{
+    let path = joined(alloc, &Text::from_str(alloc, "")?, folder)?;
+    Ok(Text::of(format!(in alloc; "{basedir}/{path}")?))
+}
+
 // A relative folder, followed from the basedir on.
 fn from_basedir(alloc: Global, basedir: &Text, folder: &Text) -> Mem<Text>
     ensures { IfOk result (λ path. path ≡ from_basedir basedir.now folder.now) }
 {
-    let path = joined(alloc, basedir, folder)?;
     if is_absolute(basedir.as_bytes()) {
+        let path = joined(alloc, basedir, folder)?;
         return Ok(Text::of(format!(in alloc; "/{path}")?));
     }
-    Ok(path)
+    below_basedir(alloc, basedir, folder)
 }
 
 // A folder as a path of the system.
@@ -200,3 +209,10 @@ pub fn filled(alloc: Global, given: &Given, raw: &RawModel) -> Result<RawModel, 
     let full = filled_texts(alloc, given, &basedir, raw)?;
     Ok(placed_in(alloc, &basedir, full)?)
 }
+
+/// A law of folders: one that was placed stays as it is if it is placed again. Project rule.
+#[tactic(auto, using(crate::proofs::Placing::placed_twice))]
+pub fn placed_stays()
+    ensures { (basedir folder : Items ℕ)
+        → placed basedir (placed basedir folder) ≡ placed basedir folder }
+{}

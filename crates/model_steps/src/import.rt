@@ -3,7 +3,7 @@ ghost use Rattle.managed_deps.specs.Managed.{is_import, key_of};
 ghost use Rattle.mvn_base.specs.Key.{key_text};
 ghost use Rattle.pom_source.specs.Answers.{Says, build_failed};
 ghost use Rattle.pom_source.specs.Refusals.{text_refused};
-ghost use Rattle.model_steps.specs.Imports.{gav_by, gav_of, import_gav};
+ghost use Rattle.model_steps.specs.Imports.{dependency_gav, gav_by, import_gav};
 
 use crate::kind::{VersionKind, kind_of};
 use crate::texts::{is_scope, text_or_empty};
@@ -23,8 +23,8 @@ pub fn is_import(dependency: &Dependency) -> bool
 }
 
 // The coordinates of a dependency.
-fn gav_of(alloc: Global, dependency: &Dependency) -> Mem<Gav>
-    ensures { IfOk result (λ gav. gav ≡ gav_of dependency.now) }
+fn dependency_gav(alloc: Global, dependency: &Dependency) -> Mem<Gav>
+    ensures { IfOk result (λ gav. gav ≡ dependency_gav dependency.now) }
 {
     let group = dependency.group.clone()?;
     let artifact = dependency.artifact.clone()?;
@@ -78,15 +78,16 @@ fn gav_by(
 {
     match kind {
         VersionKind::Missing => key_refused(alloc, pom, Rule::VersionMissing, dependency),
-        VersionKind::Soft => Ok(gav_of(alloc, dependency)?),
+        VersionKind::Soft => Ok(dependency_gav(alloc, dependency)?),
         VersionKind::Range => version_refused(alloc, pom, Rule::BadRange, dependency),
         VersionKind::Unreadable => version_refused(alloc, pom, Rule::BadRange, dependency),
     }
 }
 
-/// The coordinates of the POM that a managed entry of scope `import` stands for. It is refused if its type isn't `pom`, if it has no
-/// version, and if its version is a range or can't be read. Costs its texts. Introduction to the Dependency Mechanism, "Importing
-/// Dependencies"; the order of refusals is a project rule.
+/// The coordinates of the POM that a managed entry of scope `import` stands for; its classifier doesn't matter. It is refused if its
+/// type isn't `pom` (rule 23), or else if it has no version (19), both at its key; or else if the version is a range or can't be read,
+/// as an empty one (20), at the version. The refusal names the POM that is given. Costs the entry's texts. Introduction to the
+/// Dependency Mechanism, "Importing Dependencies"; the order of refusals is a project rule.
 #[tactic(auto, unfolding(crate::specs::Imports::import_gav))]
 pub fn import_gav(alloc: Global, pom: &PomId, dependency: &Dependency) -> Result<Gav, BuildFault>
     ensures says { Says (import_gav pom.now dependency.now) result }

@@ -6,7 +6,7 @@ use std::alloc::Global;
 use version_order::{Requirement, RequirementError};
 
 /// What is stated where a version may stand: nothing, one version, a range, or a text that can't be read as either. POM Reference,
-/// "Dependency Version Requirement Specification".
+/// "Dependency Version Requirement Specification". Public for definitions alone.
 #[derive(Clone, Copy)]
 pub enum VersionKind {
     Missing,

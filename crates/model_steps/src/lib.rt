@@ -13,7 +13,7 @@ mod validation;
 
 pub use assembly::model_of;
 pub use build::built;
-pub use folders::filled;
+pub use folders::{filled, placed_stays};
 pub use import::{import_gav, is_import};
 pub use kind::VersionKind;
 pub use problem::Problem;

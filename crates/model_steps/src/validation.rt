@@ -247,10 +247,12 @@ fn model_problem(alloc: Global, model: &Model) -> Mem<Option<Problem>>
     first_problem(alloc, false, &model.pom, model.base.dependencies.as_slice())
 }
 
-/// The model as it is, or the refusal of its first problem: in its coordinates, then in each managed entry, then in each dependency. A
-/// problem is, in this order: a name that isn't allowed; a scope that there isn't; in a POM of the project the scope `system`; a
-/// dependency without a version; a version that can't be read, or a range in the coordinates. Costs their texts. POM Reference; the
-/// order is a project rule.
+/// The model as it is, or the refusal of its first problem, which names the model's own POM: in its coordinates, then in each managed
+/// entry, then in each dependency. In one entry a problem is, in this order: a group, an artifact, a version (if it is one version), a
+/// type or a classifier that isn't allowed (rule 9), at that text; a scope that there isn't (21), at the scope, where a managed entry
+/// may be of scope `import`; in a POM of the project the scope `system` (22), at the key; a dependency without a version (19), at the
+/// key; a version that can't be read, as an empty one (20), at the version. The coordinates need one version (20). Costs their
+/// texts. POM Reference; the order is a project rule.
 #[tactic(auto, using(crate::proofs::Validity::valid_without_problem))]
 pub fn checked(alloc: Global, model: Model) -> Result<Model, BuildFault>
     ensures says { Says (checked model) result }

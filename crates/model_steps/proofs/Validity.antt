@@ -20,13 +20,16 @@ use Rattle.model_steps.specs.declared.problem.Problem.{Problem}
 
 -- the first of three is there exactly if not all three tests hold
 first_of_three : (a b c : Bool) (p q r : Option Problem) → is_some p ≡ not a → is_some q ≡ not b → is_some r ≡ not c → is_some (option_or p (option_or q r)) ≡ not (a && b && c)
-first_of_three a b c p q r is_a is_b is_c = one_more a (b && c) p (option_or q r) is_a (one_more b c q r is_b is_c)
+first_of_three a b c p q r is_a is_b is_c = one_more a (b && c) p (option_or q r) is_a (one_more b c q r is_b is_c) ∙ ap not (grouped a)
   where
     one_more : (a b : Bool) (p q : Option Problem) → is_some p ≡ not a → is_some q ≡ not b → is_some (option_or p q) ≡ not (a && b)
     one_more true b None q is_a is_b = is_b
     one_more false b (Some x) q is_a is_b = refl
     one_more true b (Some x) q is_a is_b = cc
     one_more false b None q is_a is_b = cc
+    grouped : (a : Bool) → (a && (b && c)) ≡ (a && b && c)
+    grouped true = refl
+    grouped false = refl
 
 five_tests : (a b c d e f : Bool) (p q r s t : Problem) → is_some (if not a then Some p else (if not b then Some q else (if not c then Some r else (if not d then Some s else (if e && not f then Some t else None))))) ≡ not (a && b && c && d && (not e || f))
 five_tests false b c d e f p q r s t = refl

@@ -1,1 +1,4 @@
-pub mod Stopping
+pub mod Completed
+pub mod Placing
+pub mod Problems
+pub mod Validity

@@ -1,6 +1,6 @@
 -- The effective model, before it is checked: what is managed, the dependencies under it, and the coordinates. Introduction to the
--- Dependency Mechanism, "Dependency Management"; that a POM read by coordinates loses what isn't transitive is a project rule.
-use Rattle.std.specs.Prelude.{ℕ, Bool, true, false, not, ◌||◌, List, [], map, filter, codes, Option, None, Some, option_map, if◌then◌else◌}
+-- Dependency Mechanism, "Dependency Management"; that a POM by coordinates loses dependencies is a project rule.
+use Rattle.std.specs.Prelude.{ℕ, Bool, not, ◌||◌, List, [], map, filter, codes, Option, None, Some, option_map, unwrap_or}
 use Rattle.std.specs.Option.{option_or}
 use Rattle.std.specs.Str.{bytes_eq}
 use Rattle.mvn_base.specs.declared.gav.Gav.{Gav}
@@ -17,17 +17,18 @@ use Rattle.model_types.specs.declared.model.Parent.{Parent}
 use Rattle.model_types.specs.declared.model.RawModel.{RawModel}
 use Rattle.managed_deps.specs.Managed.{all_entries, apply_one, first_of_each, is_scope}
 
--- a dependency that one who depends on the POM doesn't get
+-- a dependency that nobody gets who depends on the POM
 abbrev pub is_dropped : Dependency → Bool
 is_dropped d =
     bytes_eq d.optional (codes "true") || is_scope (codes "test") d.scope
     || is_scope (codes "provided") d.scope || is_scope (codes "system") d.scope
 
+-- the dependencies that count: all of a POM of the project, and of one by coordinates those that its dependents get
 abbrev pub kept_as : PomId → List Dependency → List Dependency
 kept_as (ids.Path path) dependencies = dependencies
 kept_as (ids.Gav gav) dependencies = filter (λ d. not (is_dropped d)) dependencies
 
--- a dependency has the scope `compile` where it has none
+-- a dependency has the scope `compile` if it has none
 abbrev pub with_scope : Dependency → Dependency
 with_scope d = record {
   group = d.group;
@@ -44,15 +45,13 @@ with_scope d = record {
 abbrev pub managed_set : List Dependency → List (List Dependency) → List (Key × Dependency)
 managed_set own imports = first_of_each (all_entries own imports)
 
+-- the dependencies that count, as managed, each with a scope
 abbrev pub completed : PomId → List (Key × Dependency) → List Dependency → List Dependency
 completed pom set dependencies = map with_scope (map (apply_one set) (kept_as pom dependencies))
 
-abbrev pub text_or_none : Option (List ℕ) → List ℕ
-text_or_none (Some text) = text
-text_or_none None = []
-
+-- the coordinates; a text that is missing is empty
 abbrev pub gav_of : Coordinates → Gav
-gav_of c = record { group = text_or_none c.group; artifact = c.artifact; version = text_or_none c.version }
+gav_of c = record { group = unwrap_or c.group []; artifact = c.artifact; version = unwrap_or c.version [] }
 
 abbrev pub base_of : PomId → List (Key × Dependency) → ModelBase → ModelBase
 base_of pom set b = record {
@@ -65,7 +64,7 @@ base_of pom set b = record {
 abbrev pub build_of : Build → BuildBase → Build
 build_of b base = record { outputs = b.outputs; sources = b.sources; base = base; extensions = b.extensions }
 
--- a filled model with its plugins and with the entries that its imports stand for
+-- the effective model of a filled one, of its plugins, and of what each of its imports manages
 unfoldable pub model_of : RawModel → BuildBase → List (List Dependency) → Model
 model_of raw base imports = record {
   pom = raw.pom;

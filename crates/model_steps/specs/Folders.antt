@@ -1,10 +1,9 @@
--- A joined model with its texts filled, and its folders as paths of the system. POM Reference, "Properties" and "Directories"; which
+-- A joined model with its expressions replaced, and its folders as paths of the system. POM Reference, "Properties" and "Directories"; which
 -- folders stay as they are is a project rule.
-use Rattle.std.specs.Prelude.{ℕ, Bool, true, false, ◌||◌, ◌==◌, List, [], ◌∷◌, ◌++◌, map, codes, Option, None, Some, option_map, if◌then◌else◌}
+use Rattle.std.specs.Prelude.{ℕ, Bool, false, ◌||◌, ◌==◌, List, [], ◌∷◌, ◌++◌, map, codes, Option, None, Some, Ok, option_map, if◌then◌else◌}
 use Rattle.std.specs.Option.{is_some}
 use Rattle.std.specs.Str.{bytes_eq}
 use Rattle.mvn_base.specs.declared.machine.Machine.{Machine}
-use Rattle.mvn_base.specs.declared.machine.Pair.{Pair}
 use Rattle.mvn_base.specs.declared.refusal.PomId.{PomId}
 use Rattle.mvn_base.specs.declared.refusal.PomId.TheVariants as ids
 use Rattle.model_types.specs.declared.build.Build.{Build}
@@ -19,7 +18,7 @@ use Rattle.profile_activation.specs.Lookups.{behind}
 use Rattle.pom_source.specs.Answers.{Built, refused, ◌>>=◌}
 use Rattle.pom_source.specs.declared.found.Given.{Given}
 
--- the folder of a POM of the project, as a path of the system; a POM read by coordinates has none
+-- the folder of a POM as a path of the system; a POM that was read by coordinates has none
 abbrev pub basedir_in : Machine → PomId → Option (List ℕ)
 basedir_in machine (ids.Path pom) = Some (basedir_of machine.root (folder_of pom))
 basedir_in machine (ids.Gav gav) = None
@@ -29,15 +28,16 @@ abbrev pub is_absolute : List ℕ → Bool
 is_absolute [] = false
 is_absolute (b ∷ path) = b == 47
 
--- a folder that stays as it is: the basedir, one below it, and an absolute one
+-- a folder that stays as it is: an absolute one, the basedir, and one that is written below it
 abbrev pub stays : List ℕ → List ℕ → Bool
 stays basedir folder = is_absolute folder || bytes_eq folder basedir || is_some (behind (basedir ++ codes "/") folder)
 
--- another one is taken from the basedir on, with `.` and `..` followed
+-- a relative folder, followed from the basedir on, with `.` and `..`
 abbrev pub from_basedir : List ℕ → List ℕ → List ℕ
 from_basedir basedir folder =
-    if is_absolute basedir then 47 ∷ joined basedir folder else joined basedir folder
+    if is_absolute basedir then 47 ∷ joined basedir folder else basedir ++ 47 ∷ joined [] folder
 
+-- a folder as a path of the system
 unfoldable pub placed : List ℕ → List ℕ → List ℕ
 placed basedir folder = if stays basedir folder then folder else from_basedir basedir folder
 
@@ -65,7 +65,7 @@ placed_build basedir b = record {
   extensions = b.extensions;
 }
 
--- a model with its folders placed, where it has a basedir
+-- a model with its folders placed, if it has a basedir
 abbrev pub placed_in : Option (List ℕ) → RawModel → RawModel
 placed_in None raw = raw
 placed_in (Some basedir) raw = record {
@@ -77,10 +77,11 @@ placed_in (Some basedir) raw = record {
   profiles = raw.profiles;
 }
 
+-- a model with its texts filled, and then its folders placed
 abbrev pub filled_in : Given → Option (List ℕ) → RawModel → Built RawModel
 filled_in given basedir raw =
     refused (fill raw basedir given.machine given.defines) >>= (λ full. Ok (placed_in basedir full))
 
--- a joined model with its texts filled and its folders placed
+-- the same, with the basedir of its POM
 unfoldable pub filled : Given → RawModel → Built RawModel
 filled given raw = filled_in given (basedir_in given.machine raw.pom) raw

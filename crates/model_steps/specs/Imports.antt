@@ -1,5 +1,5 @@
 -- Which POM a managed entry of scope `import` stands for. Introduction to the Dependency Mechanism, "Importing Dependencies".
-use Rattle.std.specs.Prelude.{ℕ, List, [], codes, not, Option, None, Some, Ok, Err, if◌then◌else◌}
+use Rattle.std.specs.Prelude.{[], codes, unwrap_or, Ok, Err, if◌then◌else◌}
 use Rattle.std.specs.Str.{bytes_eq}
 use Rattle.mvn_base.specs.Key.{key_text}
 use Rattle.mvn_base.specs.declared.gav.Gav.{Gav}
@@ -13,20 +13,18 @@ use Rattle.model_steps.specs.Kinds.{kind_of}
 use Rattle.model_steps.specs.declared.kind.VersionKind.{VersionKind}
 use Rattle.model_steps.specs.declared.kind.VersionKind.TheVariants.{Missing, Soft, Range, Unreadable}
 
-abbrev pub version_of : Option (List ℕ) → List ℕ
-version_of (Some version) = version
-version_of None = []
+-- the coordinates of a dependency; a version that is missing is empty
+abbrev pub dependency_gav : Dependency → Gav
+dependency_gav d = record { group = d.group; artifact = d.artifact; version = unwrap_or d.version [] }
 
-abbrev pub gav_of : Dependency → Gav
-gav_of d = record { group = d.group; artifact = d.artifact; version = version_of d.version }
-
+-- those of an import, by what its version states
 abbrev pub gav_by : PomId → Dependency → VersionKind → Built Gav
 gav_by pom d Missing = Err (text_refused pom VersionMissing (key_text (key_of d)))
-gav_by pom d Soft = Ok (gav_of d)
-gav_by pom d Range = Err (text_refused pom BadRange (version_of d.version))
-gav_by pom d Unreadable = Err (text_refused pom BadRange (version_of d.version))
+gav_by pom d Soft = Ok (dependency_gav d)
+gav_by pom d Range = Err (text_refused pom BadRange (unwrap_or d.version []))
+gav_by pom d Unreadable = Err (text_refused pom BadRange (unwrap_or d.version []))
 
--- its type is `pom`, and its version is one version
+-- the coordinates of the POM that an entry stands for: its type is `pom`, and its version is one version
 unfoldable pub import_gav : PomId → Dependency → Built Gav
 import_gav pom d =
     if bytes_eq d.kind (codes "pom") then gav_by pom d (kind_of d.version)

@@ -1,4 +1,4 @@
--- What a version states. POM Reference, "Dependency Version Requirement Specification".
+-- What is stated where a version may stand. POM Reference, "Dependency Version Requirement Specification".
 use Rattle.std.specs.Prelude.{ℕ, List, Option, None, Some, Result, Ok, Err}
 use Rattle.version_order.specs.Requirements.{requirement}
 use Rattle.version_order.specs.declared.requirement.Requirement.{Requirement}
@@ -11,7 +11,7 @@ kind_by (Ok (requirements.Soft version)) = Soft
 kind_by (Ok (requirements.Hard intervals)) = Range
 kind_by (Err place) = Unreadable
 
--- nothing, one version, a range, or what is no requirement
+-- nothing, one version, a range, or a text that is neither
 abbrev pub kind_of : Option (List ℕ) → VersionKind
 kind_of None = Missing
 kind_of (Some version) = kind_by (requirement version)

@@ -1,7 +1,9 @@
+pub use Rattle.managed_deps.specs.Managed
 pub use Rattle.pom_source.specs.Answers
 pub mod Assembly
 pub mod Building
 pub mod Folders
 pub mod Imports
 pub mod Kinds
+pub mod Valid
 pub mod Validation

@@ -1,9 +1,11 @@
-ghost use Rattle.std.specs.Prelude.{◌≡◌, Some, filter, map, not, option_map, IfOk};
-ghost use Rattle.managed_deps.specs.Managed.{is_scope};
+ghost use Rattle.std.specs.Prelude.{◌≡◌, Some, filter, map, not, option_map, true, IfOk};
+ghost use Rattle.std.specs.List.{list_all};
 ghost use Rattle.model_types.specs.declared.model.Parent as parents;
 ghost use Rattle.model_types.specs.declared.dependency.Dependency as entries;
-ghost use Rattle.model_steps.specs.Assembly.{base_of, build_of, completed, gav_of, is_dropped, kept_as, model_of, text_or_none, with_scope};
+ghost use Rattle.model_steps.specs.Assembly.{base_of, build_of, completed, gav_of, is_dropped, kept_as, model_of, with_scope};
+ghost use Rattle.model_steps.specs.Valid.{has_no_import, is_scoped};
 
+use crate::texts::{is_scope, text_or_empty};
 use managed_deps::{ManagedSet, apply, managed};
 use model_merge::copies;
 use model_types::{Build, BuildBase, Coordinates, Dependency, Model, ModelBase, Parent, RawModel};
@@ -11,17 +13,7 @@ use mvn_base::{Gav, PomId};
 use mvn_shared::{List, Mem, Shared, Text};
 use std::alloc::Global;
 
-// Whether a scope is this one.
-fn is_scope(scope: &Option<Text>, name: &str) -> bool
-    ensures { result ≡ is_scope name.now scope.now }
-{
-    match scope {
-        Some(scope) => scope.as_str() == name,
-        None => false,
-    }
-}
-
-// Whether one who depends on the POM doesn't get a dependency.
+// Whether a dependency of a POM that was read by coordinates is left out.
 fn is_dropped(d: &Dependency) -> bool
     ensures { result ≡ is_dropped d.now }
 {
@@ -31,7 +23,7 @@ fn is_dropped(d: &Dependency) -> bool
         || is_scope(&d.scope, "system")
 }
 
-// The dependencies that one who depends on a POM gets.
+// The dependencies that aren't left out.
 fn transitive(
     alloc: Global,
     dependencies: &List<Shared<Dependency>>,
@@ -48,7 +40,7 @@ fn transitive(
     Ok(list)
 }
 
-// The dependencies that count.
+// The dependencies of a POM that count.
 fn kept_as(
     alloc: Global,
     pom: &PomId,
@@ -95,7 +87,7 @@ fn with_scope(alloc: Global, d: &Shared<Dependency>) -> Mem<Shared<Dependency>>
     }
 }
 
-// So of each of some.
+// Copies of dependencies, each with a scope.
 fn with_scopes(
     alloc: Global,
     dependencies: &List<Shared<Dependency>>,
@@ -157,23 +149,13 @@ fn build_of(alloc: Global, build: &Build, base: &Shared<BuildBase>) -> Mem<Share
     Shared::new(alloc, build)
 }
 
-// A text that is stated, or an empty one.
-fn text_or_none(alloc: Global, text: &Option<Text>) -> Mem<Text>
-    ensures { IfOk result (λ it. it ≡ text_or_none text.now) }
-{
-    match text {
-        Some(text) => Ok(text.clone()?),
-        None => Text::from_str(alloc, ""),
-    }
-}
-
 // The coordinates of a model.
 fn gav_of(alloc: Global, coordinates: &Coordinates) -> Mem<Shared<Gav>>
     ensures { IfOk result (λ gav. gav ≡ gav_of coordinates.now) }
 {
-    let group = text_or_none(alloc, &coordinates.group)?;
+    let group = text_or_empty(alloc, &coordinates.group)?;
     let artifact = coordinates.artifact.clone()?;
-    let version = text_or_none(alloc, &coordinates.version)?;
+    let version = text_or_empty(alloc, &coordinates.version)?;
     let gav = Gav {
         group,
         artifact,
@@ -192,12 +174,9 @@ fn parent_of(alloc: Global, parent: &Option<Shared<Parent>>) -> Mem<Option<Share
     }
 }
 
-/// The effective model of a filled one, with its plugins and with the entries that its imports stand for, each import's in order: what is
-/// managed, the first of each key; the dependencies under it, of scope `compile` where none is stated; of a POM read by coordinates
-/// without those that are optional or of scope `test`, `provided` or `system`. Costs the entries and the dependencies, on the average.
-/// Introduction to the Dependency Mechanism, "Dependency Management".
+// A filled model with its plugins and what each of its imports manages, completed.
 #[tactic(auto, unfolding(crate::specs::Assembly::model_of))]
-pub fn model_of(
+fn composed(
     alloc: Global,
     raw: &RawModel,
     base: &Shared<BuildBase>,
@@ -220,4 +199,26 @@ pub fn model_of(
         base: base_of,
         build,
     })
+}
+
+/// The effective model, before it is checked, of a filled model, of its plugins and of the entries that each of its imports manages, in
+/// the order of the imports. Of a key the first entry counts: the model's own without its imports, then those of the imports. A
+/// dependency takes what is managed under its key, and the scope `compile` if it has none. A POM that was read by coordinates loses
+/// the dependencies that are optional or of scope `test`, `provided` or `system` before that. Costs the entries and the
+/// dependencies, on the average. Introduction to the Dependency Mechanism, "Dependency Management"; that a POM by coordinates loses
+/// dependencies is a project rule. Dependencies stay in their order, also two of one key.
+#[tactic(auto, using(crate::proofs::Completed::scoped, crate::proofs::Completed::no_import_left))]
+pub fn model_of(
+    alloc: Global,
+    raw: &RawModel,
+    base: &Shared<BuildBase>,
+    imports: &[List<Shared<Dependency>>],
+) -> Mem<Model>
+    ensures whole { IfOk result (λ model. model ≡ model_of raw.now base.now imports.now) }
+    ensures scoped { IfOk result (λ model. is_scoped model ≡ true) }
+    ensures no_import { list_all has_no_import imports.now ≡ true
+        → IfOk result (λ model. has_no_import model.base.managed ≡ true) }
+{
+    let model = composed(alloc, raw, base, imports)?;
+    Ok(model)
 }

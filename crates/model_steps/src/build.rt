@@ -3,6 +3,7 @@ ghost use Rattle.pom_source.specs.Answers.{Says, build_failed};
 ghost use Rattle.model_steps.specs.Building.{bound_base, built, built_by};
 ghost use Rattle.lifecycle.specs.Bindings.{bindings};
 
+use crate::texts::is_of_project;
 use lifecycle::{bind, bindings};
 use managed_deps::apply_plugins;
 use model_types::{BuildBase, Plugin, RawModel};
@@ -11,7 +12,7 @@ use mvn_shared::{List, Mem, Shared, Text};
 use pom_source::{BuildFault, text_refused};
 use std::alloc::Global;
 
-// The declared plugins under their managed entries, with those that are bound.
+// The declared plugins under their managed entries, and the bound ones.
 fn bound_base(
     alloc: Global,
     base: &BuildBase,
@@ -23,13 +24,11 @@ fn bound_base(
     let declared = apply_plugins(alloc, base.plugins.as_slice(), managed)?;
     let plugins = bind(alloc, declared.as_slice(), managed, bound)?;
     let managed_plugins = base.managed_plugins.clone()?;
-    Shared::new(
-        alloc,
-        BuildBase {
-            plugins,
-            managed_plugins,
-        },
-    )
+    let base = BuildBase {
+        plugins,
+        managed_plugins,
+    };
+    Shared::new(alloc, base)
 }
 
 // The plugins of a module of a packaging.
@@ -48,16 +47,16 @@ fn built_by(
     }
 }
 
-/// The plugins of a filled model: the declared ones under their managed entries, and those that its packaging binds; refused is an
-/// unknown packaging. A POM read by coordinates isn't built, so it keeps its plugins. Costs the plugins, on the average. POM Reference,
-/// "Plugin Management"; Introduction to the Build Lifecycle.
+/// The plugins of a filled model: the declared ones under their managed entries, and those that its packaging binds. An unknown
+/// packaging is refused. A POM that was read by coordinates isn't built, so its plugins stay as they are. Costs the plugins, on the
+/// average. POM Reference, "Plugin Management"; Introduction to the Build Lifecycle.
 #[tactic(auto, unfolding(crate::specs::Building::built))]
 pub fn built(alloc: Global, raw: &RawModel) -> Result<Shared<BuildBase>, BuildFault>
     ensures says { Says (built raw.now) result }
     ensures cause { build_failed result ≡ false }
 {
-    match raw.pom.value() {
-        PomId::Gav(_) => Ok(raw.build.base.share()?),
-        PomId::Path(_) => built_by(alloc, &raw.pom, &raw.coordinates.packaging, &raw.build.base),
+    if !is_of_project(&raw.pom) {
+        return Ok(raw.build.base.share()?);
     }
+    built_by(alloc, &raw.pom, &raw.coordinates.packaging, &raw.build.base)
 }

@@ -1,6 +1,7 @@
-ghost use Rattle.std.specs.Prelude.{◌≡◌, ◌++◌, codes, false, is_some, map, option_map, IfOk};
+ghost use Rattle.std.specs.Prelude.{◌≡◌, [], ◌∷◌, ◌++◌, List as Items, ℕ, codes, false, is_some, map, option_map, IfOk};
 ghost use Rattle.profile_activation.specs.Lookups.{behind};
 ghost use Rattle.interpolate.specs.Filling.{fill};
+ghost use Rattle.pom_paths.specs.Paths.{joined};
 ghost use Rattle.pom_source.specs.Answers.{Says, build_failed, refused};
 ghost use Rattle.model_steps.specs.Folders.{basedir_in, filled, filled_in, from_basedir, is_absolute, placed, placed_build, placed_in, placed_outputs, placed_sources, stays};
 
@@ -14,9 +15,8 @@ use pom_source::{BuildFault, Given};
 use profile_activation::{basedir_of, behind};
 use std::alloc::Global;
 
-/// The folder of a POM of the project, as a path of the system; a POM read by coordinates has none. Costs the path. POM Reference,
-/// "Properties".
-pub fn basedir_in(alloc: Global, machine: &Machine, pom: &PomId) -> Mem<Option<Text>>
+// The folder of a POM as a path of the system; a POM that was read by coordinates has none.
+fn basedir_in(alloc: Global, machine: &Machine, pom: &PomId) -> Mem<Option<Text>>
     ensures { IfOk result (λ basedir. basedir ≡ basedir_in machine.now pom.now) }
 {
     match pom {
@@ -57,15 +57,23 @@ fn stays(alloc: Global, basedir: &Text, folder: &Text) -> Mem<bool>
     is_below(alloc, basedir, folder)
 }
 
-// A folder from the basedir on.
+// A relative folder behind a relative basedir.
+fn below_basedir(alloc: Global, basedir: &Text, folder: &Text) -> Mem<Text>
+    ensures { IfOk result (λ path. path ≡ basedir.now ++ 47 ∷ joined [] folder.now) }
+{
+    let path = joined(alloc, &Text::from_str(alloc, "")?, folder)?;
+    Ok(Text::of(format!(in alloc; "{basedir}/{path}")?))
+}
+
+// A relative folder, followed from the basedir on.
 fn from_basedir(alloc: Global, basedir: &Text, folder: &Text) -> Mem<Text>
     ensures { IfOk result (λ path. path ≡ from_basedir basedir.now folder.now) }
 {
-    let path = joined(alloc, basedir, folder)?;
     if is_absolute(basedir.as_bytes()) {
+        let path = joined(alloc, basedir, folder)?;
         return Ok(Text::of(format!(in alloc; "/{path}")?));
     }
-    Ok(path)
+    below_basedir(alloc, basedir, folder)
 }
 
 // A folder as a path of the system.
@@ -79,7 +87,7 @@ fn placed(alloc: Global, basedir: &Text, folder: &Text) -> Mem<Text>
     from_basedir(alloc, basedir, folder)
 }
 
-// So of one that is stated.
+// A folder as a path of the system, if it is stated.
 fn placed_one(alloc: Global, basedir: &Text, folder: &Option<Text>) -> Mem<Option<Text>>
     ensures { IfOk result (λ path. path ≡ option_map (placed basedir.now) folder.now) }
 {
@@ -89,7 +97,7 @@ fn placed_one(alloc: Global, basedir: &Text, folder: &Option<Text>) -> Mem<Optio
     }
 }
 
-// So of each of some.
+// Folders as paths of the system.
 fn placed_each(alloc: Global, basedir: &Text, folders: &List<Text>) -> Mem<List<Text>>
     ensures { IfOk result (λ paths. paths ≡ map (placed basedir.now) folders.now) }
 {
@@ -100,6 +108,7 @@ fn placed_each(alloc: Global, basedir: &Text, folders: &List<Text>) -> Mem<List<
     Ok(paths)
 }
 
+// Outputs with their folders placed.
 fn placed_outputs(alloc: Global, basedir: &Text, outputs: &Outputs) -> Mem<Shared<Outputs>>
     ensures { IfOk result (λ it. it ≡ placed_outputs basedir.now outputs.now) }
 {
@@ -116,6 +125,7 @@ fn placed_outputs(alloc: Global, basedir: &Text, outputs: &Outputs) -> Mem<Share
     Shared::new(alloc, outputs)
 }
 
+// Sources with their folders placed.
 fn placed_sources(alloc: Global, basedir: &Text, sources: &Sources) -> Mem<Shared<Sources>>
     ensures { IfOk result (λ it. it ≡ placed_sources basedir.now sources.now) }
 {
@@ -186,9 +196,10 @@ fn filled_texts(
     }
 }
 
-/// A joined model with its texts filled, and with its folders as paths of the system where it is one of the project: a relative folder
-/// is taken from the POM's folder on, with `.` and `..` followed. Or the first refusal of a text. Costs the texts, and all that can
-/// be named. POM Reference, "Properties" and "Directories".
+/// A joined model with its expressions replaced, and, if its POM is one of the project, with the folders of its build as paths of the
+/// system; or the first refusal of a text. An absolute folder, the POM's own folder and one that is written below it stay as they
+/// are. Any other is followed from the POM's folder on, with `.` and `..`. Costs the texts, and all that can be named. POM Reference,
+/// "Properties" and "Directories"; which folders stay as they are is a project rule.
 #[tactic(auto, unfolding(crate::specs::Folders::filled))]
 pub fn filled(alloc: Global, given: &Given, raw: &RawModel) -> Result<RawModel, BuildFault>
     ensures says { Says (filled given.now raw.now) result }
@@ -198,3 +209,10 @@ pub fn filled(alloc: Global, given: &Given, raw: &RawModel) -> Result<RawModel, 
     let full = filled_texts(alloc, given, &basedir, raw)?;
     Ok(placed_in(alloc, &basedir, full)?)
 }
+
+/// A law of folders: one that was placed stays as it is if it is placed again. Project rule.
+#[tactic(auto, using(crate::proofs::Placing::placed_twice))]
+pub fn placed_stays()
+    ensures { (basedir folder : Items ℕ)
+        → placed basedir (placed basedir folder) ≡ placed basedir folder }
+{}

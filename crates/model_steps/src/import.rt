@@ -1,11 +1,12 @@
-ghost use Rattle.std.specs.Prelude.{◌≡◌, false, Err, IfOk};
+ghost use Rattle.std.specs.Prelude.{◌≡◌, [], false, unwrap_or, Err, IfOk};
 ghost use Rattle.managed_deps.specs.Managed.{is_import, key_of};
 ghost use Rattle.mvn_base.specs.Key.{key_text};
 ghost use Rattle.pom_source.specs.Answers.{Says, build_failed};
 ghost use Rattle.pom_source.specs.Refusals.{text_refused};
-ghost use Rattle.model_steps.specs.Imports.{gav_by, gav_of, import_gav, version_of};
+ghost use Rattle.model_steps.specs.Imports.{dependency_gav, gav_by, import_gav};
 
 use crate::kind::{VersionKind, kind_of};
+use crate::texts::{is_scope, text_or_empty};
 use model_merge::Keyed;
 use model_types::Dependency;
 use mvn_base::{Gav, PomId, Rule, key_text};
@@ -13,33 +14,21 @@ use mvn_shared::{Mem, Text};
 use pom_source::{BuildFault, text_refused};
 use std::alloc::Global;
 
-/// Whether a managed entry stands for what another POM manages. Constant time.
+/// Whether a managed entry stands for what another POM manages: its scope is `import`. Constant time. Introduction to the Dependency
+/// Mechanism, "Importing Dependencies".
 pub fn is_import(dependency: &Dependency) -> bool
     ensures { result ≡ is_import dependency.now }
 {
-    match &dependency.scope {
-        Some(scope) => scope.as_str() == "import",
-        None => false,
-    }
-}
-
-// The version, or an empty text.
-pub(crate) fn version_of(alloc: Global, version: &Option<Text>) -> Mem<Text>
-    ensures { IfOk result (λ text. text ≡ version_of version.now) }
-{
-    match version {
-        Some(version) => Ok(version.clone()?),
-        None => Text::from_str(alloc, ""),
-    }
+    is_scope(&dependency.scope, "import")
 }
 
 // The coordinates of a dependency.
-fn gav_of(alloc: Global, dependency: &Dependency) -> Mem<Gav>
-    ensures { IfOk result (λ gav. gav ≡ gav_of dependency.now) }
+fn dependency_gav(alloc: Global, dependency: &Dependency) -> Mem<Gav>
+    ensures { IfOk result (λ gav. gav ≡ dependency_gav dependency.now) }
 {
     let group = dependency.group.clone()?;
     let artifact = dependency.artifact.clone()?;
-    let version = version_of(alloc, &dependency.version)?;
+    let version = text_or_empty(alloc, &dependency.version)?;
     Ok(Gav {
         group,
         artifact,
@@ -47,7 +36,7 @@ fn gav_of(alloc: Global, dependency: &Dependency) -> Mem<Gav>
     })
 }
 
-// A refusal of a POM that names a dependency by its key.
+// A refusal that names the key of a dependency.
 fn key_refused<T>(
     alloc: Global,
     pom: &PomId,
@@ -62,18 +51,18 @@ fn key_refused<T>(
     text_refused(pom, rule, &text)
 }
 
-// A refusal of a POM that names a dependency's version.
-fn range_refused<T>(
+// A refusal that names the version of a dependency.
+fn version_refused<T>(
     alloc: Global,
     pom: &PomId,
     rule: Rule,
     dependency: &Dependency,
 ) -> Result<T, BuildFault>
     ensures says { Says
-        (Err (text_refused pom.now rule (version_of dependency.now.version))) result }
+        (Err (text_refused pom.now rule (unwrap_or dependency.now.version []))) result }
     ensures cause { build_failed result ≡ false }
 {
-    let text = version_of(alloc, &dependency.version)?;
+    let text = text_or_empty(alloc, &dependency.version)?;
     text_refused(pom, rule, &text)
 }
 
@@ -89,14 +78,16 @@ fn gav_by(
 {
     match kind {
         VersionKind::Missing => key_refused(alloc, pom, Rule::VersionMissing, dependency),
-        VersionKind::Soft => Ok(gav_of(alloc, dependency)?),
-        VersionKind::Range => range_refused(alloc, pom, Rule::BadRange, dependency),
-        VersionKind::Unreadable => range_refused(alloc, pom, Rule::BadRange, dependency),
+        VersionKind::Soft => Ok(dependency_gav(alloc, dependency)?),
+        VersionKind::Range => version_refused(alloc, pom, Rule::BadRange, dependency),
+        VersionKind::Unreadable => version_refused(alloc, pom, Rule::BadRange, dependency),
     }
 }
 
-/// The coordinates that a managed entry of scope `import` stands for. Refused are another type than `pom`, no version, and what isn't
-/// one version. Costs its texts. Introduction to the Dependency Mechanism, "Importing Dependencies".
+/// The coordinates of the POM that a managed entry of scope `import` stands for; its classifier doesn't matter. It is refused if its
+/// type isn't `pom` (rule 23), or else if it has no version (19), both at its key; or else if the version is a range or can't be read,
+/// as an empty one (20), at the version. The refusal names the POM that is given. Costs the entry's texts. Introduction to the
+/// Dependency Mechanism, "Importing Dependencies"; the order of refusals is a project rule.
 #[tactic(auto, unfolding(crate::specs::Imports::import_gav))]
 pub fn import_gav(alloc: Global, pom: &PomId, dependency: &Dependency) -> Result<Gav, BuildFault>
     ensures says { Says (import_gav pom.now dependency.now) result }

@@ -5,8 +5,8 @@ use mvn_shared::{Mem, OutOfMemory, Text};
 use std::alloc::Global;
 use version_order::{Requirement, RequirementError};
 
-/// What a version states: nothing, one version, a range, or what is no requirement. POM Reference, "Dependency Version Requirement
-/// Specification".
+/// What is stated where a version may stand: nothing, one version, a range, or a text that can't be read as either. POM Reference,
+/// "Dependency Version Requirement Specification". Public for definitions alone.
 #[derive(Clone, Copy)]
 pub enum VersionKind {
     Missing,
@@ -15,7 +15,7 @@ pub enum VersionKind {
     Unreadable,
 }
 
-/// What the text of a version states. Costs its length.
+// What the text of a version states.
 pub(crate) fn kind_of_text(alloc: Global, version: &Text) -> Mem<VersionKind>
     ensures { IfOk result (λ kind. kind ≡ kind_of (Some version.now)) }
 {
@@ -27,7 +27,7 @@ pub(crate) fn kind_of_text(alloc: Global, version: &Text) -> Mem<VersionKind>
     }
 }
 
-/// What a version states. Costs its length.
+// What a version states, if there is one.
 pub(crate) fn kind_of(alloc: Global, version: &Option<Text>) -> Mem<VersionKind>
     ensures { IfOk result (λ kind. kind ≡ kind_of version.now) }
 {

@@ -7,13 +7,14 @@ mod build;
 mod folders;
 mod import;
 mod kind;
-mod stop;
+mod problem;
+mod texts;
 mod validation;
 
 pub use assembly::model_of;
 pub use build::built;
-pub use folders::{basedir_in, filled};
+pub use folders::{filled, placed_stays};
 pub use import::{import_gav, is_import};
 pub use kind::VersionKind;
-pub use stop::Stop;
-pub use validation::checked;
+pub use problem::Problem;
+pub use validation::{checked, refused_if_invalid};

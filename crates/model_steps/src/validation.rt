@@ -1,14 +1,15 @@
-ghost use Rattle.std.specs.Prelude.{◌≡◌, codes, Some, false, IfOk};
+ghost use Rattle.std.specs.Prelude.{◌≡◌, [], codes, is_some, not, unwrap_or, Some, false, true, IfOk};
 ghost use Rattle.mvn_base.specs.Names.{is_filled};
 ghost use Rattle.mvn_base.specs.Key.{key_text};
-ghost use Rattle.managed_deps.specs.Managed.{is_scope, key_of};
+ghost use Rattle.managed_deps.specs.Managed.{key_of};
 ghost use Rattle.pom_source.specs.Answers.{Says, build_failed};
-ghost use Rattle.model_steps.specs.Imports.{version_of};
-ghost use Rattle.model_steps.specs.Validation.{checked, first_stop, gav_stop, is_missing, is_named, is_of_project, is_own_scope, is_soft, is_unreadable, item_stop, may_be_scope, model_stop, name_stop, scope_stop, scope_stop_of, stop, version_stop};
+ghost use Rattle.model_steps.specs.Validation.{checked, first_problem, gav_problem, is_missing, is_named, is_own_scope, is_soft, is_unreadable, item_problem, may_be_scope, model_problem, name_problem, problem, scope_problem, scope_problem_of, version_problem};
+ghost use Rattle.model_steps.specs.Valid.{is_valid};
+ghost use Rattle.model_types.specs.declared.model.Model as models;
 
-use crate::import::version_of;
 use crate::kind::{VersionKind, kind_of, kind_of_text};
-use crate::stop::Stop;
+use crate::problem::Problem;
+use crate::texts::{is_of_project, is_scope, text_or_empty};
 use model_merge::Keyed;
 use model_types::{Dependency, Model};
 use mvn_base::{Gav, PomId, Rule, key_text, valid_group, valid_name, valid_version};
@@ -16,28 +17,28 @@ use mvn_shared::{Mem, Shared, Text};
 use pom_source::{BuildFault, text_refused};
 use std::alloc::Global;
 
-// A stop that names a text.
-fn stop(rule: Rule, place: &Text) -> Mem<Option<Stop>>
-    ensures { IfOk result (λ it. it ≡ Some (stop rule place.now)) }
+// A problem that names a text.
+fn text_problem(rule: Rule, place: &Text) -> Mem<Option<Problem>>
+    ensures { IfOk result (λ it. it ≡ Some (problem rule place.now)) }
 {
     let place = place.clone()?;
-    Ok(Some(Stop { rule, place }))
+    Ok(Some(Problem { rule, place }))
 }
 
-// A stop that names a dependency by its key.
-fn key_stop(alloc: Global, rule: Rule, d: &Dependency) -> Mem<Option<Stop>>
-    ensures { IfOk result (λ it. it ≡ Some (stop rule (key_text (key_of d.now)))) }
+// A problem that names the key of a dependency.
+fn key_problem(alloc: Global, rule: Rule, d: &Dependency) -> Mem<Option<Problem>>
+    ensures { IfOk result (λ it. it ≡ Some (problem rule (key_text (key_of d.now)))) }
 {
     let place = key_text(alloc, &d.key(alloc)?)?;
-    Ok(Some(Stop { rule, place }))
+    Ok(Some(Problem { rule, place }))
 }
 
-// A stop that names a dependency's version.
-fn stop_at_version(alloc: Global, rule: Rule, d: &Dependency) -> Mem<Option<Stop>>
-    ensures { IfOk result (λ it. it ≡ Some (stop rule (version_of d.now.version))) }
+// A problem that names the version of a dependency.
+fn stated_version_problem(alloc: Global, rule: Rule, d: &Dependency) -> Mem<Option<Problem>>
+    ensures { IfOk result (λ it. it ≡ Some (problem rule (unwrap_or d.now.version []))) }
 {
-    let place = version_of(alloc, &d.version)?;
-    Ok(Some(Stop { rule, place }))
+    let place = text_or_empty(alloc, &d.version)?;
+    Ok(Some(Problem { rule, place }))
 }
 
 impl VersionKind {
@@ -59,7 +60,7 @@ impl VersionKind {
         matches!(self, VersionKind::Unreadable)
     }
 
-    // Whether a version of the kind is named as one may be.
+    // Whether a text of this kind is named as a version may be, if it is one version.
     fn is_named(self, version: &[u8]) -> bool
         ensures { result ≡ is_named self version.now }
     {
@@ -72,29 +73,29 @@ impl VersionKind {
     }
 }
 
-// What is refused of the module's coordinates.
-#[tactic(auto, unfolding(crate::specs::Validation::gav_stop))]
-fn gav_stop(kind: VersionKind, gav: &Gav) -> Mem<Option<Stop>>
-    ensures { IfOk result (λ it. it ≡ gav_stop kind gav.now) }
+// The first problem of the coordinates.
+#[tactic(auto, unfolding(crate::specs::Validation::gav_problem))]
+fn gav_problem(kind: VersionKind, gav: &Gav) -> Mem<Option<Problem>>
+    ensures { IfOk result (λ it. it ≡ gav_problem kind gav.now) }
 {
     if !valid_group(gav.group.as_bytes()) {
-        return stop(Rule::BadName, &gav.group);
+        return text_problem(Rule::BadName, &gav.group);
     }
     if !valid_name(gav.artifact.as_bytes()) {
-        return stop(Rule::BadName, &gav.artifact);
+        return text_problem(Rule::BadName, &gav.artifact);
     }
     if !kind.is_named(gav.version.as_bytes()) {
-        return stop(Rule::BadName, &gav.version);
+        return text_problem(Rule::BadName, &gav.version);
     }
     if !kind.is_soft() {
-        return stop(Rule::BadRange, &gav.version);
+        return text_problem(Rule::BadRange, &gav.version);
     }
     Ok(None)
 }
 
 // Whether a dependency's version is named as one may be.
 fn is_version_named(kind: VersionKind, version: &Option<Text>) -> bool
-    ensures { result ≡ is_named kind (version_of version.now) }
+    ensures { result ≡ is_named kind (unwrap_or version.now []) }
 {
     match version {
         Some(version) => kind.is_named(version.as_bytes()),
@@ -102,25 +103,25 @@ fn is_version_named(kind: VersionKind, version: &Option<Text>) -> bool
     }
 }
 
-// What is refused of a dependency's names.
-#[tactic(auto, unfolding(crate::specs::Validation::name_stop))]
-fn name_stop(alloc: Global, kind: VersionKind, d: &Dependency) -> Mem<Option<Stop>>
-    ensures { IfOk result (λ it. it ≡ name_stop kind d.now) }
+// The first problem of a dependency's names.
+#[tactic(auto, unfolding(crate::specs::Validation::name_problem))]
+fn name_problem(alloc: Global, kind: VersionKind, d: &Dependency) -> Mem<Option<Problem>>
+    ensures { IfOk result (λ it. it ≡ name_problem kind d.now) }
 {
     if !valid_group(d.group.as_bytes()) {
-        return stop(Rule::BadName, &d.group);
+        return text_problem(Rule::BadName, &d.group);
     }
     if !valid_name(d.artifact.as_bytes()) {
-        return stop(Rule::BadName, &d.artifact);
+        return text_problem(Rule::BadName, &d.artifact);
     }
     if !is_version_named(kind, &d.version) {
-        return stop_at_version(alloc, Rule::BadName, d);
+        return stated_version_problem(alloc, Rule::BadName, d);
     }
     if !valid_name(d.kind.as_bytes()) {
-        return stop(Rule::BadName, &d.kind);
+        return text_problem(Rule::BadName, &d.kind);
     }
     if is_filled(&d.classifier) && !valid_name(d.classifier.as_bytes()) {
-        return stop(Rule::BadName, &d.classifier);
+        return text_problem(Rule::BadName, &d.classifier);
     }
     Ok(None)
 }
@@ -132,7 +133,7 @@ fn is_filled(text: &Text) -> bool
     text.len() != 0
 }
 
-// Whether a scope is one of a dependency.
+// Whether a scope is one that a dependency may have.
 fn is_own_scope(scope: &str) -> bool
     ensures { result ≡ is_own_scope scope.now }
 {
@@ -143,134 +144,131 @@ fn is_own_scope(scope: &str) -> bool
         || scope == "system"
 }
 
-// Whether a scope may be.
+// Whether a dependency, or a managed entry, may have a scope.
 fn may_be_scope(managed: bool, scope: &str) -> bool
     ensures { result ≡ may_be_scope managed scope.now }
 {
     is_own_scope(scope) || (managed && scope == "import")
 }
 
-// What is refused of the scope's name.
-fn scope_name_stop(managed: bool, scope: &Option<Text>) -> Mem<Option<Stop>>
-    ensures { IfOk result (λ it. it ≡ scope_stop_of managed scope.now) }
+// The problem of a scope's name, if it has one.
+fn scope_name_problem(managed: bool, scope: &Option<Text>) -> Mem<Option<Problem>>
+    ensures { IfOk result (λ it. it ≡ scope_problem_of managed scope.now) }
 {
     match scope {
         Some(scope) => {
             if may_be_scope(managed, scope.as_str()) {
                 return Ok(None);
             }
-            stop(Rule::BadScope, scope)
+            text_problem(Rule::BadScope, scope)
         }
         None => Ok(None),
     }
 }
 
-fn is_of_project(pom: &PomId) -> bool
-    ensures { result ≡ is_of_project pom.now }
+// The first problem of a dependency's scope.
+#[tactic(auto, unfolding(crate::specs::Validation::scope_problem))]
+fn scope_problem(alloc: Global, managed: bool, pom: &PomId, d: &Dependency) -> Mem<Option<Problem>>
+    ensures { IfOk result (λ it. it ≡ scope_problem managed pom.now d.now) }
 {
-    matches!(pom, PomId::Path(_))
-}
-
-fn is_system(scope: &Option<Text>) -> bool
-    ensures { result ≡ is_scope (codes "system") scope.now }
-{
-    match scope {
-        Some(scope) => scope.as_str() == "system",
-        None => false,
+    if let Some(problem) = scope_name_problem(managed, &d.scope)? {
+        return Ok(Some(problem));
     }
-}
-
-// What is refused of a dependency's scope.
-#[tactic(auto, unfolding(crate::specs::Validation::scope_stop))]
-fn scope_stop(alloc: Global, managed: bool, pom: &PomId, d: &Dependency) -> Mem<Option<Stop>>
-    ensures { IfOk result (λ it. it ≡ scope_stop managed pom.now d.now) }
-{
-    if let Some(stop) = scope_name_stop(managed, &d.scope)? {
-        return Ok(Some(stop));
-    }
-    if is_of_project(pom) && is_system(&d.scope) {
-        return key_stop(alloc, Rule::SystemScope, d);
+    if is_of_project(pom) && is_scope(&d.scope, "system") {
+        return key_problem(alloc, Rule::SystemScope, d);
     }
     Ok(None)
 }
 
-// What is refused of a dependency's version.
-#[tactic(auto, unfolding(crate::specs::Validation::version_stop))]
-fn version_stop(
+// The first problem of a dependency's version.
+#[tactic(auto, unfolding(crate::specs::Validation::version_problem))]
+fn version_problem(
     alloc: Global,
     managed: bool,
     kind: VersionKind,
     d: &Dependency,
-) -> Mem<Option<Stop>>
-    ensures { IfOk result (λ it. it ≡ version_stop managed kind d.now) }
+) -> Mem<Option<Problem>>
+    ensures { IfOk result (λ it. it ≡ version_problem managed kind d.now) }
 {
     if !managed && kind.is_missing() {
-        return key_stop(alloc, Rule::VersionMissing, d);
+        return key_problem(alloc, Rule::VersionMissing, d);
     }
     if kind.is_unreadable() {
-        return stop_at_version(alloc, Rule::BadRange, d);
+        return stated_version_problem(alloc, Rule::BadRange, d);
     }
     Ok(None)
 }
 
-// What is refused of a dependency first.
-#[tactic(auto, unfolding(crate::specs::Validation::item_stop))]
-fn item_stop(alloc: Global, managed: bool, pom: &PomId, d: &Dependency) -> Mem<Option<Stop>>
-    ensures { IfOk result (λ it. it ≡ item_stop managed pom.now d.now) }
+// The first problem of a dependency or a managed entry.
+#[tactic(auto, unfolding(crate::specs::Validation::item_problem))]
+fn item_problem(alloc: Global, managed: bool, pom: &PomId, d: &Dependency) -> Mem<Option<Problem>>
+    ensures { IfOk result (λ it. it ≡ item_problem managed pom.now d.now) }
 {
     let kind = kind_of(alloc, &d.version)?;
-    if let Some(stop) = name_stop(alloc, kind, d)? {
-        return Ok(Some(stop));
+    if let Some(problem) = name_problem(alloc, kind, d)? {
+        return Ok(Some(problem));
     }
-    if let Some(stop) = scope_stop(alloc, managed, pom, d)? {
-        return Ok(Some(stop));
+    if let Some(problem) = scope_problem(alloc, managed, pom, d)? {
+        return Ok(Some(problem));
     }
-    version_stop(alloc, managed, kind, d)
+    version_problem(alloc, managed, kind, d)
 }
 
-// What is refused of some first.
-#[tactic(auto, using(crate::proofs::Stopping::stop_here, crate::proofs::Stopping::stop_later))]
-fn first_stop(
+// The first problem in a list.
+#[tactic(auto, using(crate::proofs::Problems::here, crate::proofs::Problems::later))]
+fn first_problem(
     alloc: Global,
     managed: bool,
     pom: &PomId,
     items: &[Shared<Dependency>],
-) -> Mem<Option<Stop>>
-    ensures { IfOk result (λ it. it ≡ first_stop (item_stop managed pom.now) items.now) }
+) -> Mem<Option<Problem>>
+    ensures { IfOk result (λ it. it ≡ first_problem (item_problem managed pom.now) items.now) }
 {
     for d in items {
-        if let Some(stop) = item_stop(alloc, managed, pom, d)? {
-            return Ok(Some(stop));
+        if let Some(problem) = item_problem(alloc, managed, pom, d)? {
+            return Ok(Some(problem));
         }
     }
     Ok(None)
 }
 
-// What is refused of a model first.
-#[tactic(auto, unfolding(crate::specs::Validation::model_stop))]
-fn model_stop(alloc: Global, model: &Model) -> Mem<Option<Stop>>
-    ensures { IfOk result (λ it. it ≡ model_stop model.now) }
+// The first problem of a model.
+#[tactic(auto, unfolding(crate::specs::Validation::model_problem))]
+fn model_problem(alloc: Global, model: &Model) -> Mem<Option<Problem>>
+    ensures { IfOk result (λ it. it ≡ model_problem model.now) }
 {
     let kind = kind_of_text(alloc, &model.gav.version)?;
-    if let Some(stop) = gav_stop(kind, &model.gav)? {
-        return Ok(Some(stop));
+    if let Some(problem) = gav_problem(kind, &model.gav)? {
+        return Ok(Some(problem));
     }
-    if let Some(stop) = first_stop(alloc, true, &model.pom, model.base.managed.as_slice())? {
-        return Ok(Some(stop));
+    if let Some(problem) = first_problem(alloc, true, &model.pom, model.base.managed.as_slice())? {
+        return Ok(Some(problem));
     }
-    first_stop(alloc, false, &model.pom, model.base.dependencies.as_slice())
+    first_problem(alloc, false, &model.pom, model.base.dependencies.as_slice())
 }
 
-/// A model that nothing is refused of, or the first refusal: of its coordinates, then of each managed entry, then of each dependency.
-/// Refused are a name that may not be; a scope that there isn't; in a POM of the project the scope `system`; a dependency without a
-/// version; and a version that is no requirement, or of the coordinates a range. Costs their texts. POM Reference; the order is a
-/// project rule.
+/// The model as it is, or the refusal of its first problem, which names the model's own POM: in its coordinates, then in each managed
+/// entry, then in each dependency. In one entry a problem is, in this order: a group, an artifact, a version (if it is one version), a
+/// type or a classifier that isn't allowed (rule 9), at that text; a scope that there isn't (21), at the scope, where a managed entry
+/// may be of scope `import`; in a POM of the project the scope `system` (22), at the key; a dependency without a version (19), at the
+/// key; a version that can't be read, as an empty one (20), at the version. The coordinates need one version (20). Costs their
+/// texts. POM Reference; the order is a project rule.
+#[tactic(auto, using(crate::proofs::Validity::valid_without_problem))]
 pub fn checked(alloc: Global, model: Model) -> Result<Model, BuildFault>
     ensures says { Says (checked model) result }
+    ensures same { IfOk result (λ it. it ≡ model) }
+    ensures valid { IfOk result (λ it. is_valid it ≡ true) }
     ensures cause { build_failed result ≡ false }
 {
-    match model_stop(alloc, &model)? {
-        Some(stop) => text_refused(&model.pom, stop.rule, &stop.place),
+    match model_problem(alloc, &model)? {
+        Some(problem) => text_refused(&model.pom, problem.rule, &problem.place),
         None => Ok(model),
     }
 }
+
+/// A law of what is refused: a model has a problem exactly if it isn't valid, that is if a name, a scope or a version in it isn't
+/// allowed. POM Reference.
+#[tactic(auto, using(crate::proofs::Validity::problem_if_invalid))]
+pub fn refused_if_invalid()
+    ensures { (model : models.Model) → is_some (model_problem model) ≡ not (is_valid model) }
+{}

@@ -1,0 +1,37 @@
+ghost use Rattle.std.specs.Prelude.{◌≡◌, [], unwrap_or, IfOk};
+ghost use Rattle.managed_deps.specs.Managed.{is_scope};
+ghost use Rattle.profile_activation.specs.Activation.{is_of_project};
+
+use mvn_base::PomId;
+use mvn_shared::{Mem, Text};
+use std::alloc::Global;
+
+// A text, or an empty one if there is none.
+pub(crate) fn text_or_empty(alloc: Global, text: &Option<Text>) -> Mem<Text>
+    ensures { IfOk result (λ it. it ≡ unwrap_or text.now []) }
+{
+    match text {
+        Some(text) => Ok(text.clone()?),
+        None => Text::from_str(alloc, ""),
+    }
+}
+
+// Whether a scope is stated and has this name.
+pub(crate) fn is_scope(scope: &Option<Text>, name: &str) -> bool
+    ensures { result ≡ is_scope name.now scope.now }
+{
+    match scope {
+        Some(scope) => scope.as_str() == name,
+        None => false,
+    }
+}
+
+// Whether a POM is one of the project.
+pub(crate) fn is_of_project(pom: &PomId) -> bool
+    ensures { result ≡ is_of_project pom.now }
+{
+    match pom {
+        PomId::Path(_) => true,
+        PomId::Gav(_) => false,
+    }
+}

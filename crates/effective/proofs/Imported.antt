@@ -1,13 +1,10 @@
 -- What an import comes to doesn't depend on who imports it.
-use Rattle.std.proofs.Common.{◌≡◌, ℕ, zero, suc, ◌≤◌, Bool, true, false, ◌||◌, List, [], ◌∷◌, ◌++◌, Option, None, Some, Result, Ok, Err, refl, arith, sym, ap, subst, ◌∙◌, if◌then◌else◌}
-use Rattle.std.specs.List.{list_any}
+use Rattle.std.proofs.Common.{◌≡◌, ℕ, zero, suc, ◌≤◌, Bool, true, false, ◌||◌, List, [], ◌∷◌, ◌++◌, Option, None, Some, Ok, Err, refl, arith, sym, ap, subst, ◌∙◌, if◌then◌else◌}
 use Rattle.std.proofs.lemmas.List.{append-nil, append_assoc}
 use Rattle.std.proofs.lemmas.List.Folds.{list_any-append}
 use Rattle.mvn_base.specs.declared.gav.Gav.{Gav}
 use Rattle.mvn_base.specs.declared.refusal.PomId.{PomId}
-use Rattle.mvn_base.specs.declared.refusal.PomId.TheVariants as ids
 use Rattle.mvn_base.specs.declared.rule.Rule.TheVariants.{ImportCycle}
-use Rattle.model_types.specs.declared.build.BuildBase.{BuildBase}
 use Rattle.model_types.specs.declared.dependency.Dependency.{Dependency}
 use Rattle.model_types.specs.declared.model.Model.{Model}
 use Rattle.model_types.specs.declared.model.RawModel.{RawModel}
@@ -16,7 +13,6 @@ use Rattle.pom_source.specs.Answers.{Built, ◌>>=◌}
 use Rattle.pom_source.specs.Chains.{bound, ok_is}
 use Rattle.pom_source.specs.Refusals.{gav_refused}
 use Rattle.pom_source.specs.Worlds.{World}
-use Rattle.pom_source.specs.declared.fault.BuildFault.{BuildFault}
 use Rattle.pom_source.specs.declared.found.Found.{Found}
 use Rattle.pom_source.specs.declared.found.Given.{Given}
 use Rattle.pom_lineage.specs.Lineage.{is_in, next_poms, pom_eq}
@@ -26,7 +22,7 @@ use Rattle.model_steps.specs.Building.{built}
 use Rattle.model_steps.specs.Imports.{import_gav}
 use Rattle.model_steps.specs.Validation.{model_problem, unless}
 use Rattle.model_steps.specs.declared.problem.Problem.{Problem}
-use Rattle.effective.specs.Effective.{asked, effective, ended, entry, full, import_found, import_on, imported, imports_from, managed_of, met_import, read_found, wanted, whole}
+use Rattle.effective.specs.Effective.{asked, effective, ended, entry, full, import_on, imported, imports_from, managed_of, met_import, read_found, wanted, whole}
 use Rattle.effective.specs.Imports.{AreAmong, AreImports, IsManagedAt, IsPutTogether, import_entry, no_more, own_entry}
 
 -- what gives entries under one gives the same under another

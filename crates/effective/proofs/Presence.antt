@@ -1,6 +1,6 @@
 -- No step but the first answers that a POM is absent.
 use Rattle.std.specs.Str.{bytes_eq}
-use Rattle.std.proofs.Common.{◌≡◌, ℕ, zero, suc, Bool, true, false, List, [], ◌∷◌, ◌++◌, codes, Option, None, Some, is_some, Result, Ok, Err, refl, sym, ap, subst, if◌then◌else◌}
+use Rattle.std.proofs.Common.{◌≡◌, ℕ, zero, suc, Bool, true, false, List, [], ◌∷◌, ◌++◌, codes, Option, None, Some, is_some, Result, Ok, Err, refl, ap, subst, if◌then◌else◌}
 use Rattle.mvn_base.specs.declared.gav.Gav.{Gav}
 use Rattle.mvn_base.specs.declared.refusal.PomId.{PomId}
 use Rattle.mvn_base.specs.declared.refusal.PomId.TheVariants as ids
@@ -46,7 +46,7 @@ use Rattle.model_steps.specs.declared.kind.VersionKind.{VersionKind}
 use Rattle.model_steps.specs.declared.kind.VersionKind.TheVariants.{Missing, Soft, Range, Unreadable}
 use Rattle.model_steps.specs.declared.problem.Problem.{Problem}
 use Rattle.effective.specs.Absence.{IsAbsentExactly, has_pom}
-use Rattle.effective.specs.Effective.{asked, asked_path, effective, ended, entry, full, if_there, import_found, import_on, imported, imports_from, managed_of, met_import, read_found, wanted, whole}
+use Rattle.effective.specs.Effective.{asked, effective, ended, entry, full, if_there, import_found, import_on, imported, imports_from, managed_of, met_import, read_found, wanted, whole}
 
 -- anything but that a POM is absent
 abbrev Present : {A : Type 0} → Built A → Type 0

@@ -1,5 +1,5 @@
 -- What POMs in memory hold, and the worlds that they fit.
-use Rattle.std.specs.Prelude.{◌≡◌, ℕ, List, Option, None, Some, if◌then◌else◌}
+use Rattle.std.specs.Prelude.{◌≡◌, ℕ, List, Option, Some, if◌then◌else◌}
 use Rattle.std.specs.HashMap.{get}
 use Rattle.mvn_shared.specs.Files.{Files, file_at, is_there}
 use Rattle.mvn_base.specs.declared.gav.Gav.{Gav}

@@ -31,7 +31,7 @@ fn copy_of(found: &Found) -> Mem<Found>
 }
 
 fn copy_at(found: Option<&Found>) -> Mem<Option<Found>>
-    ensures { IfOk result (λ copy. copy ≡ option_copied found) }
+    ensures { IfOk result (λ copy. copy ≡ option_copied found.entry) }
 {
     match found {
         Some(found) => Ok(Some(copy_of(found)?)),
@@ -40,7 +40,7 @@ fn copy_at(found: Option<&Found>) -> Mem<Option<Found>>
 }
 
 fn bytes_at(found: Option<&Bytes>) -> Mem<Option<Bytes>>
-    ensures { IfOk result (λ copy. copy ≡ option_copied found) }
+    ensures { IfOk result (λ copy. copy ≡ option_copied found.entry) }
 {
     match found {
         Some(bytes) => Ok(Some(bytes.clone()?)),

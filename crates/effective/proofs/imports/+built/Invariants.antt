@@ -1,4 +1,4 @@
-use Rattle.std.proofs.Common.{◌≡◌, ◌+◌, ◌*◌, true, List, [], drop}
+use Rattle.std.proofs.Common.{◌≡◌, ◌+◌, ◌*◌, true, [], drop}
 use Rattle.std.specs.List.{list_all}
 use Rattle.pom_source.specs.Worlds.{World}
 use Rattle.pom_lineage.specs.Stores.{Holds}

@@ -1,1 +1,4 @@
+pub mod Imported
 pub mod Importing
+pub mod Presence
+pub mod Replacing

@@ -4,6 +4,8 @@ ghost use Rattle.pom_source.specs.Answers.{Says, build_failed};
 ghost use Rattle.pom_source.specs.Worlds.{World};
 ghost use Rattle.pom_source.specs.declared.found.Given as givens;
 ghost use Rattle.pom_lineage.specs.Stores.{Holds};
+ghost use Rattle.effective.specs.Lawful.{IsLawful};
+ghost use Rattle.effective.specs.Absence.{IsAbsentExactly, has_pom};
 ghost use Rattle.effective.specs.Effective.{asked, asked_path, effective, read_found};
 
 use crate::imports::whole;
@@ -89,8 +91,34 @@ fn asked<P: PomSource>(
     }
 }
 
+// The POM that is asked for, in all steps.
+fn modelled<P: PomSource>(
+    alloc: Global,
+    store: &mut Store,
+    source: &mut P,
+    given: &Given,
+    pom: &PomId,
+) -> Result<Model, BuildFault>
+    ensures says { (world : World) → P.fits_poms source.old world → Holds world given.now store.old
+        → Says (effective world given.now pom.now) result }
+    ensures lawful { IfOk result IsLawful }
+    ensures fit { (world : World) → P.fits_poms source.old world → P.fits_poms source.new world }
+    ensures holds { (world : World) → P.fits_poms source.old world → Holds world given.now store.old
+        → Holds world given.now store.new }
+    ensures cause { HasCause (P.faults source.old) (P.faults source.new) (build_failed result) }
+{
+    let raw = asked(alloc, store, source, pom)?;
+    let building = only(alloc, &raw.pom)?;
+    match whole(alloc, store, source, given, 31, &building, &raw) {
+        Ok(model) => Ok(model),
+        Err(fault) => Err(fault),
+    }
+}
+
 /// The effective model of a POM, like `effective`, with a store of what was read in the run. What the store keeps is so in each world
-/// that fits the source, before the call and after it. Costs the POMs that weren't read before, and the model.
+/// that fits the source, before the call and after it. Costs the POM and its parents, as far as they weren't read before, each POM that
+/// is imported, also if it was imported before, and the model.
+#[tactic(auto, using(crate::proofs::Presence::absent_exactly))]
 pub fn effective_with<P: PomSource>(
     alloc: Global,
     store: &mut Store,
@@ -100,14 +128,15 @@ pub fn effective_with<P: PomSource>(
 ) -> Result<Model, BuildFault>
     ensures says { (world : World) → P.fits_poms source.old world → Holds world given.now store.old
         → Says (effective world given.now pom.now) result }
+    ensures absent { (world : World) → P.fits_poms source.old world
+        → Holds world given.now store.old → IsAbsentExactly (has_pom world pom.now) result }
+    ensures lawful { IfOk result IsLawful }
     ensures fit { (world : World) → P.fits_poms source.old world → P.fits_poms source.new world }
     ensures holds { (world : World) → P.fits_poms source.old world → Holds world given.now store.old
         → Holds world given.now store.new }
     ensures cause { HasCause (P.faults source.old) (P.faults source.new) (build_failed result) }
 {
-    let raw = asked(alloc, store, source, pom)?;
-    let building = only(alloc, &raw.pom)?;
-    match whole(alloc, store, source, given, 31, &building, &raw) {
+    match modelled(alloc, store, source, given, pom) {
         Ok(model) => Ok(model),
         Err(fault) => Err(fault),
     }
@@ -126,6 +155,9 @@ pub fn effective<P: PomSource>(
 ) -> Result<Model, BuildFault>
     ensures says { (world : World) → P.fits_poms source.old world
         → Says (effective world given.now pom.now) result }
+    ensures absent { (world : World) → P.fits_poms source.old world
+        → IsAbsentExactly (has_pom world pom.now) result }
+    ensures lawful { IfOk result IsLawful }
     ensures fit { (world : World) → P.fits_poms source.old world → P.fits_poms source.new world }
     ensures cause { HasCause (P.faults source.old) (P.faults source.new) (build_failed result) }
 {

@@ -1,10 +1,13 @@
-ghost use Rattle.std.specs.Prelude.{◌≡◌, [], ◌∷◌, ◌++◌, false, IfOk};
+ghost use Rattle.std.specs.Prelude.{◌≡◌, [], ◌∷◌, ◌++◌, true, false, IfOk};
+ghost use Rattle.std.specs.List.{list_all};
 ghost use Rattle.mvn_shared.specs.Cause.{HasCause};
 ghost use Rattle.pom_source.specs.Answers.{Says, build_failed};
 ghost use Rattle.pom_source.specs.Worlds.{World};
 ghost use Rattle.pom_lineage.specs.Lineage.{next_poms};
 ghost use Rattle.pom_lineage.specs.Stores.{Holds};
 ghost use Rattle.model_steps.specs.Folders.{filled};
+ghost use Rattle.model_steps.specs.Valid.{has_no_import};
+ghost use Rattle.effective.specs.Lawful.{IsLawful};
 ghost use Rattle.effective.specs.Effective.{ended, entry, full, import_found, imported, imports_from, managed_of, wanted, whole};
 
 use model_steps::{built, checked, filled, import_gav, is_import, model_of};
@@ -76,6 +79,7 @@ fn full<P: PomSource>(
 }
 
 // A full model with its plugins and the entries of its imports, completed and checked.
+#[tactic(auto, using(crate::proofs::Replacing::lawful))]
 fn ended(
     alloc: Global,
     full: &RawModel,
@@ -83,6 +87,7 @@ fn ended(
     imports: &List<Entries>,
 ) -> Result<Model, BuildFault>
     ensures says { Says (ended full.now base.now imports.now) result }
+    ensures lawful { list_all has_no_import imports.now ≡ true → IfOk result IsLawful }
     ensures cause { build_failed result ≡ false }
 {
     let model = model_of(alloc, full, base, imports.as_slice())?;
@@ -93,15 +98,21 @@ fn ended(
 }
 
 // What a model manages.
+#[tactic(auto, using(crate::proofs::Replacing::replaced_in))]
 fn managed_of(model: &Model) -> Mem<Entries>
-    ensures { IfOk result (λ entries. entries ≡ model.now.base.managed) }
+    ensures value { IfOk result (λ entries. entries ≡ model.now.base.managed) }
+    ensures replaced { IsLawful model.now
+        → IfOk result (λ entries. has_no_import entries ≡ true) }
 {
     Ok(model.base.managed.clone()?)
 }
 
 // Lists behind others.
+#[tactic(auto, using(crate::proofs::Replacing::replaced_behind))]
 fn behind(done: List<Entries>, lists: List<Entries>) -> Mem<List<Entries>>
-    ensures { IfOk result (λ all. all ≡ done ++ lists) }
+    ensures value { IfOk result (λ all. all ≡ done ++ lists) }
+    ensures replaced { list_all has_no_import done ≡ true → list_all has_no_import lists ≡ true
+        → IfOk result (λ all. list_all has_no_import all ≡ true) }
 {
     let mut all = done.into_vec();
     let mut lists = lists.into_vec();
@@ -110,8 +121,11 @@ fn behind(done: List<Entries>, lists: List<Entries>) -> Mem<List<Entries>>
 }
 
 // A list of one.
+#[tactic(auto, using(crate::proofs::Replacing::replaced_alone))]
 fn alone(alloc: Global, entries: Entries) -> Mem<List<Entries>>
-    ensures { IfOk result (λ list. list ≡ entries ∷ []) }
+    ensures value { IfOk result (λ list. list ≡ entries ∷ []) }
+    ensures replaced { has_no_import entries ≡ true
+        → IfOk result (λ list. list_all has_no_import list ≡ true) }
 {
     let mut list = List::new(alloc);
     list.push(entries)?;
@@ -133,6 +147,7 @@ fn imported<P: PomSource>(
 ) -> Result<Entries, BuildFault>
     ensures says { (world : World) → P.fits_poms source.old world → Holds world given.now store.old
         → Says (imported world given.now left pom.now building.now gav.now) result }
+    ensures replaced { IfOk result (λ entries. has_no_import entries ≡ true) }
     ensures fit { (world : World) → P.fits_poms source.old world → P.fits_poms source.new world }
     ensures holds { (world : World) → P.fits_poms source.old world → Holds world given.now store.old
         → Holds world given.now store.new }
@@ -159,6 +174,7 @@ fn import_entered<P: PomSource>(
     ensures says { (world : World) → P.fits_poms source.old world → Holds world given.now store.old
         → Says (import_found world given.now (imported world given.now left) pom.now
         building.now gav.now) result }
+    ensures replaced { IfOk result (λ entries. has_no_import entries ≡ true) }
     ensures fit { (world : World) → P.fits_poms source.old world → P.fits_poms source.new world }
     ensures holds { (world : World) → P.fits_poms source.old world → Holds world given.now store.old
         → Holds world given.now store.new }
@@ -186,6 +202,7 @@ fn import_read<P: PomSource>(
     ensures says { (world : World) → P.fits_poms source.old world → Holds world given.now store.old
         → Says (managed_of (whole world given.now (imported world given.now left raw.now.pom
         (next_poms building.now raw.now.pom)) raw.now)) result }
+    ensures replaced { IfOk result (λ entries. has_no_import entries ≡ true) }
     ensures fit { (world : World) → P.fits_poms source.old world → P.fits_poms source.new world }
     ensures holds { (world : World) → P.fits_poms source.old world → Holds world given.now store.old
         → Holds world given.now store.new }
@@ -210,6 +227,7 @@ pub(crate) fn whole<P: PomSource>(
     ensures says { (world : World) → P.fits_poms source.old world → Holds world given.now store.old
         → Says (whole world given.now (imported world given.now left raw.now.pom building.now)
         raw.now) result }
+    ensures lawful { IfOk result IsLawful }
     ensures fit { (world : World) → P.fits_poms source.old world → P.fits_poms source.new world }
     ensures holds { (world : World) → P.fits_poms source.old world → Holds world given.now store.old
         → Holds world given.now store.new }
@@ -240,6 +258,7 @@ fn imports<P: PomSource>(
     ensures says { (world : World) → P.fits_poms source.old world → Holds world given.now store.old
         → Says (imports_from pom.now (imported world given.now left pom.now building.now) []
         full.now.base.managed) result }
+    ensures replaced { IfOk result (λ lists. list_all has_no_import lists ≡ true) }
     ensures fit { (world : World) → P.fits_poms source.old world → P.fits_poms source.new world }
     ensures holds { (world : World) → P.fits_poms source.old world → Holds world given.now store.old
         → Holds world given.now store.new }
@@ -270,6 +289,7 @@ fn entry<P: PomSource>(
 ) -> Result<List<Entries>, BuildFault>
     ensures says { (world : World) → P.fits_poms source.old world → Holds world given.now store.old
         → Says (entry pom.now (imported world given.now left pom.now building.now) item.now) result }
+    ensures replaced { IfOk result (λ lists. list_all has_no_import lists ≡ true) }
     ensures fit { (world : World) → P.fits_poms source.old world → P.fits_poms source.new world }
     ensures holds { (world : World) → P.fits_poms source.old world → Holds world given.now store.old
         → Holds world given.now store.new }

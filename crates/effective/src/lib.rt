@@ -4,5 +4,7 @@
 
 mod asked;
 mod imports;
+pub mod law;
 
 pub use asked::{effective, effective_with};
+pub use law::{import_stays, imports_are_models};

@@ -1,5 +1,9 @@
-ghost use Rattle.std.specs.Prelude.{◌≡◌, IfOk};
+ghost use Rattle.std.specs.Prelude.{◌≡◌, None, IfOk, OnErr, OnOk};
+ghost use Rattle.std.specs.FinMap as map;
 ghost use Rattle.std.specs.Option.{option_copied};
+ghost use Rattle.mvn_base.specs.declared.gav.Gav as gavs;
+ghost use Rattle.pom_source.specs.Worlds.{World};
+ghost use Rattle.source_mem.specs.Poms.{Fits, calls_in, files_in, found_in, with_found};
 
 use mvn_base::Gav;
 use mvn_outside::{DeviceFault, Files};
@@ -27,7 +31,7 @@ fn copy_of(found: &Found) -> Mem<Found>
 }
 
 fn copy_at(found: Option<&Found>) -> Mem<Option<Found>>
-    ensures { IfOk result (λ copy. copy ≡ option_copied found) }
+    ensures { IfOk result (λ copy. copy ≡ option_copied found.entry) }
 {
     match found {
         Some(found) => Ok(Some(copy_of(found)?)),
@@ -36,7 +40,7 @@ fn copy_at(found: Option<&Found>) -> Mem<Option<Found>>
 }
 
 fn bytes_at(found: Option<&Bytes>) -> Mem<Option<Bytes>>
-    ensures { IfOk result (λ copy. copy ≡ option_copied found) }
+    ensures { IfOk result (λ copy. copy ≡ option_copied found.entry) }
 {
     match found {
         Some(bytes) => Ok(Some(bytes.clone()?)),
@@ -46,7 +50,11 @@ fn bytes_at(found: Option<&Bytes>) -> Mem<Option<Bytes>>
 
 impl<F: Drop> MemPoms<F> {
     /// No POMs yet. Takes no memory.
-    pub fn new(alloc: Global, calls: F) -> MemPoms<F> {
+    pub fn new(alloc: Global, calls: F) -> MemPoms<F>
+        ensures files { files_in result ≡ map.empty }
+        ensures found { (gav : gavs.Gav) → found_in result gav ≡ None }
+        ensures calls { calls_in result ≡ calls }
+    {
         MemPoms {
             files: FileMap::new(alloc),
             found: HashMap::new(alloc),
@@ -54,16 +62,35 @@ impl<F: Drop> MemPoms<F> {
         }
     }
 
-    /// Puts a file at a path of the project, in place of another.
-    pub fn put_file(&mut self, path: Text, bytes: Bytes) -> Mem<()> {
+    /// Puts a file at a path of the project, in place of another. In logarithmic time.
+    pub fn put_file(&mut self, path: Text, bytes: Bytes) -> Mem<()>
+        ensures ok { OnOk result (files_in self.new ≡ map.insert (files_in self.old) path bytes) }
+        ensures err { OnErr result (files_in self.new ≡ files_in self.old) }
+        ensures found { (gav : gavs.Gav) → found_in self.new gav ≡ found_in self.old gav }
+        ensures calls { calls_in self.new ≡ calls_in self.old }
+    {
         self.files.insert(path, bytes)
     }
 
-    /// Puts a POM under coordinates, in place of another.
-    pub fn put_found(&mut self, gav: Gav, found: Found) -> Mem<()> {
+    /// Puts a POM under coordinates, in place of another. Costs the coordinates, on the average.
+    pub fn put_found(&mut self, gav: Gav, found: Found) -> Mem<()>
+        ensures ok { OnOk result ((other : gavs.Gav) → found_in self.new other
+            ≡ with_found (found_in self.old) gav found other) }
+        ensures err { OnErr result ((other : gavs.Gav) → found_in self.new other
+            ≡ found_in self.old other) }
+        ensures files { files_in self.new ≡ files_in self.old }
+        ensures calls { calls_in self.new ≡ calls_in self.old }
+    {
         self.found.insert(gav, found)?;
         Ok(())
     }
+
+    /// A law of POMs in memory: there is a world that they fit. So a clause for each world that fits says something of them. It does
+    /// nothing when it runs. Project rule.
+    pub fn fits_a_world(&self)
+        ensures { (world : World) × Fits (files_in self.now)
+            (λ (gav : gavs.Gav). found_in self.now gav) world }
+    {}
 }
 
 impl<F: Failures> Files for MemPoms<F> {

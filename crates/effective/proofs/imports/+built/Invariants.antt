@@ -1,7 +1,9 @@
-use Rattle.std.proofs.Common.{◌≡◌, ◌+◌, ◌*◌, List, [], drop}
+use Rattle.std.proofs.Common.{◌≡◌, ◌+◌, ◌*◌, true, [], drop}
+use Rattle.std.specs.List.{list_all}
 use Rattle.pom_source.specs.Worlds.{World}
 use Rattle.pom_lineage.specs.Stores.{Holds}
 use Rattle.effective.specs.Effective.{imported, imports_from}
+use Rattle.model_steps.specs.Valid.{has_no_import}
 use Rattle.effective.proofs.imports.+built.Given as goal
 
 abbrev pub decreases-imported : goal.decreases-imported
@@ -23,4 +25,4 @@ abbrev pub decreases-entry : goal.decreases-entry
 decreases-entry g l = 6 * l.left + 1
 
 abbrev pub invariant-imports-loop-item : goal.invariant-imports-loop-item
-invariant-imports-loop-item g l = ((world : World) → g.P.PomSource.fits_poms l.initial.source world → g.P.PomSource.fits_poms l.source world) × (g.P.Files.faults l.source ≡ g.P.Files.faults l.initial.source) × ((world : World) → g.P.PomSource.fits_poms l.initial.source world → Holds world l.given l.initial.store → Holds world l.given l.store × (imports_from l.pom (imported world l.given l.left l.pom l.building) l.done (drop l.item-index l.item-items) ≡ imports_from l.pom (imported world l.given l.left l.pom l.building) [] l.item-items))
+invariant-imports-loop-item g l = ((world : World) → g.P.PomSource.fits_poms l.initial.source world → g.P.PomSource.fits_poms l.source world) × (list_all has_no_import l.done ≡ true) × (g.P.Files.faults l.source ≡ g.P.Files.faults l.initial.source) × ((world : World) → g.P.PomSource.fits_poms l.initial.source world → Holds world l.given l.initial.store → Holds world l.given l.store × (imports_from l.pom (imported world l.given l.left l.pom l.building) l.done (drop l.item-index l.item-items) ≡ imports_from l.pom (imported world l.given l.left l.pom l.building) [] l.item-items))

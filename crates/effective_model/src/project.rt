@@ -1,5 +1,6 @@
 // The POMs of a project on a disk, and their effective models.
-use crate::library::{LIMIT, read_library};
+use crate::library::read_library;
+use crate::reading::pom_bytes;
 use effective::effective_with;
 use model_json::write_model_json;
 use mvn_base::{Choice, Machine, PomId};
@@ -53,22 +54,62 @@ fn fault_text(alloc: Global, fault: &BuildFault) -> anyhow::Result<String> {
     Ok(text)
 }
 
+// Whether a file is read as a POM: the others are only there.
+fn is_text(path: &str) -> bool {
+    path.ends_with(".xml") || path.ends_with(".pom")
+}
+
+// Whether a file is the POM of its folder.
+fn is_pom(path: &str) -> bool {
+    path == "pom.xml" || path.ends_with("/pom.xml")
+}
+
 impl Project {
-    // A POM of the project, by its path and by its coordinates.
-    fn put(&mut self, alloc: Global, path: &Text, bytes: Bytes) -> anyhow::Result<()> {
+    // A POM of the project under its coordinates.
+    fn put_pom(&mut self, alloc: Global, path: &Text, bytes: &Bytes) -> anyhow::Result<()> {
         let pom = PomId::Path(path.clone()?);
-        if let Ok(raw) = read(alloc, &pom, &bytes) {
+        if let Ok(raw) = read(alloc, &pom, bytes) {
             let gav = raw_gav(alloc, &raw)?;
             let bytes = bytes.clone()?;
             self.source.put_found(gav, Found { pom, bytes })?;
         }
-        self.source.put_file(path.clone()?, bytes)?;
-        self.paths.push(path.clone()?)?;
+        Ok(())
+    }
+
+    // A file of the project.
+    fn put(&mut self, alloc: Global, path: &Text, bytes: Bytes) -> anyhow::Result<()> {
+        if is_pom(path.as_str()) {
+            self.put_pom(alloc, path, &bytes)?;
+            self.paths.push(path.clone()?)?;
+        }
+        Ok(self.source.put_file(path.clone()?, bytes)?)
+    }
+
+    // The files of the project, the last by path first, so that of equal coordinates the first counts.
+    fn put_files(&mut self, rt: &HostRuntime, folder: &str) -> anyhow::Result<()> {
+        let alloc = rt.alloc();
+        let mut tree = RealTree::new(rt, Text::from_str(alloc, folder)?);
+        for path in tree
+            .list(&Text::from_str(alloc, "")?)?
+            .as_slice()
+            .iter()
+            .rev()
+        {
+            if !is_text(path.as_str()) {
+                self.put(alloc, path, Bytes::of(Vec::new(alloc)))?;
+            } else if let Some(bytes) = pom_bytes(&mut tree, alloc, path)? {
+                self.put(alloc, path, bytes)?;
+            }
+        }
         Ok(())
     }
 
     /// The POMs of a project, and those of a repository.
-    pub(crate) fn read(rt: &HostRuntime, folder: &str, repository: &str) -> anyhow::Result<Project> {
+    pub(crate) fn read(
+        rt: &HostRuntime,
+        folder: &str,
+        repository: &str,
+    ) -> anyhow::Result<Project> {
         let alloc = rt.alloc();
         let mut project = Project {
             source: MemPoms::new(alloc, NoFailures),
@@ -77,14 +118,8 @@ impl Project {
         if !repository.is_empty() {
             read_library(rt, &mut project.source, repository)?;
         }
-        let mut tree = RealTree::new(rt, Text::from_str(alloc, folder)?);
-        for path in tree.list(&Text::from_str(alloc, "")?)?.as_slice() {
-            if path.as_str().ends_with("pom.xml") {
-                if let Some(bytes) = tree.read(path, LIMIT)? {
-                    project.put(alloc, path, bytes)?;
-                }
-            }
-        }
+        project.put_files(rt, folder)?;
+        project.paths.reverse();
         Ok(project)
     }
 

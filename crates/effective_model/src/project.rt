@@ -5,7 +5,7 @@ use effective::effective_with;
 use model_json::write_model_json;
 use mvn_base::{Choice, Machine, PomId};
 use mvn_outside::Tree;
-use mvn_shared::{Bytes, List, Text};
+use mvn_shared::{Bytes, List, OutOfMemory, Text};
 use outside_mem::NoFailures;
 use outside_real::RealTree;
 use pom_lineage::{Store, raw_gav, read};
@@ -54,26 +54,25 @@ fn fault_text(alloc: Global, fault: &BuildFault) -> anyhow::Result<String> {
     Ok(text)
 }
 
-// Whether a file is read as a POM: the others are only there.
-fn is_text(path: &str) -> bool {
-    path.ends_with(".xml") || path.ends_with(".pom")
-}
-
 // Whether a file is the POM of its folder.
 fn is_pom(path: &str) -> bool {
     path == "pom.xml" || path.ends_with("/pom.xml")
 }
 
 impl Project {
-    // A POM of the project under its coordinates.
+    // A POM of the project under its coordinates. One that is refused has none.
     fn put_pom(&mut self, alloc: Global, path: &Text, bytes: &Bytes) -> anyhow::Result<()> {
         let pom = PomId::Path(path.clone()?);
-        if let Ok(raw) = read(alloc, &pom, bytes) {
-            let gav = raw_gav(alloc, &raw)?;
-            let bytes = bytes.clone()?;
-            self.source.put_found(gav, Found { pom, bytes })?;
+        match read(alloc, &pom, bytes) {
+            Ok(raw) => {
+                let gav = raw_gav(alloc, &raw)?;
+                let bytes = bytes.clone()?;
+                self.source.put_found(gav, Found { pom, bytes })?;
+                Ok(())
+            }
+            Err(BuildFault::Memory) => Err(OutOfMemory.into()),
+            Err(_) => Ok(()),
         }
-        Ok(())
     }
 
     // A file of the project.
@@ -95,9 +94,7 @@ impl Project {
             .iter()
             .rev()
         {
-            if !is_text(path.as_str()) {
-                self.put(alloc, path, Bytes::of(Vec::new(alloc)))?;
-            } else if let Some(bytes) = pom_bytes(&mut tree, alloc, path)? {
+            if let Some(bytes) = pom_bytes(&mut tree, alloc, path)? {
                 self.put(alloc, path, bytes)?;
             }
         }
@@ -139,21 +136,24 @@ impl Project {
         Ok(())
     }
 
-    /// Prints how many models there are, and how long their JSON is.
+    /// Prints how many POMs have a model, and of how many dependencies and plugins.
     pub(crate) fn count(&mut self, rt: &HostRuntime) -> anyhow::Result<()> {
         let alloc = rt.alloc();
         let given = given(alloc)?;
         let mut store = Store::new(alloc);
-        let mut models = 0u32;
-        let mut written = 0usize;
+        let (mut models, mut dependencies, mut plugins) = (0usize, 0usize, 0usize);
         for path in self.paths.as_slice() {
             let pom = PomId::Path(path.clone()?);
             if let Ok(model) = effective_with(alloc, &mut store, &mut self.source, &given, &pom) {
                 models = models.saturating_add(1);
-                written = written.saturating_add(write_model_json(alloc, &model)?.len());
+                dependencies = dependencies.saturating_add(model.base.dependencies.len());
+                plugins = plugins.saturating_add(model.build.base.plugins.len());
             }
         }
-        println!(rt; "{models} models, {written} bytes")?;
+        let poms = self.paths.len();
+        println!(rt;
+            "{models} models of {poms} POMs, {dependencies} dependencies, {plugins} plugins"
+        )?;
         Ok(())
     }
 }

@@ -5,7 +5,7 @@ use effective::effective_with;
 use model_json::write_model_json;
 use mvn_base::{Choice, Machine, PomId};
 use mvn_outside::Tree;
-use mvn_shared::{Bytes, List, OutOfMemory, Text};
+use mvn_shared::{Bytes, List, Mem, OutOfMemory, Text};
 use outside_mem::NoFailures;
 use outside_real::RealTree;
 use pom_lineage::{Store, raw_gav, read};
@@ -20,18 +20,29 @@ pub(crate) struct Project {
     paths: Vec<Text>,
 }
 
-// A machine whose root is `/w`.
-fn given(alloc: Global) -> anyhow::Result<Given> {
-    let machine = Machine {
-        root: Text::from_str(alloc, "/w")?,
+// A machine with Linux.
+fn linux(alloc: Global, root: Text, jdk: Text) -> Mem<Machine> {
+    let os_name = Text::from_str(alloc, "Linux")?;
+    let os_family = Text::from_str(alloc, "unix")?;
+    let os_arch = Text::from_str(alloc, "amd64")?;
+    let os_version = Text::from_str(alloc, "6.1")?;
+    Ok(Machine {
+        root,
         env: List::new(alloc),
         system: List::new(alloc),
-        jdk: Text::from_str(alloc, "17.0.1")?,
-        os_name: Text::from_str(alloc, "Linux")?,
-        os_family: Text::from_str(alloc, "unix")?,
-        os_arch: Text::from_str(alloc, "amd64")?,
-        os_version: Text::from_str(alloc, "6.1")?,
-    };
+        jdk,
+        os_name,
+        os_family,
+        os_arch,
+        os_version,
+    })
+}
+
+// No variables, no defined properties and no chosen profiles, and a machine whose root is `/w`.
+fn given(alloc: Global) -> Mem<Given> {
+    let root = Text::from_str(alloc, "/w")?;
+    let jdk = Text::from_str(alloc, "17.0.1")?;
+    let machine = linux(alloc, root, jdk)?;
     let choice = Choice {
         on: List::new(alloc),
         off: List::new(alloc),

@@ -1,6 +1,6 @@
 -- Worked examples: what stands in the JSON, character by character. Keys stand in byte order, what is absent is left out, and lists are
 -- there even when empty.
-use Rattle.std.proofs.Common.{◌≡◌, ℕ, true, List, [], ◌∷◌, ◌++◌, codes, Some, None, refl}
+use Rattle.std.proofs.Common.{◌≡◌, ℕ, true, List, [], ◌∷◌, codes, Some, None, refl}
 use Rattle.serde_json.specs.Written.{compact_text}
 use Rattle.serde_json.proofs.OnLiterals.{serde_json_on_literals}
 use Rattle.mvn_base.specs.Gav.{gav_text}

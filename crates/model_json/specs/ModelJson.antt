@@ -2,7 +2,7 @@
 -- absent is left out, and a list is always there, but for an empty configuration. Project rule.
 use Rattle.std.specs.Prelude.{ℕ, List, [], ◌∷◌, ◌++◌, codes, fold, Option, None, Some}
 use Rattle.std.specs.Str.{bytes_eq}
-use Rattle.serde_json.specs.Data.{Data, Members, array, boolean, no_members, object, put, string}
+use Rattle.serde_json.specs.Data.{Data, Members, boolean, no_members, object, put, string}
 use Rattle.serde_json.specs.Written.{compact_text}
 use Rattle.goal_types.specs.Requests.{list_data, setting_data}
 use Rattle.mvn_base.specs.Gav.{gav_text}

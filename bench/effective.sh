@@ -1,10 +1,24 @@
 #!/usr/bin/env bash
-# How the time of effective models grows with the number of modules, as ratios in one run of the built program `effective_model`: modules of
-# ten dependencies each, over one parent that manages 200 dependencies and 40 plugins. A ratio of the numbers is a constant time a module.
-# The empty case is a project of the parent alone.
+# How the time of effective models grows with the number of modules, in runs of the program `effective_model`, the one that EFFECTIVE_MODEL
+# names or the built one: modules of ten dependencies each, over one parent that manages 200 dependencies and 40 plugins. A run reads the
+# POMs and builds each model, on one processor. A ratio that is that of the numbers is a constant time a module, which is printed too. The
+# empty case is a project of the parent alone. usage: bench/effective.sh [NUMBER OF MODULES ..]
+[ -z "${EFFECTIVE_MODEL-}" ] || EFFECTIVE_MODEL=$(realpath -m -- "$EFFECTIVE_MODEL")
 . "$(dirname "$0")/common.sh"
-want crates/effective_model/out/effective_model '(cd crates/effective_model && rt run)'
+if [ -n "${EFFECTIVE_MODEL-}" ]; then
+  program=$EFFECTIVE_MODEL
+  [ -x "$program" ] || stop "there is no program $program"
+  cd "$work"
+else
+  want crates/effective_model/out/effective_model '(cd crates/effective_model && rt run)'
+fi
 once() { "$program" < in > out; }
+
+# NUMBER: ends the script where not each of as many modules and their parent has a model, so that no refusal passes as speed
+counted() {
+  local poms=$(($1 + 1))
+  [[ $(cat out) == "$poms models of $poms POMs, $(($1 * 10)) dependencies, "* ]] || stop "of $1 modules and their parent the program says: $(cat out)"
+}
 
 head='<project><modelVersion>4.0.0</modelVersion>'
 gav='<groupId>demo</groupId><artifactId>root</artifactId><version>1.0</version>'
@@ -40,10 +54,15 @@ module() {
 parent p0
 printf 'count p0\n' > in
 base=$(least 5)
+counted 0
 first=
-for number in 250 500 1000; do
+[ $# != 0 ] || set -- 250 500 1000
+for number in "$@"; do
   parent "p$number"
   for i in $(seq "$number"); do module "p$number" "$i"; done
   printf 'count p%s\n' "$number" > in
-  row 'modules' "$number" $(($(least 3) - base))
+  spent=$(($(least 3) - base))
+  counted "$number"
+  row 'modules' "$number" "$spent"
+  awk -v spent="$spent" -v number="$number" 'BEGIN { printf "  that is %.3f ms a module\n", spent / 1e6 / number }'
 done

@@ -1,4 +1,5 @@
 // The POMs of a repository on a disk.
+use crate::reading::pom_bytes;
 use mvn_base::{Gav, PomId};
 use mvn_outside::Tree;
 use mvn_shared::Text;
@@ -7,9 +8,6 @@ use outside_real::RealTree;
 use pom_source::Found;
 use source_mem::MemPoms;
 use std::alloc::Global;
-
-/// How many bytes are read of a POM.
-pub(crate) const LIMIT: u64 = 1_048_576;
 
 // The group that folders stand for.
 fn group_of(alloc: Global, folders: &str) -> anyhow::Result<Text> {
@@ -23,9 +21,16 @@ fn group_of(alloc: Global, folders: &str) -> anyhow::Result<Text> {
     Ok(Text::of(group))
 }
 
-// The coordinates of a POM by its path in a repository.
+// Whether a file has the name of the POM of an artifact's version.
+fn is_pom_name(name: &str, artifact: &str, version: &str) -> bool {
+    let rest = name.strip_prefix(artifact).unwrap_or("");
+    let rest = rest.strip_prefix("-").unwrap_or("");
+    rest.strip_prefix(version).unwrap_or("") == ".pom"
+}
+
+// The coordinates of a POM by its path in a repository: the group's folders, the artifact's, the version's, and the file.
 fn gav_at(alloc: Global, path: &str) -> anyhow::Result<Option<Gav>> {
-    let Some((folder, _)) = path.rsplit_once('/') else {
+    let Some((folder, name)) = path.rsplit_once('/') else {
         return Ok(None);
     };
     let Some((above, version)) = folder.rsplit_once('/') else {
@@ -34,6 +39,9 @@ fn gav_at(alloc: Global, path: &str) -> anyhow::Result<Option<Gav>> {
     let Some((folders, artifact)) = above.rsplit_once('/') else {
         return Ok(None);
     };
+    if !is_pom_name(name, artifact, version) {
+        return Ok(None);
+    }
     Ok(Some(Gav {
         group: group_of(alloc, folders)?,
         artifact: Text::from_str(alloc, artifact)?,
@@ -50,10 +58,10 @@ pub(crate) fn read_library(
     let alloc = rt.alloc();
     let mut tree = RealTree::new(rt, Text::from_str(alloc, folder)?);
     for path in tree.list(&Text::from_str(alloc, "")?)?.as_slice() {
-        if !path.as_str().ends_with(".pom") {
+        let Some(gav) = gav_at(alloc, path.as_str())? else {
             continue;
-        }
-        if let (Some(gav), Some(bytes)) = (gav_at(alloc, path.as_str())?, tree.read(path, LIMIT)?) {
+        };
+        if let Some(bytes) = pom_bytes(&mut tree, alloc, path)? {
             let pom = PomId::Gav(gav.clone()?);
             source.put_found(gav, Found { pom, bytes })?;
         }

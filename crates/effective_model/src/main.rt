@@ -1,14 +1,22 @@
-//! Effective models of the POMs on a disk. Each line of standard input is a word and two folders, of a project and of a repository: for
-//! `print`, each POM of the project by its path, ascending, with its effective model as JSON or why it has none; for `count`, how many
-//! models there are, and how many bytes of JSON.
+//! Effective models of the POMs on a disk. Each line of standard input is a word, the folder of a project and the folder of a repository,
+//! of which the last may be left out. For `print`, each file `pom.xml` below the project's folder by its path, ascending, with its
+//! effective model as JSON or why it has none; for any other word, how many have a model, and of how many dependencies and plugins. A POM
+//! is looked up by its coordinates in the project first; of equal ones the first by path counts. The project's folder counts as `/w`, and
+//! the machine as one with JDK 17.0.1 and Linux.
 #![tactic(auto)]
 
 mod library;
 mod project;
+mod reading;
 
 use project::Project;
 
-fn print_lines(rt: &HostRuntime, word: &str, project: &str, repository: &str) -> anyhow::Result<()> {
+fn print_lines(
+    rt: &HostRuntime,
+    word: &str,
+    project: &str,
+    repository: &str,
+) -> anyhow::Result<()> {
     let mut project = Project::read(rt, project, repository)?;
     match word {
         "print" => project.print(rt),

@@ -1,10 +1,11 @@
 // The POMs of a project on a disk, and their effective models.
-use crate::library::{LIMIT, read_library};
+use crate::library::read_library;
+use crate::reading::pom_bytes;
 use effective::effective_with;
 use model_json::write_model_json;
 use mvn_base::{Choice, Machine, PomId};
 use mvn_outside::Tree;
-use mvn_shared::{Bytes, List, Text};
+use mvn_shared::{Bytes, List, Mem, OutOfMemory, Text};
 use outside_mem::NoFailures;
 use outside_real::RealTree;
 use pom_lineage::{Store, raw_gav, read};
@@ -19,18 +20,29 @@ pub(crate) struct Project {
     paths: Vec<Text>,
 }
 
-// A machine whose root is `/w`.
-fn given(alloc: Global) -> anyhow::Result<Given> {
-    let machine = Machine {
-        root: Text::from_str(alloc, "/w")?,
+// A machine with Linux.
+fn linux(alloc: Global, root: Text, jdk: Text) -> Mem<Machine> {
+    let os_name = Text::from_str(alloc, "Linux")?;
+    let os_family = Text::from_str(alloc, "unix")?;
+    let os_arch = Text::from_str(alloc, "amd64")?;
+    let os_version = Text::from_str(alloc, "6.1")?;
+    Ok(Machine {
+        root,
         env: List::new(alloc),
         system: List::new(alloc),
-        jdk: Text::from_str(alloc, "17.0.1")?,
-        os_name: Text::from_str(alloc, "Linux")?,
-        os_family: Text::from_str(alloc, "unix")?,
-        os_arch: Text::from_str(alloc, "amd64")?,
-        os_version: Text::from_str(alloc, "6.1")?,
-    };
+        jdk,
+        os_name,
+        os_family,
+        os_arch,
+        os_version,
+    })
+}
+
+// No variables, no defined properties and no chosen profiles, and a machine whose root is `/w`.
+fn given(alloc: Global) -> Mem<Given> {
+    let root = Text::from_str(alloc, "/w")?;
+    let jdk = Text::from_str(alloc, "17.0.1")?;
+    let machine = linux(alloc, root, jdk)?;
     let choice = Choice {
         on: List::new(alloc),
         off: List::new(alloc),
@@ -53,22 +65,59 @@ fn fault_text(alloc: Global, fault: &BuildFault) -> anyhow::Result<String> {
     Ok(text)
 }
 
+// Whether a file is the POM of its folder.
+fn is_pom(path: &str) -> bool {
+    path == "pom.xml" || path.ends_with("/pom.xml")
+}
+
 impl Project {
-    // A POM of the project, by its path and by its coordinates.
-    fn put(&mut self, alloc: Global, path: &Text, bytes: Bytes) -> anyhow::Result<()> {
+    // A POM of the project under its coordinates. One that is refused has none.
+    fn put_pom(&mut self, alloc: Global, path: &Text, bytes: &Bytes) -> anyhow::Result<()> {
         let pom = PomId::Path(path.clone()?);
-        if let Ok(raw) = read(alloc, &pom, &bytes) {
-            let gav = raw_gav(alloc, &raw)?;
-            let bytes = bytes.clone()?;
-            self.source.put_found(gav, Found { pom, bytes })?;
+        match read(alloc, &pom, bytes) {
+            Ok(raw) => {
+                let gav = raw_gav(alloc, &raw)?;
+                let bytes = bytes.clone()?;
+                self.source.put_found(gav, Found { pom, bytes })?;
+                Ok(())
+            }
+            Err(BuildFault::Memory) => Err(OutOfMemory.into()),
+            Err(_) => Ok(()),
         }
-        self.source.put_file(path.clone()?, bytes)?;
-        self.paths.push(path.clone()?)?;
+    }
+
+    // A file of the project.
+    fn put(&mut self, alloc: Global, path: &Text, bytes: Bytes) -> anyhow::Result<()> {
+        if is_pom(path.as_str()) {
+            self.put_pom(alloc, path, &bytes)?;
+            self.paths.push(path.clone()?)?;
+        }
+        Ok(self.source.put_file(path.clone()?, bytes)?)
+    }
+
+    // The files of the project, the last by path first, so that of equal coordinates the first counts.
+    fn put_files(&mut self, rt: &HostRuntime, folder: &str) -> anyhow::Result<()> {
+        let alloc = rt.alloc();
+        let mut tree = RealTree::new(rt, Text::from_str(alloc, folder)?);
+        for path in tree
+            .list(&Text::from_str(alloc, "")?)?
+            .as_slice()
+            .iter()
+            .rev()
+        {
+            if let Some(bytes) = pom_bytes(&mut tree, alloc, path)? {
+                self.put(alloc, path, bytes)?;
+            }
+        }
         Ok(())
     }
 
     /// The POMs of a project, and those of a repository.
-    pub(crate) fn read(rt: &HostRuntime, folder: &str, repository: &str) -> anyhow::Result<Project> {
+    pub(crate) fn read(
+        rt: &HostRuntime,
+        folder: &str,
+        repository: &str,
+    ) -> anyhow::Result<Project> {
         let alloc = rt.alloc();
         let mut project = Project {
             source: MemPoms::new(alloc, NoFailures),
@@ -77,14 +126,8 @@ impl Project {
         if !repository.is_empty() {
             read_library(rt, &mut project.source, repository)?;
         }
-        let mut tree = RealTree::new(rt, Text::from_str(alloc, folder)?);
-        for path in tree.list(&Text::from_str(alloc, "")?)?.as_slice() {
-            if path.as_str().ends_with("pom.xml") {
-                if let Some(bytes) = tree.read(path, LIMIT)? {
-                    project.put(alloc, path, bytes)?;
-                }
-            }
-        }
+        project.put_files(rt, folder)?;
+        project.paths.reverse();
         Ok(project)
     }
 
@@ -104,21 +147,24 @@ impl Project {
         Ok(())
     }
 
-    /// Prints how many models there are, and how long their JSON is.
+    /// Prints how many POMs have a model, and of how many dependencies and plugins.
     pub(crate) fn count(&mut self, rt: &HostRuntime) -> anyhow::Result<()> {
         let alloc = rt.alloc();
         let given = given(alloc)?;
         let mut store = Store::new(alloc);
-        let mut models = 0u32;
-        let mut written = 0usize;
+        let (mut models, mut dependencies, mut plugins) = (0usize, 0usize, 0usize);
         for path in self.paths.as_slice() {
             let pom = PomId::Path(path.clone()?);
             if let Ok(model) = effective_with(alloc, &mut store, &mut self.source, &given, &pom) {
                 models = models.saturating_add(1);
-                written = written.saturating_add(write_model_json(alloc, &model)?.len());
+                dependencies = dependencies.saturating_add(model.base.dependencies.len());
+                plugins = plugins.saturating_add(model.build.base.plugins.len());
             }
         }
-        println!(rt; "{models} models, {written} bytes")?;
+        let poms = self.paths.len();
+        println!(rt;
+            "{models} models of {poms} POMs, {dependencies} dependencies, {plugins} plugins"
+        )?;
         Ok(())
     }
 }

@@ -1,8 +1,8 @@
--- An effective model as JSON: compact, the keys of each object in byte order; an optional value that is absent is left out, and a list
--- is always there, but for an empty configuration. Project rule.
+-- An effective model as JSON: compact, the keys of each object in byte order, which is where `put` puts them; an optional value that is
+-- absent is left out, and a list is always there, but for an empty configuration. Project rule.
 use Rattle.std.specs.Prelude.{ℕ, List, [], ◌∷◌, ◌++◌, codes, fold, Option, None, Some}
 use Rattle.std.specs.Str.{bytes_eq}
-use Rattle.serde_json.specs.Data.{Data, Members, array, boolean, no_members, object, put, string}
+use Rattle.serde_json.specs.Data.{Data, Members, boolean, no_members, object, put, string}
 use Rattle.serde_json.specs.Written.{compact_text}
 use Rattle.goal_types.specs.Requests.{list_data, setting_data}
 use Rattle.mvn_base.specs.Gav.{gav_text}
@@ -84,7 +84,7 @@ source_members s ms =
 abbrev pub build_data : Build → Data
 build_data b = object (source_members b.sources (output_members b.outputs no_members))
 
--- properties as an object; of equal names the last one counts
+-- properties as an object, by their names
 abbrev pub property_at : Members → Pair → Members
 property_at ms p = put p.name (string p.value) ms
 

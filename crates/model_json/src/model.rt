@@ -128,8 +128,8 @@ fn model_value(alloc: Global, m: &Model) -> Mem<Value>
     Ok(Value::Object(ms))
 }
 
-/// An effective model as compact JSON, the keys of each object in byte order; an optional value that is absent is left out. Costs what it
-/// writes, and the sorting of keys. Project rule.
+/// An effective model as compact JSON, the keys of each object in byte order. An optional value that is absent is left out, and so is a
+/// configuration without settings; every other list is there. Costs what it writes, and the sorting of keys. Project rule.
 pub fn write_model_json(alloc: Global, model: &Model) -> Mem<Bytes>
     ensures { IfOk result (λ bytes. bytes ≡ model_json model.now) }
 {

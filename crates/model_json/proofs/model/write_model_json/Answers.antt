@@ -1,4 +1,4 @@
-use Rattle.std.proofs.Common.{sym, ap, ◌∙◌}
+use Rattle.std.proofs.Common.{ap, ◌∙◌}
 use Rattle.serde_json.specs.Written.{has_float, compact_text}
 use Rattle.model_json.proofs.NoFloats.{model_plain}
 use Rattle.model_json.proofs.model.write_model_json.Goals as goal

@@ -5,7 +5,7 @@ use Rattle.serde_json.specs.declared.value.Value.{Array}
 use Rattle.serde_json.proofs.Views.{view-Array}
 use Rattle.mvn_base.specs.declared.setting.Setting.TheViews.{out-Setting}
 use Rattle.goal_types.specs.Requests.{setting_object, setting_data}
-use Rattle.model_json.proofs.NoFloats.{setting_out}
+use Rattle.goal_types.proofs.Requests.{setting_out}
 use Rattle.model_json.proofs.setting.+setting.Goals as goal
 
 pub setting_value-returns : goal.setting_value-returns

@@ -1,0 +1,19 @@
+#!/usr/bin/env bash
+# Effective models of the small projects of tests/effective_rows, each worked out by hand from the POM Reference and Maven's guides:
+# compares what the program `effective_model` prints with what is written there. The program is the one that EFFECTIVE_MODEL names, or
+# crates/effective_model/out/effective_model. It needs python3. The words of the command line name the rows to try; without one all are.
+[ -z "${EFFECTIVE_MODEL-}" ] || EFFECTIVE_MODEL=$(realpath -m -- "$EFFECTIVE_MODEL")
+. "$(dirname "$0")/cases.sh"
+program=${EFFECTIVE_MODEL:-$PWD/crates/effective_model/out/effective_model}
+[ -x "$program" ] || stop "no $program here: call (cd crates/effective_model && rt run) first"
+[ $# != 0 ] || set -- tests/effective_rows/*.txt
+
+for row in "$@"; do
+  name=$(basename "$row" .txt)
+  if python3 tests/effective_rows.py "$program" "tests/effective_rows/$name.txt" "$work/$name" > "$work/told" 2>&1; then
+    pass "$name: $(tail -n 1 "$work/told")"
+  else
+    fail "$name" "$(cat "$work/told")"
+  fi
+done
+tell

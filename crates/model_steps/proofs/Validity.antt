@@ -27,6 +27,7 @@ first_of_three a b c p q r is_a is_b is_c = one_more a (b && c) p (option_or q r
     one_more false b (Some x) q is_a is_b = refl
     one_more true b (Some x) q is_a is_b = cc
     one_more false b None q is_a is_b = cc
+
     grouped : (a : Bool) → (a && (b && c)) ≡ (a && b && c)
     grouped true = refl
     grouped false = refl

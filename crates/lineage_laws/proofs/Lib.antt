@@ -1,6 +1,3 @@
-mod Filled
 mod Found
 mod Once
-mod Rooted
-mod Stated
 mod Whole

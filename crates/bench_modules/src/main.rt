@@ -83,6 +83,9 @@ fn main(rt: HostRuntime) -> anyhow::Result<()> {
         }
     }
     let n = number.unwrap_or(0);
+    if soft == 0 {
+        return print_order(&rt, n, &edges);
+    }
     let kept = kept(rt.alloc(), n, &edges, soft)?;
     print_order(&rt, n, kept.as_slice())
 }

@@ -123,7 +123,7 @@ module _ (plan : Plan) (number : ℕ) where
   kept_other past s over kept (event.End w x) what = ap (λ xs. answer_at xs number) (append-nil kept)
 
   -- where the build stands behind one entry more
-  next_is : (past : List RunEntry) (e : RunEntry) → standing_of_run plan (past ++ e ∷ []) ≡ after o (standing_of_run plan past) e.event
+  pub next_is : (past : List RunEntry) (e : RunEntry) → standing_of_run plan (past ++ e ∷ []) ≡ after o (standing_of_run plan past) e.event
   next_is past e = ap (standing_of o) (events_more past e) ∙ one_more o (events_of past) e.event
 
   -- what is over stays as it is, and keeps its outputs
@@ -233,13 +233,13 @@ there_after o now f (event.Answer w g) there is = there
 there_after o now f (event.End w x) there is = there
 
 -- so it is there at each later moment
-there_stays : (plan : Plan) (past rest : List RunEntry) (f : ℕ) → IsRun (outline_of plan) (events_of past) (events_of rest) → is_there (standing_of_run plan past).there f ≡ true → is_there (standing_of_run plan (past ++ rest)).there f ≡ true
+pub there_stays : (plan : Plan) (past rest : List RunEntry) (f : ℕ) → IsRun (outline_of plan) (events_of past) (events_of rest) → is_there (standing_of_run plan past).there f ≡ true → is_there (standing_of_run plan (past ++ rest)).there f ≡ true
 there_stays plan past rest f run there =
     subst (λ es. is_there (standing_of (outline_of plan) es).there f ≡ true) (sym (events_append past rest))
     (by_events (outline_of plan) (λ (now : Standing). is_there now.there f ≡ true) (λ now e there is. there_after (outline_of plan) now f e there is) (events_of past) (events_of rest) there run)
 
 -- what was published was published at each later moment
-put_stays : (past rest : List RunEntry) (f : ℕ) → was_published past f ≡ true → was_published (past ++ rest) f ≡ true
+pub put_stays : (past rest : List RunEntry) (f : ℕ) → was_published past f ≡ true → was_published (past ++ rest) f ≡ true
 put_stays [] rest f is = absurd (false≢true is)
 put_stays (e ∷ past) rest f is = by (publishes f e.event) is (put_stays past rest f)
   where

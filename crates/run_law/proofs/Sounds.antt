@@ -64,7 +64,7 @@ module _ (plan : Plan) (sound : IsSoundPlan plan) where
       by (inr (inr less)) = absurd (false≢true (sym (before_apart plan.files sound.files g f less a) ∙ ap (λ x. same_text x (name_of plan f)) (sym names) ∙ text_itself (name_of plan f)))
 
   -- a fetched file is the plan's
-  fetch_low : (f : ℕ) → IsFetchFile plan f → f < length plan.files
+  pub fetch_low : (f : ℕ) → IsFetchFile plan f → f < length plan.files
   fetch_low f x =
       let places = sound.places x.0 (module_outline x.1) (get_map module_outline plan.modules x.0 x.1 x.2) in
       let low = lt_is f (length plan.present) (all_listed (λ y. nat_lt y (length plan.present)) x.1.fetch places.fetch f x.3) in

@@ -71,7 +71,7 @@ refused true is = absurd (false≢true is)
 refused false is = refl
 
 -- the first of entries that are others' is, and so are those behind it
-split : (w : ℕ) (e : RunEntry) (rest : List RunEntry) → AreOthers w (e ∷ rest) → (is_of w e.event ≡ false) × AreOthers w rest
+pub split : (w : ℕ) (e : RunEntry) (rest : List RunEntry) → AreOthers w (e ∷ rest) → (is_of w e.event ≡ false) × AreOthers w rest
 split w e rest others =
     let parts = both (not (is_of w e.event)) (list_all (λ (x : RunEntry). not (is_of w x.event)) rest) others in
     (refused (is_of w e.event) parts.0, parts.1)

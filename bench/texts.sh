@@ -3,11 +3,16 @@
 # people write, elements in 63 others, one long text, white space, references alone, empty elements of three attributes, and
 # one comment that doesn't end. A tenth of each is measured beside it: ten times its time is what linear costs. Where xmllint
 # is installed, its SAX reader runs beside it on the same bytes, and the ratio is told, in which 0.5 is half of its speed; and
-# where GNU time is, the most memory that was resident.
+# where GNU time is, the most memory that was resident. The last lines tell what the model of a POM costs beside its text: the same
+# program reads both of a POM of dependencies, and the time of the text alone is taken off.
 . "$(dirname "$0")/common.sh"
 want crates/bench_elements/out/bench_elements '(cd crates/bench_elements && rt run)'
 once() {
-  if [ "$reader" = sax ]; then xmllint --sax --noout in > out.sax 2>&1 || true; else "$program" < in > out; fi
+  case $reader in
+    sax) xmllint --sax --noout in > out.sax 2>&1 || true ;;
+    model) "$program" model < in > out ;;
+    *) "$program" < in > out ;;
+  esac
 }
 
 # BYTES: a text of as many or a few less
@@ -34,6 +39,17 @@ unfinished() { printf '<r><!--'; head -c $(($1 - 8)) /dev/zero | tr '\0' '-'; }
 white() { printf '<r>'; head -c $(($1 - 8)) /dev/zero | tr '\0' ' '; printf '</r>'; }
 attributes() { awk -v most="$1" 'BEGIN { printf "<r>"; for (i = 0; (i + 1) * 47 + 7 < most; i++) printf "<b name=\"one\" second=\"two\" third=\"%010d\"/>", i; printf "</r>" }'; }
 
+# A POM whose dependencies stand in profiles of 1,000, since a list has at most 1,024 items
+modelled() {
+  awk -v most="$1" 'BEGIN {
+    print "<?xml version=\"1.0\" encoding=\"UTF-8\"?>\n<project xmlns=\"http://maven.apache.org/POM/4.0.0\">\n  <modelVersion>4.0.0</modelVersion>\n  <groupId>demo</groupId>\n  <artifactId>app</artifactId>\n  <version>1.0</version>\n  <profiles>"
+    for (i = 0; (i + 6) * 190 < most; i++) {
+      if (i % 1000 == 0) printf "%s    <profile>\n    <dependencies>\n", i ? "    </dependencies>\n    </profile>\n" : ""
+      printf "    <!-- number %06d -->\n    <dependency>\n      <groupId>org.example.group</groupId>\n      <artifactId>artifact-%06d</artifactId>\n      <version>1.2.%06d</version>\n    </dependency>\n", i, i, i
+    }
+    print "    </dependencies>\n    </profile>\n  </profiles>\n</project>" }'
+}
+
 # The kilobytes that were resident at most, or nothing where it can't be told
 resident() { [ -x /usr/bin/time ] || return 0; /usr/bin/time -f '%M KiB' "$program" < in 2>&1 > out | tail -n 1; }
 
@@ -56,4 +72,14 @@ for kind in dependencies nested long white references attributes unfinished; do
     awk -v kind="$kind" -v bytes="$(wc -c < in)" -v spent="$spent" -v ratio="$ratio" -v most="$(resident)" -v told="$(cat out)" \
       'BEGIN { printf "%-12s %7d bytes  %8.2f ms  %7.1f MB/s  %s  %s  %s\n", kind, bytes, spent / 1e6, bytes * 1e3 / spent, ratio, most, told }'
   done
+done
+
+for most in 104857 1048576; do
+  modelled "$most" > in
+  reader=own
+  spent=$(($(least 25) - base))
+  reader=model
+  both=$(($(least 25) - base))
+  awk -v bytes="$(wc -c < in)" -v spent="$spent" -v model="$((both - spent))" -v told="$(cat out)" \
+    'BEGIN { printf "model        %7d bytes  %8.2f ms beside %8.2f ms of the text  %5.2f of its time  %s\n", bytes, model / 1e6, spent / 1e6, model / spent, told }'
 done

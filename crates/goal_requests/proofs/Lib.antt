@@ -1,0 +1,7 @@
+mod Examples
+pub mod Arrays
+pub mod Cuts
+pub mod Settings
+pub mod Steps
+pub mod Taking
+pub mod Texts

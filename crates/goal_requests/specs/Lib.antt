@@ -1,0 +1,10 @@
+pub use Rattle.goal_types.specs.Answers
+pub use Rattle.goal_types.specs.Goals
+pub use Rattle.goal_types.specs.Lines
+pub mod Calls
+pub mod Lists
+pub mod Members
+pub mod Names
+pub mod Requests
+pub mod Settings
+pub mod Texts

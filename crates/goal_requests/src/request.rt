@@ -1,0 +1,90 @@
+// A goal's request, read from its bytes.
+ghost use Rattle.std.specs.Prelude.{◌≡◌, IfOk, IfSome, IsUtf8, None};
+ghost use Rattle.serde_json.specs.View.{view};
+ghost use Rattle.goal_types.specs.Goals.{HasOwnSlots};
+ghost use Rattle.goal_types.specs.Lines.{line_of};
+ghost use Rattle.goal_requests.specs.Requests.{lists_of, request_of, request_in};
+
+use crate::call::{call_in, gav_in};
+use crate::lists::list_in;
+use crate::members::keys_of;
+use goal_types::{GoalCall, GoalRequest, split_line};
+use mvn_base::Gav;
+use mvn_shared::{Mem, OutOfMemory};
+use serde_json::Value;
+use std::alloc::Global;
+
+/// The most bytes of a request. Project rule.
+pub const MOST_REQUEST: usize = 536_870_912;
+
+// A request of these, with its lists from the bytes behind the line, which they use up.
+fn lists_of(
+    alloc: Global,
+    gav: Gav,
+    call: GoalCall,
+    value: &Value,
+    bytes: &[u8],
+) -> Mem<Option<GoalRequest>>
+    ensures value { IfOk result (λ found. found ≡ lists_of gav call (view value.now) bytes.now) }
+    ensures slots { IfOk result (λ found. IfSome found (λ request. HasOwnSlots request.own)) }
+{
+    let Some((sources, rest)) = list_in(alloc, value, "sources", bytes)? else {
+        return Ok(None);
+    };
+    let Some((own, rest)) = list_in(alloc, value, "own", rest)? else {
+        return Ok(None);
+    };
+    let Some((classpath, rest)) = list_in(alloc, value, "classpath", rest)? else {
+        return Ok(None);
+    };
+    if !rest.is_empty() {
+        return Ok(None);
+    }
+    Ok(Some(GoalRequest {
+        module: gav,
+        call,
+        sources,
+        own,
+        classpath,
+    }))
+}
+
+// The request of a line's value, with what stands behind the line.
+fn request_of(alloc: Global, value: &Value, bytes: &[u8]) -> Mem<Option<GoalRequest>>
+    ensures value { IfOk result (λ found. found ≡ request_of (view value.now) bytes.now) }
+    ensures slots { IfOk result (λ found. IfSome found (λ request. HasOwnSlots request.own)) }
+{
+    if keys_of(value) != 11 {
+        return Ok(None);
+    }
+    let Some(gav) = gav_in(alloc, value)? else {
+        return Ok(None);
+    };
+    let Some(call) = call_in(alloc, value)? else {
+        return Ok(None);
+    };
+    lists_of(alloc, gav, call, value, bytes)
+}
+
+/// The request that bytes are: a line that is JSON with exactly the keys of a request, and behind it exactly the bytes that
+/// its lists count. None where they are none. The goal's slot and classpath are those that it has by default. Own format.
+/// Costs one pass and a copy.
+#[tactic(auto, unfolding(crate::specs::Requests::request_in))]
+pub fn read_request(alloc: Global, bytes: &[u8]) -> Mem<Option<GoalRequest>>
+    ensures text { IfOk result
+        (λ found. IsUtf8 (line_of bytes.now) → found ≡ request_in bytes.now) }
+    ensures no_text { IfOk result (λ found. ¬ (IsUtf8 (line_of bytes.now)) → found ≡ None) }
+    ensures slots { IfOk result (λ found. IfSome found (λ request. HasOwnSlots request.own)) }
+{
+    let Some((line, rest)) = split_line(bytes) else {
+        return Ok(None);
+    };
+    match Value::from_slice(alloc, line) {
+        Ok(value) => request_of(alloc, &value, rest),
+        Err(e) => if e.is_memory() {
+            Err(OutOfMemory)
+        } else {
+            Ok(None)
+        },
+    }
+}

@@ -1,7 +1,7 @@
 -- How winners grow, path by path.
 use Rattle.std.proofs.Common.{◌≡◌, ◌+◌, ℕ, suc, Bool, true, false, List, [], ◌∷◌, ◌++◌, length, Option, Some, None, is_some, Result, Ok, Err, refl, sym, ap, subst, ◌∙◌, arith, if◌then◌else◌, append-nil, append_assoc, length-append, All}
 use Rattle.std.specs.Option.{option_or}
-use Rattle.std.specs.Prelude.{codes, nat_lt}
+use Rattle.std.specs.Prelude.{codes, nat_lt, OnOk}
 use Rattle.std.proofs.lemmas.List.Elements.{All-push}
 use Rattle.mvn_base.specs.declared.rule.Rule.TheVariants.{GraphTooLarge}
 use Rattle.collector.specs.declared.edge.Edge.{Edge}
@@ -9,8 +9,8 @@ use Rattle.mediation.specs.declared.fault.MediationFault.{MediationFault}
 use Rattle.mediation.specs.declared.fault.MediationFault.TheVariants.{Refused, Lookup, Memory}
 use Rattle.mediation.specs.declared.winner.Winner.{Winner}
 use Rattle.mediation.specs.Faults.{Reason, Says}
-use Rattle.mediation.specs.Libraries.{Libraries, chosen, picked}
-use Rattle.mediation.specs.Rows.{Adds, Grows, IsPicked, Leads, first_reason, paths_of, reason, reason_at, row_of}
+use Rattle.mediation.specs.Libraries.{Libraries, chosen, gav_of, picked}
+use Rattle.mediation.specs.Rows.{Adds, Grows, IsPicked, Leads, first_reason, paths_of, reason, reason_at, row_of, won_by}
 use Rattle.winner_law.specs.Winners.{Path, firsts, is_won, winner_of}
 use Rattle.mediation.proofs.Paths.{above_is, has_path, length_paths, path_more}
 
@@ -122,13 +122,13 @@ module _ (libraries : Libraries) where
 
   -- a path whose key isn't won adds a winner, with the version that is chosen
   pub won : (rows new : List Winner) (w : Winner) (front : Path) → is_some (row_of rows w.edge.key) ≡ false → Leads (paths_of rows) w.above front
-      → chosen libraries (length rows) w.edge ≡ Ok w.version → new ≡ rows ++ w ∷ [] → Grows libraries rows new ((w.edge ∷ front) ∷ [])
-  won rows new w front none leads is more = record {
+      → chosen libraries (length rows) w.edge ≡ Ok w.version → w.known ≡ libraries.at (gav_of w.edge.key w.version) → new ≡ rows ++ w ∷ [] → Grows libraries rows new ((w.edge ∷ front) ∷ [])
+  won rows new w front none leads is known more = record {
     wins =
         ap paths_of more ∙ path_more rows w ∙ ap (λ f. paths_of rows ++ (w.edge ∷ f) ∷ []) (above_is (paths_of rows) w.edge w.above front leads)
         ∙ ap (λ l. paths_of rows ++ l) (sym (one_kept (paths_of rows) w.edge front false (has_path rows w.edge.key ∙ none)));
     free = only rows w.edge front none ∙ ap reason is;
-    versions = λ all. subst (All (IsPicked libraries)) (sym more) (All-push (IsPicked libraries) rows w all (picks (length rows) w.edge w.version is));
+    versions = λ all. subst (All (IsPicked libraries)) (sym more) (All-push (IsPicked libraries) rows w all (record { version = picks (length rows) w.edge w.version is; known = known }));
   }
 
   -- or is refused
@@ -137,3 +137,15 @@ module _ (libraries : Libraries) where
   stopped rows new e front (Refused rule place) none is = only rows e front none ∙ ap reason is
   stopped rows new e front Lookup none is = tt
   stopped rows new e front Memory none is = tt
+
+  -- a path whose key isn't won, where its version is chosen and its winner added
+  pub settled : (rows new : List Winner) (e : Edge) (above : Option ℕ) (version : List ℕ) (front : Path) (result : Result (Unit {0}) MediationFault)
+      → is_some (row_of rows e.key) ≡ false → Leads (paths_of rows) above front → chosen libraries (length rows) e ≡ Ok version
+      → OnOk result (new ≡ rows ++ won_by libraries e above version ∷ []) → Says (Ok tt) result → Adds libraries rows new ((e ∷ front) ∷ []) result
+  settled rows new e above version front (Ok x) none leads is more says = won rows new (won_by libraries e above version) front none leads is refl more
+  settled rows new e above version front (Err (Refused rule place)) none leads is more says = absurd (other says)
+    where
+      other : ◌≡◌ {A = Result (Unit {0}) Reason} (Ok tt) (Err (rule, place)) → ⊥
+      other e = cc
+  settled rows new e above version front (Err Lookup) none leads is more says = tt
+  settled rows new e above version front (Err Memory) none leads is more says = tt

@@ -1,12 +1,13 @@
 -- Winners under their keys.
-use Rattle.std.proofs.Common.{◌≡◌, ◌≤◌, ◌<◌, ◌+◌, arith, length-append, ℕ, Bool, true, false, List, [], ◌∷◌, ◌++◌, map, length, Some, None, is_some, refl, sym, ap, ◌∙◌, if◌then◌else◌}
+use Rattle.std.proofs.Common.{◌≡◌, ◌≤◌, ◌<◌, ◌+◌, arith, length-append, ℕ, Bool, true, false, List, [], ◌∷◌, ◌++◌, map, length, suc, not, cond, nat_lt, position, Option, Some, None, is_some, slice_get, IfSome, refl, sym, ap, ◌∙◌, if◌then◌else◌}
+use Rattle.std.specs.List.{position_or_len}
 use Rattle.std.specs.Map.{lookup}
 use Rattle.std.proofs.lemmas.Bool.{false≢true}
 use Rattle.indexmap.specs.IndexMap.{insert_entry}
 use Rattle.model_merge.specs.Keyed.{keyed, same_key}
 use Rattle.mvn_base.specs.declared.key.Key.{Key}
 use Rattle.mediation.specs.declared.winner.Winner.{Winner}
-use Rattle.mediation.specs.Rows.{IsKept, key_of, row_of}
+use Rattle.mediation.specs.Rows.{IsKept, key_of, place_of, row_of}
 
 abbrev seconds : List (Key × Winner) → List Winner
 seconds entries = map (λ e. e.1) entries
@@ -18,6 +19,30 @@ found_keyed (w ∷ rows) key = ap (λ o. if same_key key w.edge.key then Some w 
 -- what is found under a key is the winner of the key
 pub found_is : (entries : List (Key × Winner)) (key : Key) → IsKept entries → lookup (same_key key) entries ≡ row_of (seconds entries) key
 found_is entries key kept = ap (λ l. lookup (same_key key) l) kept.named ∙ found_keyed (seconds entries) key
+
+-- and so is the winner at the place that the key is found at
+pub place_is : (entries : List (Key × Winner)) (rows : List Winner) (key : Key) (found : Option ℕ) → IsKept entries → seconds entries ≡ rows
+    → IfSome found (λ i. slice_get (seconds entries) i ≡ lookup (same_key key) entries) → IfSome found (λ i. slice_get rows i ≡ row_of rows key)
+place_is entries rows key None kept is there = there
+place_is entries rows key (Some i) kept is there =
+    ap (λ l. slice_get l i) (sym is) ∙ there ∙ found_is entries key kept ∙ ap (λ l. row_of l key) is
+
+len_named : (rows : List Winner) (key : Key) → position_or_len (same_key key) (map (λ e. e.0) (keyed key_of rows)) ≡ position_or_len (λ w. same_key key w.edge.key) rows
+len_named [] key = refl
+len_named (w ∷ rows) key = ap (λ n. cond (not (same_key key w.edge.key)) (1 + n) 0) (len_named rows key)
+
+count_named : (rows : List Winner) → length (map (λ e. e.0) (keyed key_of rows)) ≡ length rows
+count_named [] = refl
+count_named (w ∷ rows) = ap suc (count_named rows)
+
+position_named : (rows : List Winner) (key : Key) → position (same_key key) (map (λ e. e.0) (keyed key_of rows)) ≡ place_of rows key
+position_named rows key =
+    ap (λ n. cond (nat_lt n (length (map (λ e. e.0) (keyed key_of rows)))) (Some n) None) (len_named rows key)
+    ∙ ap (λ m. cond (nat_lt (position_or_len (λ w. same_key key w.edge.key) rows) m) (Some (position_or_len (λ w. same_key key w.edge.key) rows)) None) (count_named rows)
+
+-- the place at which a key is found is that of its winner
+pub place_named : (entries : List (Key × Winner)) (key : Key) → IsKept entries → position (same_key key) (map (λ e. e.0) entries) ≡ place_of (seconds entries) key
+place_named entries key kept = ap (λ l. position (same_key key) (map (λ e. e.0) l)) kept.named ∙ position_named (seconds entries) key
 
 put_last : (entries : List (Key × Winner)) (key : Key) (w : Winner) → is_some (lookup (same_key key) entries) ≡ false → insert_entry same_key entries key w ≡ entries ++ (key, w) ∷ []
 put_last [] key w none = refl

@@ -11,8 +11,9 @@ use Rattle.collector.specs.declared.edge.Edge.{Edge}
 use Rattle.mediation.specs.declared.fault.MediationFault.{MediationFault}
 use Rattle.mediation.specs.declared.winner.Winner.{Winner}
 use Rattle.mediation.specs.Faults.{Reason}
-use Rattle.mediation.specs.Libraries.{Libraries, graph_of, leads_to, picked}
-use Rattle.mediation.specs.Rows.{Adds, Grows, IsPicked, Leads, add_path, path_above, paths_of}
+use Rattle.collector.specs.Edges.{transitive_edges}
+use Rattle.mediation.specs.Libraries.{Libraries, declarations, graph_of, leads_to, picked}
+use Rattle.mediation.specs.Rows.{Adds, Grows, IsPicked, Leads, add_path, edges_below, path_above, paths_of}
 use Rattle.winner_law.specs.Winners.{Graph, Path, firsts, longer}
 use Rattle.mediation.proofs.Paths.{got_more, length_more, length_paths}
 use Rattle.mediation.proofs.Growing.{add_more, refused_early, same_rows}
@@ -81,19 +82,20 @@ same_value a b e = ap (value_or a) e
 module _ (libraries : Libraries) where
   -- a winner leads to the edges that its version's POM leads to
   pub expanded : (managed : List (Key × Dependency)) (direct : List Dependency) (rows new : List Winner) (place : ℕ) (w : Winner) (edges : List Edge) (result : Result (Unit {0}) MediationFault)
-      → slice_get rows place ≡ Some w → All (IsPicked libraries) rows → leads_to libraries managed w.edge (Ok w.version) ≡ edges
+      → slice_get rows place ≡ Some w → All (IsPicked libraries) rows → edges ≡ edges_below managed w
       → ((front : Path) → Leads (paths_of rows) (Some place) front → Adds libraries rows new (map (λ e. e ∷ front) edges) result)
       → Adds libraries rows new (flat_map (longer (graph_of libraries managed direct)) (option_to_list (slice_get (paths_of rows) place))) result
   expanded managed direct rows new place w edges result got picks is adds =
       let graph = graph_of libraries managed direct in
       let there = path_at rows place w got in
       let path = w.edge ∷ there.0 in
-      let pick : picked libraries w.edge ≡ Ok w.version = all_at (IsPicked libraries) rows place w picks got in
+      let pick = all_at (IsPicked libraries) rows place w picks got in
       let all : flat_map (longer graph) (option_to_list (slice_get (paths_of rows) place)) ≡ map (λ e. e ∷ path) edges =
       ap (λ o. flat_map (longer graph) (option_to_list o)) there.1
       ∙ append-nil (longer graph path)
-      ∙ ap (λ p. map (λ e. e ∷ path) (leads_to libraries managed w.edge p)) pick
-      ∙ ap (λ l. map (λ e. e ∷ path) l) is in
+      ∙ ap (λ p. map (λ e. e ∷ path) (leads_to libraries managed w.edge p)) pick.version
+      ∙ ap (λ k. map (λ e. e ∷ path) (transitive_edges (declarations k) managed w.edge.exclusions)) (sym pick.known)
+      ∙ ap (λ l. map (λ e. e ∷ path) l) (sym is) in
       subst (λ l. Adds libraries rows new l result) (sym all) (adds path there.1)
 
   -- nothing stands at a place

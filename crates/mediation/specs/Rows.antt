@@ -1,14 +1,16 @@
 -- Winners as they are kept: each with its edge, its version and the place of the winner that it stands below.
-use Rattle.std.specs.Prelude.{◌≡◌, ◌≤◌, ℕ, suc, List, [], ◌∷◌, ◌++◌, fold, find, length, map, slice_get, unwrap_or, Option, Some, None, Result, Ok, Err, All}
+use Rattle.std.specs.Prelude.{◌≡◌, ◌≤◌, ℕ, suc, List, [], ◌∷◌, ◌++◌, fold, find, length, map, position, slice_get, unwrap_or, Option, Some, None, Result, Ok, Err, All}
 use Rattle.std.specs.Option.{option_or}
 use Rattle.model_merge.specs.Keyed.{keyed, same_key}
 use Rattle.mvn_base.specs.declared.key.Key.{Key}
+use Rattle.model_types.specs.declared.dependency.Dependency.{Dependency}
+use Rattle.collector.specs.Edges.{transitive_edges}
 use Rattle.collector.specs.declared.edge.Edge.{Edge}
 use Rattle.mediation.specs.declared.winner.Winner.{Winner}
 use Rattle.mediation.specs.declared.fault.MediationFault.{MediationFault}
 use Rattle.mediation.specs.declared.fault.MediationFault.TheVariants.{Refused, Lookup, Memory}
 use Rattle.mediation.specs.Faults.{Reason}
-use Rattle.mediation.specs.Libraries.{Libraries, chosen, picked}
+use Rattle.mediation.specs.Libraries.{Libraries, chosen, declarations, gav_of, picked}
 use Rattle.winner_law.specs.Winners.{Graph, Path, firsts, winners}
 
 -- the key that a winner is kept under, and the winner of a key
@@ -17,6 +19,10 @@ key_of w = w.edge.key
 
 abbrev pub row_of : List Winner → Key → Option Winner
 row_of rows key = find (λ w. same_key key w.edge.key) rows
+
+-- and the winner's place
+abbrev pub place_of : List Winner → Key → Option ℕ
+place_of rows key = position (λ w. same_key key w.edge.key) rows
 
 -- the path above an edge: of the project itself, or of the winner at a place. Where there is none, the edge stands below
 -- itself, and so has a path that no winner has
@@ -46,12 +52,17 @@ first_reason libraries place [] = None
 first_reason libraries place (p ∷ paths) =
     option_or (reason_at libraries place p) (first_reason libraries (suc place) paths)
 
--- the winner has the version that is picked for its edge
-abbrev pub IsPicked : Libraries → Winner → Type 0
-IsPicked libraries w = picked libraries w.edge ≡ Ok w.version
+-- the winner has the version that is picked for its edge, and what is known of that version's POM
+pub record IsPicked (libraries : Libraries) (w : Winner) : Type 0 where
+  pub version : picked libraries w.edge ≡ Ok w.version
+  pub known : w.known ≡ libraries.at (gav_of w.edge.key w.version)
+
+-- what the POM of a winner leads to
+abbrev pub edges_below : List (Key × Dependency) → Winner → List Edge
+edges_below managed w = transitive_edges (declarations w.known) managed w.edge.exclusions
 
 -- all winners of a graph, those of every length: none is refused, and each has the version that is picked
--- for its edge
+-- for its edge, and what is known of its POM
 pub record IsWhole (libraries : Libraries) (graph : Graph) (rows : List Winner) : Type 0 where
   pub longest : ℕ
   pub wins : (n : ℕ) → longest ≤ n → paths_of rows ≡ winners graph n
@@ -67,6 +78,15 @@ Resolves libraries graph (Err Lookup) = Unit {0}
 Resolves libraries graph (Err Memory) = Unit {0}
 
 -- What follows is said of the search alone.
+
+-- the winner of an edge that takes a version
+abbrev pub won_by : Libraries → Edge → Option ℕ → List ℕ → Winner
+won_by libraries e above version = record {
+  edge = e;
+  version = version;
+  above = above;
+  known = libraries.at (gav_of e.key version);
+}
 
 -- winners stand under their keys, and there are at most 16,384
 pub record IsKept (entries : List (Key × Winner)) : Type 0 where

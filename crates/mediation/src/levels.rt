@@ -1,12 +1,12 @@
-ghost use Rattle.std.specs.Prelude.{◌≡◌, ◌∷◌, ◌++◌, [], drop, length, map, flat_map, slice_get, Ok, All, IfOk};
+ghost use Rattle.std.specs.Prelude.{◌≡◌, ◌<◌, ◌∷◌, ◌++◌, [], None, drop, length, map, flat_map, slice_get, Ok, All, IfOk, OnOk};
 ghost use Rattle.std.specs.Prelude as logic;
 ghost use Rattle.std.specs.Option.{option_to_list};
 ghost use Rattle.mvn_shared.specs.Cause.{HasCause};
 ghost use Rattle.model_types.specs.declared.dependency.Dependency as dependencies;
 ghost use Rattle.mediation.specs.Faults.{Says, is_faulty};
 ghost use Rattle.collector.specs.Edges.{transitive_edges};
-ghost use Rattle.mediation.specs.Libraries.{Libraries, declarations, gav_of, graph_of, leads_to};
-ghost use Rattle.mediation.specs.Rows.{Adds, IsPicked, Leads, Resolves, paths_of};
+ghost use Rattle.mediation.specs.Libraries.{Libraries, declarations, gav_of, graph_of};
+ghost use Rattle.mediation.specs.Rows.{Adds, IsPicked, Leads, Resolves, edges_below, paths_of, row_of, won_by};
 ghost use Rattle.winner_law.specs.Winners.{Path, longer};
 
 use crate::fault::MediationFault;
@@ -19,6 +19,37 @@ use model_types::{Dependency, Exclusion};
 use mvn_base::{Gav, Key};
 use mvn_shared::{List, Mem, Shared, Text};
 use std::alloc::Global;
+
+// One winner more, with what is known of its POM.
+fn add_winner<L: Lookup>(
+    lookup: &mut L,
+    winners: &mut Winners,
+    edge: Edge,
+    version: Text,
+    above: Option<usize>,
+) -> Result<(), MediationFault>
+    requires new { row_of winners.old edge.key ≡ None }
+    requires room { length winners.old < 16384 }
+    ensures adds { (libraries : Libraries) → L.fits lookup.old libraries
+        → OnOk result (winners.new ≡ winners.old ++ won_by libraries edge above version ∷ []) }
+    ensures says { (libraries : Libraries) → L.fits lookup.old libraries → Says (Ok tt) result }
+    ensures same { (libraries : Libraries) → L.fits lookup.old libraries
+        → L.fits lookup.new libraries }
+    ensures cause { HasCause (L.faults lookup.old) (L.faults lookup.new) (is_faulty result) }
+{
+    match known_at(lookup, &edge.key, &version) {
+        Ok(known) => {
+            winners.push(Winner {
+                edge,
+                version,
+                above,
+                known,
+            })?;
+            Ok(())
+        }
+        Err(fault) => Err(fault),
+    }
+}
 
 // One declaration, which wins where its key has no winner yet.
 fn decide<L: Lookup>(
@@ -39,14 +70,7 @@ fn decide<L: Lookup>(
         return Ok(());
     }
     match chosen(alloc, lookup, winners.len(), &edge) {
-        Ok(version) => {
-            winners.push(Winner {
-                edge,
-                version,
-                above,
-            })?;
-            Ok(())
-        }
+        Ok(version) => add_winner(lookup, winners, edge, version, above),
         Err(fault) => Err(fault),
     }
 }
@@ -75,15 +99,15 @@ fn add_edges<L: Lookup>(
     Ok(())
 }
 
-// What is known of the POM of a winner.
-fn known_at<L: Lookup>(lookup: &mut L, winner: &Winner) -> Result<Known, MediationFault>
+// What is known of the POM of a version.
+fn known_at<L: Lookup>(lookup: &mut L, key: &Key, version: &Text) -> Result<Known, MediationFault>
     ensures says { (libraries : Libraries) → L.fits lookup.old libraries
-        → Says (Ok (libraries.at (gav_of winner.now.edge.key winner.now.version))) result }
+        → Says (Ok (libraries.at (gav_of key.now version.now))) result }
     ensures same { (libraries : Libraries) → L.fits lookup.old libraries
         → L.fits lookup.new libraries }
     ensures cause { HasCause (L.faults lookup.old) (L.faults lookup.new) (is_faulty result) }
 {
-    let gav = coordinate(&winner.edge.key, &winner.version)?;
+    let gav = coordinate(key, version)?;
     ask_model(lookup, &gav)
 }
 
@@ -118,24 +142,12 @@ fn edges_of(
     }
 }
 
-// What the POM of a winner leads to.
-fn edges_at<L: Lookup>(
-    alloc: Global,
-    lookup: &mut L,
-    managed: &ManagedSet,
-    winner: &Winner,
-) -> Result<List<Edge>, MediationFault>
-    ensures says { (libraries : Libraries) → L.fits lookup.old libraries
-        → Says (Ok (leads_to libraries managed.now winner.now.edge
-        (Ok winner.now.version))) result }
-    ensures same { (libraries : Libraries) → L.fits lookup.old libraries
-        → L.fits lookup.new libraries }
-    ensures cause { HasCause (L.faults lookup.old) (L.faults lookup.new) (is_faulty result) }
+/// What the POM of a winner leads to: its dependencies as `edges` of the collector gives them, none where the POM is
+/// missing or refused. Costs what that costs.
+pub fn edges_below(alloc: Global, managed: &ManagedSet, winner: &Winner) -> Mem<List<Edge>>
+    ensures { IfOk result (λ list. list ≡ edges_below managed.now winner.now) }
 {
-    match known_at(lookup, winner) {
-        Ok(known) => Ok(edges_of(alloc, &known, managed, &winner.edge.exclusions)?),
-        Err(fault) => Err(fault),
-    }
+    edges_of(alloc, &winner.known, managed, &winner.edge.exclusions)
 }
 
 // The paths one edge longer than a winner's.
@@ -159,10 +171,8 @@ fn expand<L: Lookup>(
     let Some(winner) = winners.get(place) else {
         return Ok(());
     };
-    match edges_at(alloc, lookup, managed, winner) {
-        Ok(edges) => add_edges(alloc, lookup, winners, edges, Some(place)),
-        Err(fault) => Err(fault),
-    }
+    let edges = edges_below(alloc, managed, winner)?;
+    add_edges(alloc, lookup, winners, edges, Some(place))
 }
 
 // The paths one edge longer than those of the winners from a place on, before another.

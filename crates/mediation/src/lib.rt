@@ -1,6 +1,6 @@
-//! Which declarations of a dependency graph count: the nearest of each key, and of those the first. What a project is
-//! built from needs more than the winners here keep: the declarations that lose, from which scopes and conflicts of
-//! ranges follow, and which POMs are missing or refused.
+//! Which declarations of a dependency graph count: the nearest of each key, and of those the first. A winner keeps what
+//! is known of its POM, so that all that it leads to, also the declarations that lose, can be told again without a
+//! look-up.
 #![tactic(auto)]
 
 mod fault;
@@ -13,5 +13,5 @@ mod winner;
 pub use fault::MediationFault;
 pub use known::{Known, Lookup, LookupFault};
 pub use law::nearest_wins;
-pub use levels::find_winners;
+pub use levels::{edges_below, find_winners};
 pub use winner::{Winner, Winners};

@@ -1,7 +1,8 @@
-ghost use Rattle.std.specs.Prelude.{◌≡◌, ◌<◌, ◌≤◌, [], ◌∷◌, ◌++◌, None, length, is_some, slice_get, OnOk};
+ghost use Rattle.std.specs.Prelude.{◌≡◌, ◌<◌, ◌≤◌, [], ◌∷◌, ◌++◌, None, length, is_some, slice_get, IfSome, OnOk};
 ghost use Rattle.std.specs.Option.{option_copied};
-ghost use Rattle.mediation.specs.Rows.{row_of};
+ghost use Rattle.mediation.specs.Rows.{place_of, row_of};
 
+use crate::known::Known;
 use collector::Edge;
 use indexmap::IndexMap;
 use mvn_base::Key;
@@ -17,6 +18,8 @@ pub struct Winner {
     pub version: Text,
     /// The place of the winner whose POM declares it; `None` where the project does.
     pub above: Option<usize>,
+    /// What is known of its POM.
+    pub known: Known,
 }
 
 /// Winners, in the order in which they are found: by the lengths of their paths, and then by the positions on them.
@@ -29,11 +32,14 @@ pub struct Winners {
 impl Model for Winners {
     ghost use Rattle.std.specs.Prelude as logic;
     ghost use Rattle.std.specs.Prelude.{map};
-    ghost use Rattle.std.specs.Coded.{coded_list};
+    ghost use Rattle.std.specs.Coded.{codes};
+    ghost use Rattle.mvn_base.specs.contracts.setting.Setting as settings;
     ghost use Rattle.mediation.specs.Rows.{IsKept};
     ghost use Rattle.mediation.specs.declared.winner.Winner as winners;
 
     ghost Value = { logic.List winners.Winner };
+
+    ghost coded = { Prim.hlevel (codes, settings.the_row.coded) };
 
     ghost view = { λ w. map (λ e. e.1) w.index.entries };
 
@@ -66,6 +72,21 @@ impl Winners {
         let key = winner.edge.key.clone()?;
         self.index.insert(key, winner)?;
         Ok(())
+    }
+
+    /// The place of a key's winner; `None` where it has none. Costs the key, on the average.
+    pub fn place(&self, key: &Key) -> Option<usize>
+        ensures value { result ≡ place_of self.now key.now }
+        ensures there { IfSome result (λ place. slice_get self.now place ≡ row_of self.now key.now) }
+    {
+        self.index.get_index_of(key)
+    }
+
+    /// The winner of a key. Costs the key, on the average.
+    pub fn find(&self, key: &Key) -> Option<&Winner>
+        ensures { option_copied result ≡ row_of self.now key.now }
+    {
+        self.index.get(key)
     }
 
     /// The winner at a place. Constant time.

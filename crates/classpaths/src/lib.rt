@@ -1,0 +1,12 @@
+//! What a project is built with: its classpaths, and the files that are fetched for it.
+#![tactic(auto)]
+
+mod classpath;
+mod files;
+mod law;
+mod names;
+mod resolution;
+
+pub use classpath::Kind;
+pub use law::{each_file_once, first_of_two_artifacts, test_has_all};
+pub use resolution::{Note, Resolution, Resolved};

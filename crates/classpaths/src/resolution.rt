@@ -1,0 +1,36 @@
+use collector::Scope;
+use mvn_base::{Gav, Rule};
+use mvn_shared::{List, Text};
+
+/// A dependency that a project is built with: the winner of its key.
+#[derive(Drop)]
+pub struct Resolved {
+    pub gav: Gav,
+    /// The declared type.
+    pub kind: Text,
+    pub classifier: Text,
+    pub scope: Scope,
+    /// The place of the one whose POM declares it; `None` where the project does.
+    pub above: Option<usize>,
+    /// The place of the declaration among that POM's dependencies, from 0.
+    pub position: usize,
+    /// Whether it has a POM.
+    pub pom_found: bool,
+}
+
+/// A POM that leads to nothing.
+#[derive(Drop)]
+pub enum Note {
+    Missing(Gav),
+    Refused(Gav, Rule),
+}
+
+/// What a project is built with.
+#[derive(Drop)]
+pub struct Resolution {
+    /// In the order of the dependency tree: each stands behind the one that declares it and behind what is declared before it, with
+    /// all that is below that.
+    pub winners: List<Resolved>,
+    /// In the order in which the POMs are met.
+    pub notes: List<Note>,
+}

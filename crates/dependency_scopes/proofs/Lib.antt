@@ -1,0 +1,3 @@
+pub mod Raising
+pub mod Ending
+pub mod Laws

@@ -1,0 +1,4 @@
+pub mod Turning
+pub mod Placed
+pub mod Walking
+pub mod Scoped

@@ -1,0 +1,59 @@
+-- What declarations lead to, by the places of winners.
+use Rattle.std.specs.Prelude.{ℕ, ◌+◌, Bool, true, false, List, [], ◌∷◌, flat_map, get_or, map, slice_get, Option, Some, None, is_none, unwrap_or, if◌then◌else◌}
+use Rattle.collector.specs.Edges.{direct_edges}
+use Rattle.collector.specs.declared.edge.Edge.{Edge}
+use Rattle.collector.specs.declared.scope.Scope.{Scope}
+use Rattle.collector.specs.declared.scope.Scope.TheVariants.{Test}
+use Rattle.dependency_scopes.specs.declared.link.Link.{Link}
+use Rattle.mediation.specs.Rows.{edges_below, place_of}
+use Rattle.mediation.specs.declared.winner.Winner.{Winner}
+use Rattle.model_types.specs.declared.dependency.Dependency.{Dependency}
+use Rattle.mvn_base.specs.declared.key.Key.{Key}
+
+abbrev pub link_of : Edge → ℕ → Link
+link_of e to = record { to = to; scope = e.scope; managed_scope = e.managed_scope }
+
+-- what an edge leads to, where its key has a winner
+abbrev pub link_at : Edge → Option ℕ → List Link
+link_at e None = []
+link_at e (Some to) = link_of e to ∷ []
+
+abbrev pub link_to : List Winner → Edge → List Link
+link_to rows e = link_at e (place_of rows e.key)
+
+-- the project declares the winner at a place
+abbrev pub is_direct_row : Option Winner → Bool
+is_direct_row None = false
+is_direct_row (Some w) = is_none w.above
+
+abbrev pub is_direct : List Winner → ℕ → Bool
+is_direct rows place = is_direct_row (slice_get rows place)
+
+-- what an edge below the project leads to: to no winner that the project declares
+abbrev pub link_below_at : List Winner → Edge → Option ℕ → List Link
+link_below_at rows e None = []
+link_below_at rows e (Some to) = if is_direct rows to then [] else link_of e to ∷ []
+
+abbrev pub link_below : List Winner → Edge → List Link
+link_below rows e = link_below_at rows e (place_of rows e.key)
+
+abbrev pub starts : List Winner → List Dependency → List Link
+starts rows direct = flat_map (link_to rows) (direct_edges direct)
+
+abbrev pub links_below : List (Key × Dependency) → List Winner → Winner → List Link
+links_below managed rows w = flat_map (link_below rows) (edges_below managed w)
+
+abbrev pub links : List (Key × Dependency) → List Winner → List (List Link)
+links managed rows = map (links_below managed rows) rows
+
+-- the scope of a winner at a place: the declared one, or the widest that was found
+abbrev pub found_scope : Option Scope → Scope
+found_scope None = Test
+found_scope (Some scope) = scope
+
+abbrev pub scope_at : List (Option Scope) → ℕ → Winner → Scope
+scope_at widest place w = if is_none w.above then w.edge.scope else found_scope (get_or widest place None)
+
+abbrev pub scopes_from : List (Option Scope) → ℕ → List Winner → List Scope
+scopes_from widest place [] = []
+scopes_from widest place (w ∷ rows) = scope_at widest place w ∷ scopes_from widest (place + 1) rows

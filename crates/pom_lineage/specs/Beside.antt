@@ -1,6 +1,6 @@
 -- The POM that is looked for first as a parent: in the project, by a path from the child's folder on. POM Reference,
 -- "Inheritance"; if its coordinates aren't the parent's, the parent is looked for by coordinates.
-use Rattle.std.specs.Prelude.{ℕ, Bool, ◌&&◌, List, [], ◌∷◌, codes, Option, None, Some, Ok, if◌then◌else◌}
+use Rattle.std.specs.Prelude.{ℕ, Bool, ◌&&◌, List, [], ◌∷◌, codes, Option, None, Some, Ok, unwrap_or, if◌then◌else◌}
 use Rattle.std.specs.Option.{option_or}
 use Rattle.std.specs.Str.{bytes_eq}
 use Rattle.mvn_base.specs.declared.gav.Gav.{Gav}
@@ -16,11 +16,6 @@ use Rattle.pom_lineage.specs.Reading.{read_file}
 use Rattle.pom_lineage.specs.declared.origin.Origin.{Origin}
 use Rattle.pom_lineage.specs.declared.origin.Origin.TheVariants.{Beside, Elsewhere}
 
--- a text, or an empty one
-abbrev pub text_or_none : Option (List ℕ) → List ℕ
-text_or_none (Some text) = text
-text_or_none None = []
-
 abbrev pub parent_group : Option Parent → Option (List ℕ)
 parent_group (Some parent) = Some parent.gav.group
 parent_group None = None
@@ -32,9 +27,9 @@ parent_version None = None
 -- the coordinates of a POM as it says them: its own, or else its parent's
 unfoldable pub raw_gav : RawModel → Gav
 raw_gav raw = record {
-  group = text_or_none (option_or raw.coordinates.group (parent_group raw.parent));
+  group = unwrap_or (option_or raw.coordinates.group (parent_group raw.parent)) [];
   artifact = raw.coordinates.artifact;
-  version = text_or_none (option_or raw.coordinates.version (parent_version raw.parent));
+  version = unwrap_or (option_or raw.coordinates.version (parent_version raw.parent)) [];
 }
 
 abbrev pub gav_eq : Gav → Gav → Bool

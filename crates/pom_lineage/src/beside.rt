@@ -1,5 +1,6 @@
 ghost use Rattle.std.specs.Prelude.{◌≡◌, false, Some, IfOk, OnSome};
 ghost use Rattle.mvn_shared.specs.Cause.{HasCause};
+ghost use Rattle.profile_activation.specs.Judging.{TellsOn};
 ghost use Rattle.pom_source.specs.Answers.{Says, build_failed};
 ghost use Rattle.pom_source.specs.Worlds.{World};
 ghost use Rattle.pom_source.specs.declared.found.Given as givens;
@@ -106,6 +107,7 @@ fn read_file(
 }
 
 // The POM at a path of the project, asked for and read.
+#[tactic(auto, using(crate::proofs::Telling::told_once, crate::proofs::Telling::untold))]
 fn read_anew<P: PomSource>(
     alloc: Global,
     source: &mut P,
@@ -114,6 +116,7 @@ fn read_anew<P: PomSource>(
     ensures says { (world : World) → P.fits_poms source.old world
         → Says (read_at world path.now) result }
     ensures fit { (world : World) → P.fits_poms source.old world → P.fits_poms source.new world }
+    ensures same { TellsOn P.tells_same source.old source.new }
     ensures cause { HasCause (P.faults source.old) (P.faults source.new) (build_failed result) }
 {
     let pom = PomId::Path(path.clone()?);
@@ -127,7 +130,7 @@ fn read_anew<P: PomSource>(
 /// The POM at a path of the project: as it was read before, or read and kept; none if no file is there; or what its text breaks first.
 /// What was read stays in the store and isn't asked for again. `Source` comes only if the source's count of faults rose. Costs the
 /// POM's bytes the first time, and the path after that. Project rule.
-#[tactic(auto, using(crate::proofs::Kept::untouched))]
+#[tactic(auto, using(crate::proofs::Telling::untold, crate::proofs::Kept::untouched))]
 pub fn read_at<P: PomSource>(
     alloc: Global,
     store: &mut Store,
@@ -137,6 +140,7 @@ pub fn read_at<P: PomSource>(
     ensures says { (world : World) (given : givens.Given) → P.fits_poms source.old world
         → Holds world given store.old → Says (read_at world path.now) result }
     ensures fit { (world : World) → P.fits_poms source.old world → P.fits_poms source.new world }
+    ensures same { TellsOn P.tells_same source.old source.new }
     ensures holds { (world : World) (given : givens.Given) → P.fits_poms source.old world
         → Holds world given store.old → Holds world given store.new }
     ensures kept { IfOk result (λ found. read_in store.new path.now ≡ Some found) }
@@ -171,6 +175,7 @@ fn at_second<P: PomSource>(
     ensures at { (world : World) (given : givens.Given) → P.fits_poms source.old world
         → Holds world given store.old → IfOk result (IsAt world) }
     ensures fit { (world : World) → P.fits_poms source.old world → P.fits_poms source.new world }
+    ensures same { TellsOn P.tells_same source.old source.new }
     ensures holds { (world : World) (given : givens.Given) → P.fits_poms source.old world
         → Holds world given store.old → Holds world given store.new }
     ensures keeps { KeepsRead store.old store.new }
@@ -183,7 +188,7 @@ fn at_second<P: PomSource>(
 }
 
 // The first of two paths at which a POM is.
-#[tactic(auto, using(crate::proofs::Holding::at_is))]
+#[tactic(auto, using(crate::proofs::Telling::told_both, crate::proofs::Holding::at_is))]
 fn at_either<P: PomSource>(
     alloc: Global,
     store: &mut Store,
@@ -198,6 +203,7 @@ fn at_either<P: PomSource>(
     ensures at { (world : World) (given : givens.Given) → P.fits_poms source.old world
         → Holds world given store.old → IfOk result (IsAt world) }
     ensures fit { (world : World) → P.fits_poms source.old world → P.fits_poms source.new world }
+    ensures same { TellsOn P.tells_same source.old source.new }
     ensures holds { (world : World) (given : givens.Given) → P.fits_poms source.old world
         → Holds world given store.old → Holds world given store.new }
     ensures keeps { KeepsRead store.old store.new }
@@ -214,6 +220,7 @@ fn at_either<P: PomSource>(
 }
 
 // `pom.xml` in the folder that a path from the child's folder on names, or the file that it names.
+#[tactic(auto, using(crate::proofs::Telling::untold))]
 fn at_path<P: PomSource>(
     alloc: Global,
     store: &mut Store,
@@ -226,6 +233,7 @@ fn at_path<P: PomSource>(
     ensures at { (world : World) (given : givens.Given) → P.fits_poms source.old world
         → Holds world given store.old → IfOk result (IsAt world) }
     ensures fit { (world : World) → P.fits_poms source.old world → P.fits_poms source.new world }
+    ensures same { TellsOn P.tells_same source.old source.new }
     ensures holds { (world : World) (given : givens.Given) → P.fits_poms source.old world
         → Holds world given store.old → Holds world given store.new }
     ensures keeps { KeepsRead store.old store.new }
@@ -248,6 +256,7 @@ fn path_from(alloc: Global, child: &Text, path: &Text) -> Mem<Text>
 }
 
 // Where a parent of a POM of the project comes from.
+#[tactic(auto, using(crate::proofs::Telling::untold))]
 fn origin_from<P: PomSource>(
     alloc: Global,
     store: &mut Store,
@@ -261,6 +270,7 @@ fn origin_from<P: PomSource>(
     ensures at { (world : World) (given : givens.Given) → P.fits_poms source.old world
         → Holds world given store.old → IfOk result (IsAt world) }
     ensures fit { (world : World) → P.fits_poms source.old world → P.fits_poms source.new world }
+    ensures same { TellsOn P.tells_same source.old source.new }
     ensures holds { (world : World) (given : givens.Given) → P.fits_poms source.old world
         → Holds world given store.old → Holds world given store.new }
     ensures keeps { KeepsRead store.old store.new }
@@ -279,7 +289,7 @@ fn origin_from<P: PomSource>(
 
 /// Where a parent comes from: the POM of the project at its path, from the child's folder on, if the coordinates are the
 /// parent's; else its coordinates. Costs the path, and the POM's bytes the first time. POM Reference, "Inheritance".
-#[tactic(auto, unfolding(crate::specs::Beside::found_origin))]
+#[tactic(auto, unfolding(crate::specs::Beside::found_origin), using(crate::proofs::Telling::untold))]
 pub(crate) fn found_origin<P: PomSource>(
     alloc: Global,
     store: &mut Store,
@@ -292,6 +302,7 @@ pub(crate) fn found_origin<P: PomSource>(
     ensures at { (world : World) (given : givens.Given) → P.fits_poms source.old world
         → Holds world given store.old → IfOk result (IsAt world) }
     ensures fit { (world : World) → P.fits_poms source.old world → P.fits_poms source.new world }
+    ensures same { TellsOn P.tells_same source.old source.new }
     ensures holds { (world : World) (given : givens.Given) → P.fits_poms source.old world
         → Holds world given store.old → Holds world given store.new }
     ensures keeps { KeepsRead store.old store.new }

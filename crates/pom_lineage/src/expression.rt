@@ -3,7 +3,7 @@ ghost use Rattle.mvn_base.specs.Names.{has_expression};
 
 /// Whether `${` stands somewhere. One pass.
 #[tactic(auto, using(crate::proofs::Expressions::opens_more, crate::proofs::Expressions::opens_none))]
-pub(crate) fn has_expression(text: &[u8]) -> bool
+pub fn has_expression(text: &[u8]) -> bool
     ensures { result ≡ has_expression text.now }
 {
     let mut after_dollar = false;

@@ -11,9 +11,10 @@ mod store;
 mod stored;
 
 pub use beside::{raw_gav, read_at};
+pub use expression::has_expression;
 pub use joined::Joined;
 pub use origin::{Candidate, Origin};
 pub use parents::{is_in, next_poms};
-pub use reading::read;
-pub use store::Store;
+pub use reading::{read, with_profiles};
+pub use store::{Store, meets};
 pub use stored::lineage;

@@ -1,5 +1,6 @@
 ghost use Rattle.std.specs.Prelude.{◌≡◌, false, Err, option_map, IfOk};
 ghost use Rattle.mvn_shared.specs.Cause.{HasCause};
+ghost use Rattle.profile_activation.specs.Judging.{TellsOn};
 ghost use Rattle.pom_source.specs.Answers.{Says, build_failed};
 ghost use Rattle.pom_source.specs.Refusals.{gav_refused};
 ghost use Rattle.pom_source.specs.Worlds.{World};
@@ -97,6 +98,7 @@ fn unstated(gav: &Gav) -> Option<(Rule, &Text)>
 }
 
 /// Where a parent comes from, whose coordinates may stand. Costs the path, and the POM's bytes the first time.
+#[tactic(auto, using(crate::proofs::Telling::untold))]
 pub(crate) fn origin_of<P: PomSource>(
     alloc: Global,
     store: &mut Store,
@@ -109,6 +111,7 @@ pub(crate) fn origin_of<P: PomSource>(
     ensures at { (world : World) (given : givens.Given) → P.fits_poms source.old world
         → Holds world given store.old → IfOk result (IsAt world) }
     ensures fit { (world : World) → P.fits_poms source.old world → P.fits_poms source.new world }
+    ensures same { TellsOn P.tells_same source.old source.new }
     ensures holds { (world : World) (given : givens.Given) → P.fits_poms source.old world
         → Holds world given store.old → Holds world given store.new }
     ensures keeps { KeepsRead store.old store.new }
@@ -186,6 +189,7 @@ pub(crate) fn packed(
 }
 
 // The POM that an origin leads to.
+#[tactic(auto, using(crate::proofs::Telling::told_once, crate::proofs::Telling::untold))]
 fn candidate<P: PomSource>(
     alloc: Global,
     source: &mut P,
@@ -195,6 +199,7 @@ fn candidate<P: PomSource>(
     ensures says { (world : World) → P.fits_poms source.old world
         → Says (candidate world child.now origin.now) result }
     ensures fit { (world : World) → P.fits_poms source.old world → P.fits_poms source.new world }
+    ensures same { TellsOn P.tells_same source.old source.new }
     ensures cause { HasCause (P.faults source.old) (P.faults source.new) (build_failed result) }
 {
     match origin {
@@ -234,6 +239,7 @@ pub(crate) fn parent_from<P: PomSource>(
     ensures says { (world : World) → P.fits_poms source.old world
         → Says (parent_from world child.now seen.now origin.now) result }
     ensures fit { (world : World) → P.fits_poms source.old world → P.fits_poms source.new world }
+    ensures same { TellsOn P.tells_same source.old source.new }
     ensures cause { HasCause (P.faults source.old) (P.faults source.new) (build_failed result) }
 {
     let found = candidate(alloc, source, child, origin)?;

@@ -2,6 +2,7 @@ ghost use Rattle.std.specs.Prelude.{◌≡◌, false, Ok, Err};
 ghost use Rattle.mvn_shared.specs.Cause.{HasCause};
 ghost use Rattle.mvn_base.specs.declared.refusal.Place.TheVariants.{Byte};
 ghost use Rattle.pom_model.specs.Raw.{raw};
+ghost use Rattle.profile_activation.specs.Judging.{TellsOn};
 ghost use Rattle.pom_source.specs.Answers.{Says, build_failed, refused};
 ghost use Rattle.pom_source.specs.Worlds.{World};
 ghost use Rattle.pom_source.specs.declared.fault.BuildFault.TheVariants.{Refused};
@@ -61,8 +62,8 @@ pub fn read(alloc: Global, pom: &PomId, bytes: &Bytes) -> Result<Shared<RawModel
 }
 
 /// A POM with its active profiles. Costs the criteria of its profiles, and its lists.
-#[tactic(auto, using(crate::proofs::Telling::fits_after))]
-pub(crate) fn with_profiles<P: PomSource>(
+#[tactic(auto, using(crate::proofs::Telling::untold, crate::proofs::Telling::fits_after))]
+pub fn with_profiles<P: PomSource>(
     alloc: Global,
     source: &mut P,
     given: &Given,
@@ -71,6 +72,7 @@ pub(crate) fn with_profiles<P: PomSource>(
     ensures says { (world : World) → P.fits_poms source.old world
         → Says (Ok (with_profiles given.now world.there raw.now)) result }
     ensures fit { (world : World) → P.fits_poms source.old world → P.fits_poms source.new world }
+    ensures same { TellsOn P.tells_same source.old source.new }
     ensures cause { HasCause (P.faults source.old) (P.faults source.new) (build_failed result) }
 {
     if raw.profiles.len() > MOST_PROFILES {

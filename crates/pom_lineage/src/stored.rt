@@ -1,5 +1,6 @@
 ghost use Rattle.std.specs.Prelude.{◌≡◌, true, is_some, IfSome, OnOk};
 ghost use Rattle.mvn_shared.specs.Cause.{HasCause};
+ghost use Rattle.profile_activation.specs.Judging.{TellsOn};
 ghost use Rattle.pom_source.specs.Answers.{Says, build_failed};
 ghost use Rattle.pom_source.specs.Worlds.{World};
 ghost use Rattle.pom_lineage.specs.Lineage.{above, entered, gav_of, joined_from, joined_up, line, lineage, next_poms};
@@ -20,7 +21,7 @@ use std::alloc::Global;
 
 // What is built on from a parent's origin on, at most `left` POMs; kept, or built and then kept.
 #[cycle(stored)]
-#[tactic(auto, using(crate::proofs::Keeping::is_kept, crate::proofs::Kept::served_there, crate::proofs::Kept::untouched_line))]
+#[tactic(auto, using(crate::proofs::Telling::untold, crate::proofs::Keeping::is_kept, crate::proofs::Kept::served_there, crate::proofs::Kept::untouched_line))]
 fn joined_from<P: PomSource>(
     alloc: Global,
     store: &mut Store,
@@ -35,6 +36,7 @@ fn joined_from<P: PomSource>(
         → IsAt world origin.now
         → Says (joined_from world given.now left child.now seen.now origin.now) result }
     ensures fit { (world : World) → P.fits_poms source.old world → P.fits_poms source.new world }
+    ensures same { TellsOn P.tells_same source.old source.new }
     ensures holds { (world : World) → P.fits_poms source.old world → Holds world given.now store.old
         → IsAt world origin.now → Holds world given.now store.new }
     ensures kept { OnOk result (is_some (line_in store.new origin.now) ≡ true) }
@@ -57,7 +59,7 @@ fn joined_from<P: PomSource>(
 
 // The same, if it isn't kept.
 #[cycle(stored)]
-#[tactic(auto, using(crate::proofs::Joining::joined_stops, crate::proofs::Joining::joined_zero, crate::proofs::Joining::joined_more))]
+#[tactic(auto, using(crate::proofs::Telling::told_both, crate::proofs::Joining::joined_stops, crate::proofs::Joining::joined_zero, crate::proofs::Joining::joined_more))]
 fn fresh<P: PomSource>(
     alloc: Global,
     store: &mut Store,
@@ -71,6 +73,7 @@ fn fresh<P: PomSource>(
     ensures says { (world : World) → P.fits_poms source.old world → Holds world given.now store.old
         → Says (joined_from world given.now left child.now seen.now origin.now) result }
     ensures fit { (world : World) → P.fits_poms source.old world → P.fits_poms source.new world }
+    ensures same { TellsOn P.tells_same source.old source.new }
     ensures holds { (world : World) → P.fits_poms source.old world → Holds world given.now store.old
         → Holds world given.now store.new }
     ensures keeps { KeepsRead store.old store.new }
@@ -99,6 +102,7 @@ fn fresh<P: PomSource>(
 
 // A parent that was found, and what it builds on.
 #[cycle(stored)]
+#[tactic(auto, using(crate::proofs::Telling::untold))]
 fn entered<P: PomSource>(
     alloc: Global,
     store: &mut Store,
@@ -114,6 +118,7 @@ fn entered<P: PomSource>(
         → Says (entered world given.now (joined_up world given.now left) child.now seen.now
         (gav_of origin.now) found.now) result }
     ensures fit { (world : World) → P.fits_poms source.old world → P.fits_poms source.new world }
+    ensures same { TellsOn P.tells_same source.old source.new }
     ensures holds { (world : World) → P.fits_poms source.old world → Holds world given.now store.old
         → Holds world given.now store.new }
     ensures keeps { KeepsRead store.old store.new }
@@ -130,6 +135,7 @@ fn entered<P: PomSource>(
 
 // A POM with its profiles, and what it builds on.
 #[cycle(stored)]
+#[tactic(auto, using(crate::proofs::Telling::told_both))]
 fn line<P: PomSource>(
     alloc: Global,
     store: &mut Store,
@@ -142,6 +148,7 @@ fn line<P: PomSource>(
     ensures says { (world : World) → P.fits_poms source.old world → Holds world given.now store.old
         → Says (line world given.now (joined_up world given.now left) seen.now raw.now) result }
     ensures fit { (world : World) → P.fits_poms source.old world → P.fits_poms source.new world }
+    ensures same { TellsOn P.tells_same source.old source.new }
     ensures holds { (world : World) → P.fits_poms source.old world → Holds world given.now store.old
         → Holds world given.now store.new }
     ensures kept { (world : World) → P.fits_poms source.old world → Holds world given.now store.old
@@ -166,7 +173,7 @@ fn line<P: PomSource>(
 
 // What a POM builds on, by its parent.
 #[cycle(stored)]
-#[tactic(auto, using(crate::proofs::Kept::no_parent_kept, crate::proofs::Kept::parent_kept))]
+#[tactic(auto, using(crate::proofs::Telling::told_both, crate::proofs::Telling::untold, crate::proofs::Kept::no_parent_kept, crate::proofs::Kept::parent_kept))]
 fn above<P: PomSource>(
     alloc: Global,
     store: &mut Store,
@@ -181,6 +188,7 @@ fn above<P: PomSource>(
         → Says (above (joined_up world given.now left pom.now (next_poms seen.now pom.now))
         parent.now) result }
     ensures fit { (world : World) → P.fits_poms source.old world → P.fits_poms source.new world }
+    ensures same { TellsOn P.tells_same source.old source.new }
     ensures holds { (world : World) → P.fits_poms source.old world → Holds world given.now store.old
         → Holds world given.now store.new }
     ensures kept { (world : World) → P.fits_poms source.old world → Holds world given.now store.old
@@ -218,6 +226,7 @@ pub fn lineage<P: PomSource>(
     ensures says { (world : World) → P.fits_poms source.old world → Holds world given.now store.old
         → Says (lineage world given.now raw.now) result }
     ensures fit { (world : World) → P.fits_poms source.old world → P.fits_poms source.new world }
+    ensures same { TellsOn P.tells_same source.old source.new }
     ensures holds { (world : World) → P.fits_poms source.old world → Holds world given.now store.old
         → Holds world given.now store.new }
     ensures kept { (world : World) → P.fits_poms source.old world → Holds world given.now store.old

@@ -1,0 +1,4 @@
+pub mod Edges
+pub mod Index
+pub mod Naming
+pub mod Numbers

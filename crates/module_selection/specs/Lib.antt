@@ -1,0 +1,3 @@
+pub use Rattle.reactor_order.specs.Select
+pub mod Meaning
+pub mod Selection

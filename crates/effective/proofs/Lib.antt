@@ -1,4 +1,7 @@
 pub mod Imported
 pub mod Importing
+pub mod Meeting
 pub mod Presence
 pub mod Replacing
+pub mod Standing
+pub mod Storing

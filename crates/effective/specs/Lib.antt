@@ -4,4 +4,6 @@ pub use Rattle.pom_lineage.specs.Stores
 pub mod Absence
 pub mod Effective
 pub mod Imports
+pub mod Kept
 pub mod Lawful
+pub mod Serving

@@ -1,18 +1,20 @@
 ghost use Rattle.std.specs.Prelude.{◌≡◌, [], ◌∷◌, IfOk};
 ghost use Rattle.mvn_shared.specs.Cause.{HasCause};
+ghost use Rattle.profile_activation.specs.Judging.{TellsOn};
 ghost use Rattle.pom_source.specs.Answers.{Says, build_failed};
 ghost use Rattle.pom_source.specs.Worlds.{World};
 ghost use Rattle.pom_source.specs.declared.found.Given as givens;
-ghost use Rattle.pom_lineage.specs.Stores.{Holds};
+ghost use Rattle.effective.specs.Kept.{HoldsAll};
 ghost use Rattle.effective.specs.Lawful.{IsLawful};
 ghost use Rattle.effective.specs.Absence.{IsAbsentExactly, has_pom};
 ghost use Rattle.effective.specs.Effective.{asked, asked_path, effective, read_found};
 
 use crate::imports::whole;
+use crate::run_store::RunStore;
 use model_types::{Model, RawModel};
 use mvn_base::{Gav, PomId};
 use mvn_shared::{List, Mem, Shared, Text};
-use pom_lineage::{Store, read, read_at};
+use pom_lineage::{read, read_at};
 use pom_source::{BuildFault, Given, PomSource};
 use std::alloc::Global;
 
@@ -28,24 +30,26 @@ fn only(alloc: Global, pom: &PomId) -> Mem<List<PomId>>
 // The POM at a path of the project.
 fn asked_path<P: PomSource>(
     alloc: Global,
-    store: &mut Store,
+    store: &mut RunStore,
     source: &mut P,
     path: &Text,
 ) -> Result<Shared<RawModel>, BuildFault>
     ensures says { (world : World) (given : givens.Given) → P.fits_poms source.old world
-        → Holds world given store.old → Says (asked_path world path.now) result }
+        → HoldsAll world given store.old → Says (asked_path world path.now) result }
     ensures fit { (world : World) → P.fits_poms source.old world → P.fits_poms source.new world }
+    ensures same { TellsOn P.tells_same source.old source.new }
     ensures holds { (world : World) (given : givens.Given) → P.fits_poms source.old world
-        → Holds world given store.old → Holds world given store.new }
+        → HoldsAll world given store.old → HoldsAll world given store.new }
     ensures cause { HasCause (P.faults source.old) (P.faults source.new) (build_failed result) }
 {
-    match read_at(alloc, store, source, path)? {
+    match read_at(alloc, &mut store.lineages, source, path)? {
         Some(raw) => Ok(raw),
         None => Err(BuildFault::Absent),
     }
 }
 
 // The POM of coordinates.
+#[tactic(auto, using(pom_lineage::proofs::Telling::told_once, pom_lineage::proofs::Telling::untold))]
 fn asked_gav<P: PomSource>(
     alloc: Global,
     source: &mut P,
@@ -54,6 +58,7 @@ fn asked_gav<P: PomSource>(
     ensures says { (world : World) → P.fits_poms source.old world
         → Says (read_found (world.by_gav gav.now)) result }
     ensures fit { (world : World) → P.fits_poms source.old world → P.fits_poms source.new world }
+    ensures same { TellsOn P.tells_same source.old source.new }
     ensures cause { HasCause (P.faults source.old) (P.faults source.new) (build_failed result) }
 {
     match source.by_gav(gav)? {
@@ -68,15 +73,16 @@ fn asked_gav<P: PomSource>(
 // The POM that is asked for.
 fn asked<P: PomSource>(
     alloc: Global,
-    store: &mut Store,
+    store: &mut RunStore,
     source: &mut P,
     pom: &PomId,
 ) -> Result<Shared<RawModel>, BuildFault>
     ensures says { (world : World) (given : givens.Given) → P.fits_poms source.old world
-        → Holds world given store.old → Says (asked world pom.now) result }
+        → HoldsAll world given store.old → Says (asked world pom.now) result }
     ensures fit { (world : World) → P.fits_poms source.old world → P.fits_poms source.new world }
+    ensures same { TellsOn P.tells_same source.old source.new }
     ensures holds { (world : World) (given : givens.Given) → P.fits_poms source.old world
-        → Holds world given store.old → Holds world given store.new }
+        → HoldsAll world given store.old → HoldsAll world given store.new }
     ensures cause { HasCause (P.faults source.old) (P.faults source.new) (build_failed result) }
 {
     match pom {
@@ -92,48 +98,51 @@ fn asked<P: PomSource>(
 }
 
 // The POM that is asked for, in all steps.
+#[tactic(auto, using(pom_lineage::proofs::Telling::told_both, crate::proofs::Standing::built_gives))]
 fn modelled<P: PomSource>(
     alloc: Global,
-    store: &mut Store,
+    store: &mut RunStore,
     source: &mut P,
     given: &Given,
     pom: &PomId,
 ) -> Result<Model, BuildFault>
-    ensures says { (world : World) → P.fits_poms source.old world → Holds world given.now store.old
+    ensures says { (world : World) → P.fits_poms source.old world → HoldsAll world given.now store.old
         → Says (effective world given.now pom.now) result }
     ensures lawful { IfOk result IsLawful }
     ensures fit { (world : World) → P.fits_poms source.old world → P.fits_poms source.new world }
-    ensures holds { (world : World) → P.fits_poms source.old world → Holds world given.now store.old
-        → Holds world given.now store.new }
+    ensures same { TellsOn P.tells_same source.old source.new }
+    ensures holds { (world : World) → P.fits_poms source.old world → HoldsAll world given.now store.old
+        → HoldsAll world given.now store.new }
     ensures cause { HasCause (P.faults source.old) (P.faults source.new) (build_failed result) }
 {
     let raw = asked(alloc, store, source, pom)?;
     let building = only(alloc, &raw.pom)?;
     match whole(alloc, store, source, given, 31, &building, &raw) {
-        Ok(model) => Ok(model),
+        Ok(built) => Ok(built.model),
         Err(fault) => Err(fault),
     }
 }
 
 /// The effective model of a POM, like `effective`, with a store of what was read in the run. What the store keeps is so in each world
-/// that fits the source, before the call and after it. Costs the POM and its parents, as far as they weren't read before, each POM that
-/// is imported, also if it was imported before, and the model.
+/// that fits the source, before the call and after it. Costs the POM, its parents and its imports, as far as they weren't read before,
+/// and the model; an import that was built before costs a copy of its entries.
 #[tactic(auto, using(crate::proofs::Presence::absent_exactly))]
 pub fn effective_with<P: PomSource>(
     alloc: Global,
-    store: &mut Store,
+    store: &mut RunStore,
     source: &mut P,
     given: &Given,
     pom: &PomId,
 ) -> Result<Model, BuildFault>
-    ensures says { (world : World) → P.fits_poms source.old world → Holds world given.now store.old
+    ensures says { (world : World) → P.fits_poms source.old world → HoldsAll world given.now store.old
         → Says (effective world given.now pom.now) result }
     ensures absent { (world : World) → P.fits_poms source.old world
-        → Holds world given.now store.old → IsAbsentExactly (has_pom world pom.now) result }
+        → HoldsAll world given.now store.old → IsAbsentExactly (has_pom world pom.now) result }
     ensures lawful { IfOk result IsLawful }
     ensures fit { (world : World) → P.fits_poms source.old world → P.fits_poms source.new world }
-    ensures holds { (world : World) → P.fits_poms source.old world → Holds world given.now store.old
-        → Holds world given.now store.new }
+    ensures same { TellsOn P.tells_same source.old source.new }
+    ensures holds { (world : World) → P.fits_poms source.old world → HoldsAll world given.now store.old
+        → HoldsAll world given.now store.new }
     ensures cause { HasCause (P.faults source.old) (P.faults source.new) (build_failed result) }
 {
     match modelled(alloc, store, source, given, pom) {
@@ -159,9 +168,10 @@ pub fn effective<P: PomSource>(
         → IsAbsentExactly (has_pom world pom.now) result }
     ensures lawful { IfOk result IsLawful }
     ensures fit { (world : World) → P.fits_poms source.old world → P.fits_poms source.new world }
+    ensures same { TellsOn P.tells_same source.old source.new }
     ensures cause { HasCause (P.faults source.old) (P.faults source.new) (build_failed result) }
 {
-    let mut store = Store::new(alloc);
+    let mut store = RunStore::new(alloc);
     match effective_with(alloc, &mut store, source, given, pom) {
         Ok(model) => Ok(model),
         Err(fault) => Err(fault),

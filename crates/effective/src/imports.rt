@@ -1,27 +1,29 @@
-ghost use Rattle.std.specs.Prelude.{◌≡◌, [], ◌∷◌, ◌++◌, true, false, IfOk};
+ghost use Rattle.std.specs.Prelude.{◌≡◌, [], false, true, IfOk};
 ghost use Rattle.std.specs.List.{list_all};
 ghost use Rattle.mvn_shared.specs.Cause.{HasCause};
+ghost use Rattle.profile_activation.specs.Judging.{TellsOn};
 ghost use Rattle.pom_source.specs.Answers.{Says, build_failed};
 ghost use Rattle.pom_source.specs.Worlds.{World};
-ghost use Rattle.pom_lineage.specs.Lineage.{next_poms};
-ghost use Rattle.pom_lineage.specs.Stores.{Holds};
+ghost use Rattle.pom_lineage.specs.Lineage.{is_in, next_poms};
 ghost use Rattle.model_steps.specs.Folders.{filled};
 ghost use Rattle.model_steps.specs.Valid.{has_no_import};
 ghost use Rattle.effective.specs.Lawful.{IsLawful};
 ghost use Rattle.effective.specs.Effective.{ended, entry, full, import_found, imported, imports_from, managed_of, wanted, whole};
+ghost use Rattle.effective.specs.Kept.{AreKept, HoldsAll, IsBuilt, IsEntry, IsFound, IsImport, IsRead, OrFails};
+ghost use Rattle.effective.specs.Serving.{serves};
 
+use crate::kept::{BuiltModel, Entries, Import, ImportLists};
+use crate::run_store::RunStore;
 use model_steps::{built, checked, filled, import_gav, is_import, model_of};
 use model_types::{BuildBase, Dependency, Model, RawModel};
 use mvn_base::{Gav, PomId, Rule};
-use mvn_shared::{List, Mem, Shared};
-use pom_lineage::{Joined, Store, is_in, lineage, next_poms, read};
+use mvn_shared::{List, Shared};
+use pom_lineage::{Joined, is_in, lineage, next_poms, read};
 use pom_source::{BuildFault, Found, Given, PomSource, gav_refused};
 use std::alloc::Global;
 
-/// The entries that one POM manages.
-type Entries = List<Shared<Dependency>>;
-
 // An import's POM, if it isn't being built already.
+#[tactic(auto, using(pom_lineage::proofs::Telling::told_once, pom_lineage::proofs::Telling::untold))]
 fn wanted<P: PomSource>(
     alloc: Global,
     source: &mut P,
@@ -32,6 +34,8 @@ fn wanted<P: PomSource>(
     ensures says { (world : World) → P.fits_poms source.old world
         → Says (wanted world pom.now building.now gav.now) result }
     ensures fit { (world : World) → P.fits_poms source.old world → P.fits_poms source.new world }
+    ensures same { TellsOn P.tells_same source.old source.new }
+    ensures apart { IfOk result (λ found. is_in found.pom building.now ≡ false) }
     ensures cause { HasCause (P.faults source.old) (P.faults source.new) (build_failed result) }
 {
     match source.by_gav(gav)? {
@@ -59,19 +63,20 @@ fn filled_of(alloc: Global, given: &Given, joined: &Joined) -> Result<RawModel, 
 // A POM with all that it builds on, filled.
 fn full<P: PomSource>(
     alloc: Global,
-    store: &mut Store,
+    store: &mut RunStore,
     source: &mut P,
     given: &Given,
     raw: &Shared<RawModel>,
 ) -> Result<RawModel, BuildFault>
-    ensures says { (world : World) → P.fits_poms source.old world → Holds world given.now store.old
+    ensures says { (world : World) → P.fits_poms source.old world → HoldsAll world given.now store.old
         → Says (full world given.now raw.now) result }
     ensures fit { (world : World) → P.fits_poms source.old world → P.fits_poms source.new world }
-    ensures holds { (world : World) → P.fits_poms source.old world → Holds world given.now store.old
-        → Holds world given.now store.new }
+    ensures same { TellsOn P.tells_same source.old source.new }
+    ensures holds { (world : World) → P.fits_poms source.old world → HoldsAll world given.now store.old
+        → HoldsAll world given.now store.new }
     ensures cause { HasCause (P.faults source.old) (P.faults source.new) (build_failed result) }
 {
-    let joined = lineage(alloc, store, source, given, raw)?;
+    let joined = lineage(alloc, &mut store.lineages, source, given, raw)?;
     match filled_of(alloc, given, &joined) {
         Ok(full) => Ok(full),
         Err(fault) => Err(fault),
@@ -97,208 +102,239 @@ fn ended(
     }
 }
 
-// What a model manages.
-#[tactic(auto, using(crate::proofs::Replacing::replaced_in))]
-fn managed_of(model: &Model) -> Mem<Entries>
-    ensures value { IfOk result (λ entries. entries ≡ model.now.base.managed) }
-    ensures replaced { IsLawful model.now
-        → IfOk result (λ entries. has_no_import entries ≡ true) }
-{
-    Ok(model.base.managed.clone()?)
-}
-
-// Lists behind others.
-#[tactic(auto, using(crate::proofs::Replacing::replaced_behind))]
-fn behind(done: List<Entries>, lists: List<Entries>) -> Mem<List<Entries>>
-    ensures value { IfOk result (λ all. all ≡ done ++ lists) }
-    ensures replaced { list_all has_no_import done ≡ true → list_all has_no_import lists ≡ true
-        → IfOk result (λ all. list_all has_no_import all ≡ true) }
-{
-    let mut all = done.into_vec();
-    let mut lists = lists.into_vec();
-    all.append(&mut lists)?;
-    Ok(List::of(all))
-}
-
-// A list of one.
-#[tactic(auto, using(crate::proofs::Replacing::replaced_alone))]
-fn alone(alloc: Global, entries: Entries) -> Mem<List<Entries>>
-    ensures value { IfOk result (λ list. list ≡ entries ∷ []) }
-    ensures replaced { has_no_import entries ≡ true
-        → IfOk result (λ list. list_all has_no_import list ≡ true) }
-{
-    let mut list = List::new(alloc);
-    list.push(entries)?;
-    Ok(list)
-}
-
-// What the POM of an import manages.
+// What an import stands for: kept, or built and then kept.
 #[cycle(built)]
-#[tactic(auto, using(crate::proofs::Importing::imported_zero, crate::proofs::Importing::imported_more))]
+#[tactic(auto, using(pom_lineage::proofs::Telling::untold))]
 fn imported<P: PomSource>(
     alloc: Global,
-    store: &mut Store,
+    store: &mut RunStore,
     source: &mut P,
     given: &Given,
     left: u32,
     pom: &PomId,
     building: &List<PomId>,
     gav: &Gav,
-) -> Result<Entries, BuildFault>
-    ensures says { (world : World) → P.fits_poms source.old world → Holds world given.now store.old
-        → Says (imported world given.now left pom.now building.now gav.now) result }
-    ensures replaced { IfOk result (λ entries. has_no_import entries ≡ true) }
+) -> Result<Shared<Import>, BuildFault>
+    ensures says { (world : World) → P.fits_poms source.old world
+        → HoldsAll world given.now store.old
+        → OrFails (IsImport world given.now gav.now)
+        (imported world given.now left pom.now building.now gav.now) result }
+    ensures serves { IfOk result (λ import. serves left building.now import.below ≡ true) }
     ensures fit { (world : World) → P.fits_poms source.old world → P.fits_poms source.new world }
-    ensures holds { (world : World) → P.fits_poms source.old world → Holds world given.now store.old
-        → Holds world given.now store.new }
+    ensures same { TellsOn P.tells_same source.old source.new }
+    ensures holds { (world : World) → P.fits_poms source.old world
+        → HoldsAll world given.now store.old → HoldsAll world given.now store.new }
+    ensures cause { HasCause (P.faults source.old) (P.faults source.new) (build_failed result) }
+{
+    if let Some(kept) = store.find_import(left, building, gav)? {
+        return Ok(kept);
+    }
+    let import = match fresh(alloc, store, source, given, left, pom, building, gav) {
+        Ok(import) => import,
+        Err(fault) => return Err(fault),
+    };
+    store.keep_import(gav, &import)?;
+    Ok(import)
+}
+
+// The same, if it isn't kept.
+#[cycle(built)]
+#[tactic(auto, using(pom_lineage::proofs::Telling::untold, crate::proofs::Importing::imported_zero, crate::proofs::Importing::imported_more, crate::proofs::Standing::is_import_of, crate::proofs::Standing::import_serves, crate::proofs::Standing::low))]
+fn fresh<P: PomSource>(
+    alloc: Global,
+    store: &mut RunStore,
+    source: &mut P,
+    given: &Given,
+    left: u32,
+    pom: &PomId,
+    building: &List<PomId>,
+    gav: &Gav,
+) -> Result<Shared<Import>, BuildFault>
+    ensures says { (world : World) → P.fits_poms source.old world
+        → HoldsAll world given.now store.old
+        → OrFails (IsImport world given.now gav.now)
+        (imported world given.now left pom.now building.now gav.now) result }
+    ensures serves { IfOk result (λ import. serves left building.now import.below ≡ true) }
+    ensures fit { (world : World) → P.fits_poms source.old world → P.fits_poms source.new world }
+    ensures same { TellsOn P.tells_same source.old source.new }
+    ensures holds { (world : World) → P.fits_poms source.old world
+        → HoldsAll world given.now store.old → HoldsAll world given.now store.new }
     ensures cause { HasCause (P.faults source.old) (P.faults source.new) (build_failed result) }
 {
     if left == 0 {
         return gav_refused(alloc, pom, Rule::ImportCycle, gav);
     }
-    import_entered(alloc, store, source, given, left - 1, pom, building, gav)
+    let further = left - 1;
+    match import_found(alloc, store, source, given, further, pom, building, gav) {
+        Ok(import) => Ok(Shared::new(alloc, import.deeper(further))?),
+        Err(fault) => Err(fault),
+    }
 }
 
-// The same, if further POMs may be built.
+// The same of an import's POM, if further POMs may be built.
 #[cycle(built)]
-fn import_entered<P: PomSource>(
+#[tactic(auto, using(pom_lineage::proofs::Telling::told_both, crate::proofs::Standing::is_found, crate::proofs::Standing::apart))]
+fn import_found<P: PomSource>(
     alloc: Global,
-    store: &mut Store,
+    store: &mut RunStore,
     source: &mut P,
     given: &Given,
     left: u32,
     pom: &PomId,
     building: &List<PomId>,
     gav: &Gav,
-) -> Result<Entries, BuildFault>
-    ensures says { (world : World) → P.fits_poms source.old world → Holds world given.now store.old
-        → Says (import_found world given.now (imported world given.now left) pom.now
-        building.now gav.now) result }
-    ensures replaced { IfOk result (λ entries. has_no_import entries ≡ true) }
+) -> Result<Import, BuildFault>
+    ensures says { (world : World) → P.fits_poms source.old world
+        → HoldsAll world given.now store.old
+        → OrFails (IsFound world given.now gav.now)
+        (import_found world given.now (imported world given.now left) pom.now building.now gav.now)
+        result }
+    ensures serves { IfOk result (λ import. serves left building.now import.below ≡ true) }
     ensures fit { (world : World) → P.fits_poms source.old world → P.fits_poms source.new world }
-    ensures holds { (world : World) → P.fits_poms source.old world → Holds world given.now store.old
-        → Holds world given.now store.new }
+    ensures same { TellsOn P.tells_same source.old source.new }
+    ensures holds { (world : World) → P.fits_poms source.old world
+        → HoldsAll world given.now store.old → HoldsAll world given.now store.new }
     ensures cause { HasCause (P.faults source.old) (P.faults source.new) (build_failed result) }
 {
     let found = wanted(alloc, source, pom, building, gav)?;
     let raw = read(alloc, &found.pom, &found.bytes)?;
     match import_read(alloc, store, source, given, left, building, &raw) {
-        Ok(entries) => Ok(entries),
+        Ok(import) => Ok(import),
         Err(fault) => Err(fault),
     }
 }
 
-// What an imported POM manages that was read.
+// The same of an imported POM that was read.
 #[cycle(built)]
+#[tactic(auto, using(pom_lineage::proofs::Telling::untold, crate::proofs::Standing::is_read, crate::proofs::Standing::read_serves))]
 fn import_read<P: PomSource>(
     alloc: Global,
-    store: &mut Store,
+    store: &mut RunStore,
     source: &mut P,
     given: &Given,
     left: u32,
     building: &List<PomId>,
     raw: &Shared<RawModel>,
-) -> Result<Entries, BuildFault>
-    ensures says { (world : World) → P.fits_poms source.old world → Holds world given.now store.old
-        → Says (managed_of (whole world given.now (imported world given.now left raw.now.pom
+) -> Result<Import, BuildFault>
+    ensures says { (world : World) → P.fits_poms source.old world
+        → HoldsAll world given.now store.old
+        → OrFails (IsRead world given.now raw.now)
+        (managed_of (whole world given.now (imported world given.now left raw.now.pom
         (next_poms building.now raw.now.pom)) raw.now)) result }
-    ensures replaced { IfOk result (λ entries. has_no_import entries ≡ true) }
+    ensures serves { is_in raw.now.pom building.now ≡ false
+        → IfOk result (λ import. serves left building.now import.below ≡ true) }
     ensures fit { (world : World) → P.fits_poms source.old world → P.fits_poms source.new world }
-    ensures holds { (world : World) → P.fits_poms source.old world → Holds world given.now store.old
-        → Holds world given.now store.new }
+    ensures same { TellsOn P.tells_same source.old source.new }
+    ensures holds { (world : World) → P.fits_poms source.old world
+        → HoldsAll world given.now store.old → HoldsAll world given.now store.new }
     ensures cause { HasCause (P.faults source.old) (P.faults source.new) (build_failed result) }
 {
     let building = next_poms(building, &raw.pom)?;
     let model = whole(alloc, store, source, given, left, &building, raw)?;
-    Ok(managed_of(&model)?)
+    Ok(Import::of_model(&raw.pom, model)?)
 }
 
 /// A POM that was read, in all steps; `left` POMs more may be built.
 #[cycle(built)]
+#[tactic(auto, using(pom_lineage::proofs::Telling::told_both, crate::proofs::Standing::is_built, crate::proofs::Standing::built_fails))]
 pub(crate) fn whole<P: PomSource>(
     alloc: Global,
-    store: &mut Store,
+    store: &mut RunStore,
     source: &mut P,
     given: &Given,
     left: u32,
     building: &List<PomId>,
     raw: &Shared<RawModel>,
-) -> Result<Model, BuildFault>
-    ensures says { (world : World) → P.fits_poms source.old world → Holds world given.now store.old
-        → Says (whole world given.now (imported world given.now left raw.now.pom building.now)
-        raw.now) result }
-    ensures lawful { IfOk result IsLawful }
+) -> Result<BuiltModel, BuildFault>
+    ensures says { (world : World) → P.fits_poms source.old world
+        → HoldsAll world given.now store.old
+        → OrFails (IsBuilt world given.now raw.now)
+        (whole world given.now (imported world given.now left raw.now.pom building.now) raw.now)
+        result }
+    ensures serves { IfOk result (λ built. serves left building.now built.below ≡ true) }
+    ensures lawful { IfOk result (λ built. IsLawful built.model) }
     ensures fit { (world : World) → P.fits_poms source.old world → P.fits_poms source.new world }
-    ensures holds { (world : World) → P.fits_poms source.old world → Holds world given.now store.old
-        → Holds world given.now store.new }
+    ensures same { TellsOn P.tells_same source.old source.new }
+    ensures holds { (world : World) → P.fits_poms source.old world
+        → HoldsAll world given.now store.old → HoldsAll world given.now store.new }
     ensures cause { HasCause (P.faults source.old) (P.faults source.new) (build_failed result) }
 {
     let full = full(alloc, store, source, given, raw)?;
     let base = built(alloc, &full)?;
     let imports = imports(alloc, store, source, given, left, &raw.pom, building, &full)?;
-    match ended(alloc, &full, &base, &imports) {
-        Ok(model) => Ok(model),
+    match ended(alloc, &full, &base, &imports.lists) {
+        Ok(model) => Ok(BuiltModel {
+            below: imports.below,
+            model,
+        }),
         Err(fault) => Err(fault),
     }
 }
 
 // What the imports of a full model manage.
 #[cycle(built)]
-#[tactic(auto, using(crate::proofs::Importing::entries_fail, crate::proofs::Importing::entries_more))]
+#[tactic(auto, using(pom_lineage::proofs::Telling::told_both, pom_lineage::proofs::Telling::untold, crate::proofs::Standing::way_fails, crate::proofs::Standing::none_yet, crate::proofs::Standing::one_more, crate::proofs::Standing::all_done, crate::proofs::Standing::both_served))]
 fn imports<P: PomSource>(
     alloc: Global,
-    store: &mut Store,
+    store: &mut RunStore,
     source: &mut P,
     given: &Given,
     left: u32,
     pom: &PomId,
     building: &List<PomId>,
     full: &RawModel,
-) -> Result<List<Entries>, BuildFault>
-    ensures says { (world : World) → P.fits_poms source.old world → Holds world given.now store.old
-        → Says (imports_from pom.now (imported world given.now left pom.now building.now) []
+) -> Result<ImportLists, BuildFault>
+    ensures says { (world : World) → P.fits_poms source.old world
+        → HoldsAll world given.now store.old
+        → OrFails (AreKept world given.now pom.now full.now.base.managed)
+        (imports_from pom.now (imported world given.now left pom.now building.now) []
         full.now.base.managed) result }
-    ensures replaced { IfOk result (λ lists. list_all has_no_import lists ≡ true) }
+    ensures serves { IfOk result (λ imports. serves left building.now imports.below ≡ true) }
     ensures fit { (world : World) → P.fits_poms source.old world → P.fits_poms source.new world }
-    ensures holds { (world : World) → P.fits_poms source.old world → Holds world given.now store.old
-        → Holds world given.now store.new }
+    ensures same { TellsOn P.tells_same source.old source.new }
+    ensures holds { (world : World) → P.fits_poms source.old world
+        → HoldsAll world given.now store.old → HoldsAll world given.now store.new }
     ensures cause { HasCause (P.faults source.old) (P.faults source.new) (build_failed result) }
 {
-    let mut done = List::new(alloc);
+    let mut done = ImportLists::none(alloc);
     for item in full.base.managed.as_slice() {
-        let lists = match entry(alloc, store, source, given, left, pom, building, item) {
-            Ok(lists) => lists,
+        let more = match entry(alloc, store, source, given, left, pom, building, item) {
+            Ok(more) => more,
             Err(fault) => return Err(fault),
         };
-        done = behind(done, lists)?;
+        done = done.and(more)?;
     }
     Ok(done)
 }
 
 // The entries that a managed one stands for, if it is an import.
 #[cycle(built)]
+#[tactic(auto, using(pom_lineage::proofs::Telling::untold, crate::proofs::Standing::no_import, crate::proofs::Standing::one_import))]
 fn entry<P: PomSource>(
     alloc: Global,
-    store: &mut Store,
+    store: &mut RunStore,
     source: &mut P,
     given: &Given,
     left: u32,
     pom: &PomId,
     building: &List<PomId>,
     item: &Shared<Dependency>,
-) -> Result<List<Entries>, BuildFault>
-    ensures says { (world : World) → P.fits_poms source.old world → Holds world given.now store.old
-        → Says (entry pom.now (imported world given.now left pom.now building.now) item.now) result }
-    ensures replaced { IfOk result (λ lists. list_all has_no_import lists ≡ true) }
+) -> Result<ImportLists, BuildFault>
+    ensures says { (world : World) → P.fits_poms source.old world
+        → HoldsAll world given.now store.old
+        → OrFails (IsEntry world given.now pom.now item.now)
+        (entry pom.now (imported world given.now left pom.now building.now) item.now) result }
+    ensures serves { IfOk result (λ imports. serves left building.now imports.below ≡ true) }
     ensures fit { (world : World) → P.fits_poms source.old world → P.fits_poms source.new world }
-    ensures holds { (world : World) → P.fits_poms source.old world → Holds world given.now store.old
-        → Holds world given.now store.new }
+    ensures same { TellsOn P.tells_same source.old source.new }
+    ensures holds { (world : World) → P.fits_poms source.old world
+        → HoldsAll world given.now store.old → HoldsAll world given.now store.new }
     ensures cause { HasCause (P.faults source.old) (P.faults source.new) (build_failed result) }
 {
     if !is_import(item) {
-        return Ok(List::new(alloc));
+        return Ok(ImportLists::none(alloc));
     }
     let gav = import_gav(alloc, pom, item)?;
-    let entries = imported(alloc, store, source, given, left, pom, building, &gav)?;
-    Ok(alone(alloc, entries)?)
+    let import = imported(alloc, store, source, given, left, pom, building, &gav)?;
+    Ok(ImportLists::of_import(alloc, &import)?)
 }

@@ -16,5 +16,5 @@ pub use joined::Joined;
 pub use origin::{Candidate, Origin};
 pub use parents::{is_in, next_poms};
 pub use reading::{read, with_profiles};
-pub use store::Store;
+pub use store::{Store, meets};
 pub use stored::lineage;

@@ -28,8 +28,8 @@ pub struct Store {
     elsewhere: HashMap<Gav, Shared<Joined>>,
 }
 
-// Whether one of the POMs is among the others.
-fn meets(poms: &List<PomId>, seen: &List<PomId>) -> bool
+/// Whether one of the POMs is among the others. Costs a comparison of each with each.
+pub fn meets(poms: &List<PomId>, seen: &List<PomId>) -> bool
     ensures { result ≡ meets poms.now seen.now }
 {
     poms.as_slice().iter().any(|pom| is_in(pom, seen))

@@ -1,28 +1,38 @@
-use Rattle.std.proofs.Common.{◌≡◌, ◌+◌, ◌*◌, true, [], drop}
-use Rattle.std.specs.List.{list_all}
+use Rattle.std.proofs.Common.{◌≡◌, ◌+◌, ◌*◌, true, drop}
+use Rattle.profile_activation.specs.Judging.{TellsOn}
 use Rattle.pom_source.specs.Worlds.{World}
-use Rattle.pom_lineage.specs.Stores.{Holds}
-use Rattle.effective.specs.Effective.{imported, imports_from}
-use Rattle.model_steps.specs.Valid.{has_no_import}
+use Rattle.effective.specs.Kept.{HoldsAll}
+use Rattle.effective.specs.Serving.{serves}
+use Rattle.effective.proofs.Standing.{OnTheWay}
 use Rattle.effective.proofs.imports.+built.Given as goal
 
 abbrev pub decreases-imported : goal.decreases-imported
-decreases-imported g l = 6 * l.left
+decreases-imported g l = 8 * l.left + 1
 
-abbrev pub decreases-import_entered : goal.decreases-import_entered
-decreases-import_entered g l = 6 * l.left + 5
+abbrev pub decreases-fresh : goal.decreases-fresh
+decreases-fresh g l = 8 * l.left
+
+abbrev pub decreases-import_found : goal.decreases-import_found
+decreases-import_found g l = 8 * l.left + 6
 
 abbrev pub decreases-import_read : goal.decreases-import_read
-decreases-import_read g l = 6 * l.left + 4
+decreases-import_read g l = 8 * l.left + 5
 
 abbrev pub decreases-whole : goal.decreases-whole
-decreases-whole g l = 6 * l.left + 3
+decreases-whole g l = 8 * l.left + 4
 
 abbrev pub decreases-imports : goal.decreases-imports
-decreases-imports g l = 6 * l.left + 2
+decreases-imports g l = 8 * l.left + 3
 
 abbrev pub decreases-entry : goal.decreases-entry
-decreases-entry g l = 6 * l.left + 1
+decreases-entry g l = 8 * l.left + 2
 
 abbrev pub invariant-imports-loop-item : goal.invariant-imports-loop-item
-invariant-imports-loop-item g l = ((world : World) → g.P.PomSource.fits_poms l.initial.source world → g.P.PomSource.fits_poms l.source world) × (list_all has_no_import l.done ≡ true) × (g.P.Files.faults l.source ≡ g.P.Files.faults l.initial.source) × ((world : World) → g.P.PomSource.fits_poms l.initial.source world → Holds world l.given l.initial.store → Holds world l.given l.store × (imports_from l.pom (imported world l.given l.left l.pom l.building) l.done (drop l.item-index l.item-items) ≡ imports_from l.pom (imported world l.given l.left l.pom l.building) [] l.item-items))
+invariant-imports-loop-item g l = record {
+  fit : (world : World) → g.P.PomSource.fits_poms l.initial.source world → g.P.PomSource.fits_poms l.source world;
+  same : TellsOn g.P.Files.tells_same l.initial.source l.source;
+  serves : serves l.left l.building l.done.below ≡ true;
+  faults : g.P.Files.faults l.source ≡ g.P.Files.faults l.initial.source;
+  holds : (world : World) → g.P.PomSource.fits_poms l.initial.source world → HoldsAll world l.given l.initial.store → HoldsAll world l.given l.store;
+  way : (world : World) → g.P.PomSource.fits_poms l.initial.source world → HoldsAll world l.given l.initial.store → OnTheWay world l.given l.pom l.done (drop l.item-index l.item-items) l.item-items;
+}

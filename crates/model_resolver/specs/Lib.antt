@@ -1,0 +1,10 @@
+pub use Rattle.mvn_shared.specs.Cause
+pub use Rattle.mvn_shared.specs.Files
+pub use Rattle.mvn_base.specs.FileName
+pub use Rattle.mvn_outside.specs.Shelf
+pub use Rattle.pom_source.specs.Worlds
+pub mod Finding
+pub mod Fitting
+pub mod Noting
+pub mod Devices
+pub mod Resolving

@@ -1,0 +1,16 @@
+use Rattle.std.proofs.Common.{ℕ, List, Option, Ok, Err, IfSome, subst}
+use Rattle.mvn_shared.specs.Files.{Files}
+use Rattle.source_files.specs.Sources.{sources_at, ListsNames, ReadsSources, GivesSources}
+use Rattle.source_files.proofs.SourcesRead.{if_some_map, if_some_both, names_give, reads_give}
+use Rattle.source_files.proofs.sources.project_sources.Goals as goal
+
+pub returns-in-Err-clause-gives : goal.returns-in-Err-clause-gives
+returns-in-Err-clause-gives g c = if_some_map (λ files. ListsNames files c.args.folders.now (Err c.in-Err.fault)) (λ files. GivesSources files c.args.folders.now (Err c.in-Err.fault)) (g.T.Tree.files c.args.tree.now) (λ files h. names_give files c.args.folders.now c.in-Err.fault h) c.in-Err.ensures.lists
+
+pub returns-in-Ok-clause-gives : goal.returns-in-Ok-clause-gives
+returns-in-Ok-clause-gives g c =
+    if_some_both (λ files. ListsNames files c.args.folders.now (Ok c.in-Ok.names)) (λ files. ReadsSources (sources_at files c.in-Ok.names) c.read_sources.result) (λ files. GivesSources files c.args.folders.now c.read_sources.result) (g.T.Tree.files c.args.tree.now)
+    (λ files n h. reads_give files c.args.folders.now c.in-Ok.names c.read_sources.result n h)
+    c.in-Ok.ensures.lists
+    (subst (λ (t : Option Files). IfSome t (λ files. ReadsSources (sources_at files c.in-Ok.names) c.read_sources.result)) c.in-Ok.ensures.same
+    (subst (λ (ns : List (List ℕ)). IfSome (g.T.Tree.files c.source_names.new.tree) (λ files. ReadsSources (sources_at files ns) c.read_sources.result)) c.as_slice.ensures c.read_sources.ensures.reads))

@@ -1,0 +1,7 @@
+//! The sources of a project: the files below its source folders, each once, with their bytes.
+#![tactic(auto)]
+
+mod names;
+mod sources;
+
+pub use sources::{SourcesFault, project_sources};

@@ -1,0 +1,98 @@
+// The sources of a project, read.
+ghost use Rattle.std.specs.Prelude.{◌≡◌, ◌+◌, [], ◌∷◌, IfSome, IfOk};
+ghost use Rattle.mvn_shared.specs.Cause.{HasCause};
+ghost use Rattle.source_files.specs.Sources.{GivesSources, ReadsOne, ReadsSources, sources_at, sources_failed, sources_len};
+
+use crate::names::source_names;
+use goal_types::SourceFile;
+use mvn_base::MOST_SOURCES;
+use mvn_outside::{ReadFault, Tree};
+use mvn_shared::{List, Mem, Text};
+use std::alloc::Global;
+
+/// Why the sources can't be read.
+#[derive(Clone, Copy, PartialEq, Eq)]
+pub enum SourcesFault {
+    /// The tree failed.
+    Failed,
+    /// There are too many files, or too many bytes in them.
+    TooMany,
+    Memory,
+}
+
+fn copy_of(text: &Text) -> Mem<Text>
+    ensures { IfOk result (λ copy. copy ≡ text.now) }
+{
+    Ok(text.clone()?)
+}
+
+// Reads a file, and puts it behind the sources. Answers the room that it leaves. One that isn't there any more is left out.
+fn push_source<T: Tree>(
+    tree: &mut T,
+    name: &Text,
+    room: u64,
+    sources: &mut List<SourceFile>,
+) -> Result<u64, SourcesFault>
+    ensures reads { IfSome (T.files tree.old) (λ files.
+        ReadsOne room sources.old (sources_at files (name.now ∷ [])) sources.new result) }
+    ensures left { IfOk result (λ left.
+        left + sources_len sources.new ≡ room + sources_len sources.old) }
+    ensures same { T.files tree.new ≡ T.files tree.old }
+    ensures cause { HasCause (T.faults tree.old) (T.faults tree.new) (sources_failed result) }
+{
+    let bytes = match tree.read(name, room) {
+        Ok(Some(bytes)) => bytes,
+        Ok(None) => return Ok(room),
+        Err(ReadFault::TooLarge) => return Err(SourcesFault::TooMany),
+        Err(ReadFault::Failed) => return Err(SourcesFault::Failed),
+        Err(ReadFault::Memory) => return Err(SourcesFault::Memory),
+    };
+    let left = room - bytes.len() as u64;
+    let Ok(path) = copy_of(name) else {
+        return Err(SourcesFault::Memory);
+    };
+    match sources.push(SourceFile { path, bytes }) {
+        Ok(()) => Ok(left),
+        Err(_) => Err(SourcesFault::Memory),
+    }
+}
+
+// The files of these names, with their bytes.
+fn read_sources<T: Tree>(
+    alloc: Global,
+    tree: &mut T,
+    names: &[Text],
+) -> Result<List<SourceFile>, SourcesFault>
+    ensures reads { IfSome (T.files tree.old) (λ files.
+        ReadsSources (sources_at files names.now) result) }
+    ensures same { T.files tree.new ≡ T.files tree.old }
+    ensures cause { HasCause (T.faults tree.old) (T.faults tree.new) (sources_failed result) }
+{
+    let mut sources = List::new(alloc);
+    let mut room = MOST_SOURCES;
+    for name in names {
+        match push_source(tree, name, room, &mut sources) {
+            Ok(left) => room = left,
+            Err(fault) => return Err(fault),
+        }
+    }
+    Ok(sources)
+}
+
+/// The files below the folders, each with its path and bytes, ascending by path, each once. At most 65,536 files of at most 256 MiB
+/// together. Each file is read once, for no more bytes than are still allowed. Costs the listings, and logarithmic time for each name.
+/// Maven's Standard Directory Layout.
+pub fn project_sources<T: Tree>(
+    alloc: Global,
+    tree: &mut T,
+    folders: &[Text],
+) -> Result<List<SourceFile>, SourcesFault>
+    ensures gives { IfSome (T.files tree.old) (λ files. GivesSources files folders.now result) }
+    ensures same { T.files tree.new ≡ T.files tree.old }
+    ensures cause { HasCause (T.faults tree.old) (T.faults tree.new) (sources_failed result) }
+{
+    match source_names(alloc, tree, folders) {
+        Ok(names) => read_sources(alloc, tree, names.as_slice()),
+        Err(fault) => Err(fault),
+    }
+}

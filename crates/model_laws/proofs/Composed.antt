@@ -10,14 +10,25 @@ use Rattle.model_types.specs.declared.model.RawModel.{RawModel}
 use Rattle.model_types.specs.declared.plugin.Plugin.{Plugin}
 use Rattle.model_merge.specs.Keyed.{item_of, overlaid, settled, underlaid}
 use Rattle.model_merge.specs.Merging.{key_of_dependency, key_of_pair, key_of_plugin, merged_plugin, settled_plugin, settled_plugins}
+use Rattle.inheritance.specs.Inherit.{inherit, inherit_base, inherit_coordinates}
 use Rattle.managed_deps.specs.Managed.{apply_one, apply_plugins, find_pair, with_managed}
 use Rattle.profile_injection.specs.Injection.{inject, inject_base, inject_build, inject_build_base}
 use Rattle.lifecycle.specs.Bindings.{bound_to, undeclared}
 use Rattle.model_laws.specs.Keys.{IsJoin, has}
-use Rattle.model_laws.specs.Stated.{Stays, settled_base, settled_build, settled_model}
-use Rattle.model_laws.proofs.Keys.{found_has, has_map, has_settled, item_append, item_others}
+use Rattle.model_laws.specs.Stated.{IsStatedFirst, Stays, settled_base, settled_build, settled_model}
+use Rattle.model_laws.proofs.Keys.{found_has, has_map, has_settled, item_append, item_others, item_with_others}
 use Rattle.model_laws.proofs.Merges.{found_key, item_map, join_over, keys_append, keys_map, overlaid_key, underlaid_key}
 use Rattle.model_laws.proofs.Plugins.{plugin_keeps, settled_keeps}
+
+pub stated_first : (child parent : RawModel) → IsStatedFirst child parent (inherit child parent)
+unfolding inherit inherit_coordinates inherit_base
+stated_first child parent = record {
+  group = λ text is. ap (λ o. option_or o parent.coordinates.group) is;
+  version = λ text is. ap (λ o. option_or o parent.coordinates.version) is;
+  properties = item_with_others key_of_pair child.base.properties parent.base.properties;
+  managed = item_with_others key_of_dependency child.base.managed parent.base.managed;
+  dependencies = item_with_others key_of_dependency child.base.dependencies parent.base.dependencies;
+}
 
 base_settled : (own : ModelBase) → inject_base own [] ≡ settled_base own
 unfolding inject_base

@@ -2,5 +2,6 @@ mod Composed
 mod FirstOfEach
 mod Keys
 mod Merges
+mod Places
 mod Plugins
 mod Worked

@@ -4,6 +4,7 @@ use Rattle.model_types.specs.declared.plugin.Execution.{Execution}
 use Rattle.model_types.specs.declared.plugin.Plugin.{Plugin}
 use Rattle.model_merge.specs.Configuration.{merged_configuration}
 use Rattle.model_merge.specs.Merging.{merged_execution, merged_plugin, settled_execution, settled_plugin}
+use Rattle.inheritance.specs.Placing.{inherited_plugins}
 use Rattle.managed_deps.specs.Managed.{apply_plugins}
 use Rattle.lifecycle.specs.Bindings.{bound_to}
 
@@ -40,6 +41,12 @@ executions_once : settled_plugin (plugin x (execution x (codes "p" ∷ []) ∷ e
     ≡ plugin x (execution x (codes "q" ∷ []) ∷ execution y [] ∷ [])
 unfolding settled_plugin settled_execution
 executions_once = refl
+
+-- a plugin that only the child has, and one that only the parent has
+each_alone : inherited_plugins (plugin x (execution x [] ∷ execution x [] ∷ []) ∷ []) (plugin y (execution y [] ∷ execution y [] ∷ []) ∷ [])
+    ≡ plugin y (execution y [] ∷ []) ∷ plugin x (execution x [] ∷ []) ∷ []
+unfolding inherited_plugins settled_plugin settled_execution
+each_alone = refl
 
 -- a plugin for which nothing is managed
 unmanaged : apply_plugins (plugin x (execution x [] ∷ execution x [] ∷ []) ∷ []) (plugin y [] ∷ []) ≡ plugin x (execution x [] ∷ []) ∷ []

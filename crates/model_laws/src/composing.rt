@@ -4,11 +4,26 @@ ghost use Rattle.model_types.specs.declared.model.RawModel as models;
 ghost use Rattle.model_types.specs.declared.plugin.Plugin as plugins;
 ghost use Rattle.model_merge.specs.Keyed.{item_of};
 ghost use Rattle.model_merge.specs.Merging.{key_of_dependency, key_of_plugin, merged_plugin, settled_plugins};
+ghost use Rattle.inheritance.specs.Inherit.{inherit};
+ghost use Rattle.inheritance.specs.Placing.{inheritable, inherited_plugins};
 ghost use Rattle.managed_deps.specs.Managed.{apply_one, apply_plugins, first_of_each};
 ghost use Rattle.profile_injection.specs.Injection.{inject};
 ghost use Rattle.lifecycle.specs.Bindings.{bound_to, undeclared};
 ghost use Rattle.model_laws.specs.Keys.{IsJoin, each_once};
 ghost use Rattle.model_laws.specs.Stated.{IsManagedAlone, IsStatedFirst, Managed, Stays, managed_list, names, settled_model};
+
+/// A law of inheritance: a property, a dependency and a managed dependency that a child states is the child's, and so are its group and
+/// its version; under other keys stands what its parent states. POM Reference, "Inheritance".
+pub fn child_wins()
+    ensures { (child parent : models.RawModel) → IsStatedFirst child parent (inherit child parent) }
+{}
+
+/// A law of inheritance: the names of a POM's plugins are its own and those of the plugins that its parent passes on, each once. POM
+/// Reference, "Plugins".
+pub fn inherited_names()
+    ensures { (child parent : List plugins.Plugin)
+        → IsJoin key_of_plugin (inheritable parent) child (inherited_plugins child parent) }
+{}
 
 /// A law of profiles: a POM without active profiles has its own lists, of equal keys the last, and its own plugins, each settled. POM
 /// Reference, "Profiles".

@@ -6,7 +6,7 @@ mod composing;
 mod joining;
 
 pub use composing::{
-    declared_keep_order, managed_once, managed_plugins_add_none, no_profile_settles,
-    stated_version_stays,
+    child_wins, declared_keep_order, inherited_names, managed_once, managed_plugins_add_none,
+    no_profile_settles, stated_version_stays,
 };
 pub use joining::{executions_join, lists_join, settled_stays};

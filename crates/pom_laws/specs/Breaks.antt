@@ -78,7 +78,7 @@ abbrev pub configuration_number : ℕ
 configuration_number = 21
 
 -- what is wrong in an element, at places and with paths from it on. Where an element begins: that it stands again, that it says how
--- configurations merge, that it is the 1,025th of its list. Where one ends: the version of the POM's form, and what it lacks by the lines of the table
+-- configurations merge, that it is the 1,025th of its list (where items of a list are read, nothing else is). Where one ends: the version of the POM's form, and what it lacks by the lines of the table
 pub data Breaks (nodes : List Node) : Kind → Node → (place : List ℕ) → (turn : ℕ) → Told → Type 0 where
   again : (kind : Kind) (node : Node) (i : ℕ) (e : (Kind × Times) × Node) → element_at nodes kind node i ≡ Some e
       → is_repeated e.0.1 ≡ false → StandsBefore nodes node i e.1.name → Breaks nodes kind node (i ∷ []) 0 (on_element RepeatedElement e.1.name)

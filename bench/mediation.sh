@@ -1,0 +1,41 @@
+#!/usr/bin/env bash
+# How the time of finding winners grows with the dependency graph, as ratios in one run of the built program `bench_graphs`.
+# The graph is read as text, which is part of it; a ratio of the sizes is what near linear costs.
+. "$(dirname "$0")/common.sh"
+want crates/bench_graphs/out/bench_graphs '(cd crates/bench_graphs && rt run)'
+once() { "$program" < in > out; }
+
+# WINNERS: each library needs the next one
+chain() {
+  awk -v n="$1" 'BEGIN { print "needs g a1 1 jar - - -"; for (i = 1; i <= n; i++) { print "pom g a" i " 1"; if (i < n) print "needs g a" i + 1 " 1 jar - - -" } }'
+}
+
+# WINNERS: each needs the next four, so that three declarations of each lose
+diamonds() {
+  awk -v n="$1" 'BEGIN { print "needs g a1 1 jar - - -"; for (i = 1; i <= n; i++) { print "pom g a" i " 1"; for (k = 1; k <= 4 && i + k <= n; k++) print "needs g a" i + k " 1 jar - - -" } }'
+}
+
+# WINNERS: so, below an exclusion that names none of them
+excluded() {
+  diamonds "$1" | sed '1s/-$/other:thing/'
+}
+
+# MODULES: each of ten dependencies among 300 artifacts, which need three of the next ones
+modules() {
+  awk -v n="$1" 'BEGIN { srand(7); for (m = 0; m < n; m++) { if (m) print "project"; for (k = 0; k < 10; k++) print "needs g a" 1 + int(rand() * 300) " 1 jar - - -"; for (i = 1; i <= 300; i++) { print "pom g a" i " 1"; for (k = 1; k <= 3 && i + 7 * k <= 300; k++) print "needs g a" i + 7 * k " 1 jar - - -" } } }'
+}
+
+printf 'needs g a1 1 jar - - -\n' > in
+base=$(least 15)
+for shape in chain diamonds excluded; do
+  first=
+  for winners in 2048 4096 8192 16384; do
+    "$shape" "$winners" > in
+    row "winners in a graph: $shape" "$winners" $(($(least 15) - base))
+  done
+done
+first=
+for number in 10 20 40; do
+  modules "$number" > in
+  row 'modules of ten dependencies' "$number" $(($(least 15) - base))
+done

@@ -1,0 +1,29 @@
+#!/usr/bin/env bash
+# Shows that winners are found as their definition says, on random small dependency graphs with exclusions, scopes, management, ranges,
+# missing POMs and circles. Compares with what the plain, slow graphs.py tells over all paths: the stored output of the program bench_graphs,
+# which the CI run holds that program to, on 60 graphs; and what the built program tells on 3,000 others. It needs python3.
+. "$(dirname "$0")/cases.sh"
+stored=crates/bench_graphs
+program=$stored/out/bench_graphs
+
+# COUNT SEED: writes so many graphs and their answers
+graphs() { python3 tests/graphs.py "$1" "$2" "$work/given" "$work/wanted" || stop "tests/graphs.py ended with status $?"; }
+
+graphs 60 1
+sed '1,/^project$/d' "$stored/stdin" > "$work/stdin"
+sed '1,/^$/d' "$stored/stdout" > "$work/told"
+if [ "$(grep -c '^$' "$work/wanted")" = 60 ] && cmp -s "$work/given" "$work/stdin" && cmp -s "$work/told" "$work/wanted"; then
+  pass '60 stored graphs are answered as by the definition'
+else
+  fail '60 stored graphs are answered as by the definition' "$(diff "$work/told" "$work/wanted" | sed -n 2p)"
+fi
+
+[ -x "$program" ] || stop "no $program here: call rt ci, or (cd $stored && rt run) first"
+graphs 3000 7
+"$program" < "$work/given" > "$work/told"
+if [ "$(grep -c '^$' "$work/wanted")" = 3000 ] && cmp -s "$work/told" "$work/wanted"; then
+  pass '3000 graphs are answered as by the definition'
+else
+  fail '3000 graphs are answered as by the definition' "$(diff "$work/told" "$work/wanted" | sed -n 2p)"
+fi
+tell

@@ -1,4 +1,4 @@
-ghost use Rattle.std.specs.Prelude.{◌≡◌, ℕ, ◌==◌, [], true, length, IfOk};
+ghost use Rattle.std.specs.Prelude.{◌≡◌, ◌<◌, ◌≤◌, ℕ, ◌==◌, [], true, length, is_err, IfOk};
 
 use crate::records::{close, fresh_record, give, next_script, status_of, take};
 use child_outside::{ChildRecord, Failed, Spawner};
@@ -96,10 +96,11 @@ impl<F> MemSpawner<F> {
 }
 
 impl<F: Failures> Spawner for MemSpawner<F> {
-    ghost use Rattle.std.specs.Prelude.{Some, false, ◌∷◌, ◌++◌, drop, slice_get, OnOk, OnErr};
+    ghost use Rattle.std.specs.Prelude.{Some, false, ◌∷◌, ◌++◌, take, drop, slice_get, IfSome, OnOk, OnErr};
     ghost use Rattle.mvn_shared.specs.Cause.{HasCause};
     ghost use Rattle.mvn_outside.specs.Faults.{device_failed};
-    ghost use Rattle.child_outside.specs.Children.{is_there, with_child};
+    ghost use Rattle.child_outside.specs.Children.{is_there, with_child, without_child, changed, given_more, input_closed, read_on, unread, record_of};
+    ghost use Rattle.child_outside.specs.Reading.{IsFront};
     ghost use Rattle.child_outside.specs.Numbers.{numbers};
     ghost use Rattle.child_mem.specs.Scripts.{child_of};
     ghost use Rattle.child_mem.specs.Spawner.{scripts_left, child_records, children_there};
@@ -150,7 +151,19 @@ impl<F: Failures> Spawner for MemSpawner<F> {
         Ok(child)
     }
 
-    fn write(&mut self, child: u64, bytes: &[u8]) -> Result<usize, DeviceFault> {
+    fn write(&mut self, child: u64, bytes: &[u8]) -> Result<usize, DeviceFault>
+        requires { is_there (children_there self.old) child ≡ true }
+        ensures scripts { scripts_left self.new ≡ scripts_left self.old }
+        ensures within { IfOk result (λ count. count ≤ length bytes.now) }
+        ensures progress { IfOk result (λ count. 0 < length bytes.now → 0 < count) }
+        ensures gives { IfOk result (λ count. Some (child_records self.new)
+            ≡ changed (given_more (take count bytes.now)) child (Some (child_records self.old))) }
+        ensures err { OnErr result (child_records self.new ≡ child_records self.old) }
+        ensures there { children_there self.new ≡ children_there self.old }
+        ensures never { F.never_fails self.new.calls ≡ F.never_fails self.old.calls }
+        ensures cause { HasCause (F.count self.old.calls) (F.count self.new.calls)
+            (device_failed result) }
+    {
         if self.calls.next_fails() {
             return Err(DeviceFault::Failed);
         }
@@ -160,7 +173,17 @@ impl<F: Failures> Spawner for MemSpawner<F> {
         }
     }
 
-    fn close_input(&mut self, child: u64) -> Result<(), Failed> {
+    fn close_input(&mut self, child: u64) -> Result<(), Failed>
+        requires { is_there (children_there self.old) child ≡ true }
+        ensures scripts { scripts_left self.new ≡ scripts_left self.old }
+        ensures ok { OnOk result (Some (child_records self.new)
+            ≡ changed input_closed child (Some (child_records self.old))) }
+        ensures err { OnErr result (child_records self.new ≡ child_records self.old) }
+        ensures there { children_there self.new ≡ children_there self.old }
+        ensures never { F.never_fails self.new.calls ≡ F.never_fails self.old.calls }
+        ensures cause { HasCause (F.count self.old.calls) (F.count self.new.calls)
+            (is_err result) }
+    {
         if self.calls.next_fails() {
             return Err(Failed);
         }
@@ -168,7 +191,20 @@ impl<F: Failures> Spawner for MemSpawner<F> {
         Ok(())
     }
 
-    fn read(&mut self, child: u64, into: &mut [u8]) -> Result<usize, Failed> {
+    fn read(&mut self, child: u64, into: &mut [u8]) -> Result<usize, Failed>
+        requires { is_there (children_there self.old) child ≡ true }
+        ensures scripts { scripts_left self.new ≡ scripts_left self.old }
+        ensures within { IfOk result (λ count. count ≤ length into.new) }
+        ensures front { IfSome (record_of child (Some (child_records self.old)))
+            (λ known. IfOk result (λ count. IsFront (unread known) into.new count)) }
+        ensures reads { IfOk result (λ count. Some (child_records self.new)
+            ≡ changed (read_on count) child (Some (child_records self.old))) }
+        ensures err { OnErr result (child_records self.new ≡ child_records self.old) }
+        ensures there { children_there self.new ≡ children_there self.old }
+        ensures never { F.never_fails self.new.calls ≡ F.never_fails self.old.calls }
+        ensures cause { HasCause (F.count self.old.calls) (F.count self.new.calls)
+            (is_err result) }
+    {
         if self.calls.next_fails() {
             return Err(Failed);
         }
@@ -176,7 +212,19 @@ impl<F: Failures> Spawner for MemSpawner<F> {
     }
 
     #[tactic(auto, using(child_outside::proofs::Present::one_gone))]
-    fn wait(&mut self, child: u64) -> Result<i32, Failed> {
+    fn wait(&mut self, child: u64) -> Result<i32, Failed>
+        requires { is_there (children_there self.old) child ≡ true }
+        ensures scripts { scripts_left self.new ≡ scripts_left self.old }
+        ensures status { IfSome (record_of child (Some (child_records self.old)))
+            (λ known. IfOk result (λ status. status ≡ known.status)) }
+        ensures gone { OnOk result
+            (children_there self.new ≡ without_child (children_there self.old) child) }
+        ensures err { OnErr result (children_there self.new ≡ children_there self.old) }
+        ensures same { child_records self.new ≡ child_records self.old }
+        ensures never { F.never_fails self.new.calls ≡ F.never_fails self.old.calls }
+        ensures cause { HasCause (F.count self.old.calls) (F.count self.new.calls)
+            (is_err result) }
+    {
         if self.calls.next_fails() {
             return Err(Failed);
         }
@@ -185,7 +233,14 @@ impl<F: Failures> Spawner for MemSpawner<F> {
     }
 
     #[tactic(auto, using(child_outside::proofs::Present::one_gone))]
-    fn drop_child(&mut self, child: u64) {
+    fn drop_child(&mut self, child: u64)
+        requires { is_there (children_there self.old) child ≡ true }
+        ensures scripts { scripts_left self.new ≡ scripts_left self.old }
+        ensures gone { children_there self.new ≡ without_child (children_there self.old) child }
+        ensures same { child_records self.new ≡ child_records self.old }
+        ensures never { F.never_fails self.new.calls ≡ F.never_fails self.old.calls }
+        ensures faults { F.count self.new.calls ≡ F.count self.old.calls }
+    {
         self.there.remove(&child);
     }
 }

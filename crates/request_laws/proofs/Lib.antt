@@ -1,0 +1,7 @@
+pub mod Feeds
+pub mod Files
+pub mod Json
+pub mod Lists
+pub mod Requests
+pub mod Settings
+pub mod Steps

@@ -1,0 +1,5 @@
+use Rattle.request_laws.proofs.Files.{file_is_read, read_is_path}
+use Rattle.request_laws.proofs.law.files_are_read.Goals as goal
+
+pub returns : goal.returns
+returns c = record { read = file_is_read; path = read_is_path }

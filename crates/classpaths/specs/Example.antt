@@ -1,5 +1,5 @@
 -- A project needs `web`, the jar of its tests, and for tests a jar without a POM.
-use Rattle.std.specs.Prelude.{ℕ, Bool, true, false, List, [], codes, Option, Some, None}
+use Rattle.std.specs.Prelude.{ℕ, Bool, true, false, List, [], codes}
 use Rattle.collector.specs.declared.scope.Scope.{Scope}
 use Rattle.collector.specs.declared.scope.Scope.TheVariants as scopes
 use Rattle.classpaths.specs.declared.resolution.Resolved.{Resolved}
@@ -10,8 +10,6 @@ needed artifact kind scope found = record {
   kind = kind;
   classifier = [];
   scope = scope;
-  above = None;
-  position = 0;
   pom_found = found;
 }
 

@@ -10,10 +10,6 @@ pub struct Resolved {
     pub kind: Text,
     pub classifier: Text,
     pub scope: Scope,
-    /// The place of the one whose POM declares it; `None` where the project does.
-    pub above: Option<usize>,
-    /// The place of the declaration among that POM's dependencies, from 0.
-    pub position: usize,
     /// Whether it has a POM.
     pub pom_found: bool,
 }

@@ -1,0 +1,2 @@
+pub use Rattle.mediation.specs.Rows
+pub mod Conflicts

@@ -1,0 +1,38 @@
+ghost use Rattle.std.specs.Prelude.{◌≡◌, IfOk};
+ghost use Rattle.version_order.specs.Requirements.{requirement};
+ghost use Rattle.range_conflicts.specs.Conflicts.{conflicts, is_unmet, refuses};
+
+use collector::Edge;
+use mediation::Winners;
+use mvn_shared::{Mem, OutOfMemory, Text};
+use std::alloc::Global;
+use version_order::{Requirement, RequirementError, Version};
+
+// Whether a requirement doesn't admit a version.
+fn refuses(alloc: Global, requirement: &Requirement, version: &Text) -> Mem<bool>
+    ensures { IfOk result (λ it. it ≡ refuses requirement.now version.now) }
+{
+    let version = Version::parse(alloc, version)?;
+    Ok(!requirement.admits(&version))
+}
+
+// Whether what a text requires doesn't admit a version; a text that requires nothing admits all.
+fn is_unmet(alloc: Global, text: &Text, version: &Text) -> Mem<bool>
+    ensures { IfOk result (λ it. it ≡ is_unmet (requirement text.now) version.now) }
+{
+    match Requirement::parse(alloc, text) {
+        Ok(requirement) => refuses(alloc, &requirement, version),
+        Err(RequirementError::BadRange { .. }) => Ok(false),
+        Err(RequirementError::Memory) => Err(OutOfMemory),
+    }
+}
+
+// Whether an edge's requirement doesn't admit the version of its key's winner.
+pub fn conflicts(alloc: Global, winners: &Winners, edge: &Edge) -> Mem<bool>
+    ensures { IfOk result (λ it. it ≡ conflicts winners.now edge.now) }
+{
+    match winners.find(&edge.key) {
+        Some(winner) => is_unmet(alloc, &edge.requirement, &winner.version),
+        None => Ok(false),
+    }
+}

@@ -84,7 +84,7 @@ def leads_to(project, path):
         return list(enumerate(project["direct"]))
     version, refusal = picked(project, path)
     group, artifact, _ = path[-1][1]["key"]
-    if refusal is not None:
+    if refusal is not None or (group, artifact, version) in project["refused"]:
         return []
     cut = cut_along(project, path)
     kept = []
@@ -195,7 +195,8 @@ def notes(project, winners):
 
 
 def files(project, winners):
-    """The names of what is fetched, in preorder: a winner's POM where there is one, then its artifact; each name once."""
+    """The names of what is fetched, in preorder: a winner's POM where there is one, also a refused one, then its artifact;
+    each name once."""
     names = []
     for path in sorted(winners.values(), key=positions):
         group, artifact, kind = key_of(path)
@@ -274,10 +275,8 @@ def random_project(pick):
 
 
 def refuse_some(pick, project):
-    """Some POMs are refused, so that they lead to nothing."""
+    """Some POMs are refused: they are there, and lead to nothing."""
     project["refused"] = [gav for gav in project["poms"] if pick.random() < 0.1]
-    for gav in project["refused"]:
-        del project["poms"][gav]
 
 
 def line(word, declaration):

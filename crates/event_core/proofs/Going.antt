@@ -34,7 +34,7 @@ use Rattle.event_core.specs.Kept.{course_at}
 use Rattle.event_core.specs.ScriptPlaces.{IsPlaced, rest_of}
 use Rattle.event_core.specs.Standing.{Standing, course_of, first_lost, first_not_built, goals_of, held_by, idle, is_complete, is_done, is_empty, is_lost, is_over, is_ready, is_skippable, is_waiting, module_of, on_course, progress_of, upstream_of}
 use Rattle.event_core.proofs.Climbs.{both, get_map, none_beyond}
-use Rattle.event_core.proofs.Dues.{answer_yes, below_or_not, fetch_yes, lock_here, lock_yes, not_take, own_freed_none, own_freed_yes, own_yes, pom_yes, read_yes, share_here, share_yes}
+use Rattle.event_core.proofs.Dues.{answer_yes, below_or_not, fetch_yes, lock_here, lock_yes, not_take, own_freed_none, own_freed_yes, own_here, own_yes, pom_yes, read_yes, share_here, share_yes}
 use Rattle.event_core.proofs.Weights.{nothing_is}
 
 -- ---- numbers of lists
@@ -451,3 +451,43 @@ due_above o now courses v n mode same_courses all tied sound inside due = by (ge
         let found = module_at o k low (slice_get o.modules k) refl in
         let rest : course_of now v ≡ on_course k (rest_of found.0 s) answered = at ∙ ap (λ x. on_course k (option_map_or (λ t. rest_of t s) x whole) answered) found.1 in
         take_above o k found.0 s (held_by now v) mode n (sound k found.0 found.1) (holds found.0 found.1) (ap (λ c. is_due c (deed.Take mode n)) (sym rest) ∙ due)
+
+-- ---- a name that is due is in range
+
+other_low : (m : ModuleOutline) (s : ScriptPlace) (held : List ℕ) (mode : Mode) (n top : ℕ) → takes_at s ≡ false → HoldsAt m s held → is_some (done (rest_of m s) (deed.Take mode n)) ≡ true → n < top
+other_low m s held mode n top off holds is =
+    absurd (no_take (done (rest_of m s) (deed.Take mode n)) (not_take m mode n s (placed_of m s held holds) (λ k e. false≢true (sym off ∙ ap takes_at e)) (λ k e. false≢true (sym off ∙ ap takes_at e)) (λ e. false≢true (sym off ∙ ap takes_at e))) is)
+
+take_low : (o : Outline) (number : ℕ) (m : ModuleOutline) (s : ScriptPlace) (held : List ℕ) (mode : Mode) (n : ℕ) → IsSoundModule o number m → HoldsAt m s held → is_some (done (rest_of m s) (deed.Take mode n)) ≡ true → n < o.names
+take_low o number m (place.Sharing i) held mode n sound holds is =
+    let here = wanted_name 2 mode Shared n (get_or m.batch i 0) (rest_of m (place.Sharing (i + 1))) (ap is_some (sym (share_here m i (deed.Take mode n) holds.0)) ∙ is) in
+    subst (λ k. k < o.names) (sym here) (item_below o.names m.batch i sound.names holds.0)
+take_low o number m (place.Locking i) held mode n sound holds is =
+    let here = wanted_name 3 mode Exclusive n (get_or m.batch i 0) (rest_of m (place.Locking (i + 1))) (ap is_some (sym (lock_here m i (deed.Take mode n) holds.0)) ∙ is) in
+    subst (λ k. k < o.names) (sym here) (item_below o.names m.batch i sound.names holds.0)
+take_low o number m place.Securing held mode n sound holds is =
+    let here = wanted_name 6 mode Exclusive n m.own_name (rest_of m (place.Installing 0)) (ap is_some (sym (own_here m (deed.Take mode n) holds.0)) ∙ is) in
+    subst (λ k. k < o.names) (sym here) sound.own_name
+take_low o number m place.Unsharing held mode n sound holds is = other_low m place.Unsharing held mode n o.names refl holds is
+take_low o number m (place.Fetching i) held mode n sound holds is = other_low m (place.Fetching i) held mode n o.names refl holds is
+take_low o number m (place.Reading i) held mode n sound holds is = other_low m (place.Reading i) held mode n o.names refl holds is
+take_low o number m place.Releasing held mode n sound holds is = other_low m place.Releasing held mode n o.names refl holds is
+take_low o number m (place.Answering i) held mode n sound holds is = other_low m (place.Answering i) held mode n o.names refl holds is
+take_low o number m (place.Installing i) held mode n sound holds is = other_low m (place.Installing i) held mode n o.names refl holds is
+take_low o number m place.Whole held mode n sound holds is = other_low m place.Whole held mode n o.names refl holds is
+
+pub due_low : (o : Outline) (now : Standing) (courses : List KeptCourse) (v n : ℕ) (mode : Mode) → now.courses ≡ map (course_at o) courses → AllHold o courses now.held → IsTied o now → IsSound o → v < o.workers → is_due (course_of now v) (deed.Take mode n) ≡ true → n < o.names
+due_low o now courses v n mode same_courses all tied sound inside due = by (get_or courses v kept.Idle) refl (all v inside)
+  where
+    course : (w : KeptCourse) → get_or courses v kept.Idle ≡ w → course_of now v ≡ course_at o w
+    course w e = ap (λ cs. get_or cs v idle) same_courses ∙ get_map (course_at o) courses v kept.Idle ∙ ap (course_at o) e
+
+    by : (w : KeptCourse) → get_or courses v kept.Idle ≡ w → CourseHolds o w (held_by now v) → n < o.names
+    by kept.Idle e holds = absurd (false≢true (ap (λ c. is_due c (deed.Take mode n)) (sym (course kept.Idle e)) ∙ due))
+    by (kept.Off k missing gathered) e holds = absurd (false≢true (ap (λ c. is_due c (deed.Take mode n)) (sym (course (kept.Off k missing gathered) e)) ∙ due))
+    by (kept.On k s answered) e holds =
+        let at = course (kept.On k s answered) e in
+        let low = tied.real v k (ap module_of at) in
+        let found = module_at o k low (slice_get o.modules k) refl in
+        let rest : course_of now v ≡ on_course k (rest_of found.0 s) answered = at ∙ ap (λ x. on_course k (option_map_or (λ t. rest_of t s) x whole) answered) found.1 in
+        take_low o k found.0 s (held_by now v) mode n (sound k found.0 found.1) (holds found.0 found.1) (ap (λ c. is_due c (deed.Take mode n)) (sym rest) ∙ due)

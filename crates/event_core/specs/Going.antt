@@ -1,5 +1,6 @@
 -- That a build goes on: some worker has an event that is due and may come. Own.
-use Rattle.std.specs.Prelude.{◌≡◌, ℕ, ◌<◌, Bool, true, false, find, length, None, Some}
+use Rattle.std.specs.Prelude.{◌≡◌, ℕ, ◌<◌, Bool, true, false, nat_lt, find, length, None, Some}
+use Rattle.std.specs.List.{list_all}
 use Rattle.name_locks.specs.declared.mode.Mode.{Mode}
 use Rattle.name_locks.specs.Locks.{below, blocker}
 use Rattle.build_core.specs.declared.ending.Ending.TheVariants.{Built}
@@ -9,7 +10,7 @@ use Rattle.event_core.specs.declared.outline.Outline.{Outline}
 use Rattle.event_core.specs.declared.deed.Deed.TheVariants as deed
 use Rattle.event_core.specs.Enabled.{IsEnabled, is_due, may_end_so}
 use Rattle.event_core.specs.Sound.{IsSound}
-use Rattle.event_core.specs.Standing.{Course, Standing, course_of, idle, is_complete, is_ready, is_skippable, off_course, on_course}
+use Rattle.event_core.specs.Standing.{Course, Standing, course_of, held_by, idle, is_complete, is_ready, is_skippable, off_course, on_course}
 
 -- an event of a worker that its script wants next; a free of any name where frees are due, and the good end
 abbrev pub IsDue : Outline → Standing → ℕ → Event → Type 0
@@ -40,6 +41,10 @@ AreOn o now = (v : ℕ) → v < o.workers → is_on (course_of now v) ≡ true
 abbrev pub NeverLocked : Outline → Standing → Type 0
 NeverLocked o now = IsSound o → AreOn o now → (w n : ℕ) (mode : Mode) (h : ℕ) → w < o.workers → is_due (course_of now w) (deed.Take mode n) ≡ true → blocker now.locks n w mode ≡ Some h
     → (u : ℕ) × ((u ≡ w) → ⊥) × (u < o.workers) × GoesOn o now u
+
+-- a name that is due is in range, and above all that its worker holds: so nothing but another's hold keeps the worker from it
+abbrev pub NamesAscend : Outline → Standing → Type 0
+NamesAscend o now = IsSound o → (w n : ℕ) (mode : Mode) → w < o.workers → is_due (course_of now w) (deed.Take mode n) ≡ true → (n < o.names) × (list_all (λ h. nat_lt h n) (held_by now w) ≡ true)
 
 -- where nothing may begin or be skipped, and not all is over, some worker goes on
 abbrev pub NeverWaits : Outline → Standing → Type 0

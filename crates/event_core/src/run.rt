@@ -5,16 +5,16 @@ ghost use Rattle.event_core.specs.Bounds.{most_events};
 ghost use Rattle.event_core.specs.Causes.{cause_now};
 ghost use Rattle.event_core.specs.Enabled.{Enabled, IsRun};
 ghost use Rattle.event_core.specs.Fitting.{IsFit};
-ghost use Rattle.event_core.specs.Going.{NeverLocked, NeverWaits};
+ghost use Rattle.event_core.specs.Going.{NamesAscend, NeverLocked, NeverWaits};
 ghost use Rattle.event_core.specs.Outlines.{outline_of};
 ghost use Rattle.event_core.specs.Scripts.{is_there};
-ghost use Rattle.event_core.specs.Standing.{is_complete, is_ready, is_skippable, standing_of, state_of};
+ghost use Rattle.event_core.specs.Standing.{course_of, is_complete, is_ready, is_skippable, module_of, standing_of, state_of};
 
 use crate::outline::Outline;
 use crate::refused::NotEnabled;
 use crate::standing::Standing;
 use build_core::{Event, Plan, State};
-use mvn_shared::Mem;
+use mvn_shared::{List, Mem};
 use std::alloc::Global;
 use std::marker::Model;
 
@@ -121,11 +121,12 @@ impl Core {
 
     /// A law: where the plan is sound and no worker has left its script, a build never comes to a stand. Behind a worker whose due name
     /// is excluded by another's hold (`lock`), and where nothing may begin or be skipped and not all is over (`wait`), some other, or
-    /// some, worker has an event that is due and may come. It rests on names being taken in ascending order. Does nothing. Resolver,
-    /// "Named Locks"; own as a law.
+    /// some, worker has an event that is due and may come. It rests on names being taken in ascending order (`names`, which needs no
+    /// worker on its script). Does nothing. Resolver, "Named Locks"; own as a law.
     pub fn never_stuck(&self)
         ensures lock { NeverLocked self.now.0 (standing_of self.now.0 self.now.1) }
         ensures wait { NeverWaits self.now.0 (standing_of self.now.0 self.now.1) }
+        ensures names { NamesAscend self.now.0 (standing_of self.now.0 self.now.1) }
     {
         let _events = self.history.len();
     }
@@ -161,6 +162,21 @@ impl Core {
             (standing_of self.now.0 self.now.1).progress) (below (length self.now.0.modules)) }
     {
         self.standing.modules.skippable()
+    }
+
+    /// The module that a worker builds. Constant time.
+    pub fn module(&self, worker: u32) -> Option<u32>
+        ensures { result ≡ module_of (course_of (standing_of self.now.0 self.now.1) worker) }
+    {
+        self.standing.course(worker).module()
+    }
+
+    /// The events, when nothing more is asked of the core. Takes no memory.
+    pub fn into_events(self) -> List<Event>
+        ensures { result ≡ self.1 }
+    {
+        let Core { history, .. } = self;
+        List::of(history)
     }
 
     /// How a module stands. Constant time.

@@ -36,10 +36,8 @@ pub trait Kept {
     fn workers(&self) -> u32
         ensures { result ≡ count self.now };
 
-    /// How long the log is. Takes no memory; constant time.
+    /// How long the log is; none is longer. Takes no memory; constant time.
     fn entries(&self) -> u64
-        ensures { result ≡ length (log self.now) };
-
-    /// No log is longer.
-    ghost few: { (value : Self) → length (log value) < 2 ^ 62 };
+        ensures length { result ≡ length (log self.now) }
+        ensures few { length (log self.now) < 2 ^ 62 };
 }

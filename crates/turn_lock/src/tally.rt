@@ -44,8 +44,6 @@ impl Kept for Tally {
 
     ghost role = { λ note. GoesOn note.worker };
 
-    ghost few = { λ tally. tally.short };
-
     fn workers(&self) -> u32 {
         self.workers
     }

@@ -11,4 +11,4 @@ new-requires g c =
     let x = c.args.value in
     subst (λ y. IsTurned k.fixed k.log k.count k.role (opening (2 * c.entries-entries.result ∷ 0 ∷ 0 ∷ []) c.in-Ok.slots.items (first_view (k.log y) (k.fixed y) (k.count y)))) (sym c.of-about.ensures)
     (subst (λ xs. IsTurned k.fixed k.log k.count k.role (opening (2 * c.entries-entries.result ∷ 0 ∷ 0 ∷ []) xs (first_view (k.log x) (k.fixed x) (k.count x)))) (sym c.in-Ok.ensures.ok)
-    (first_rule k.fixed k.log k.count k.role x c.entries-entries.result c.entries-entries.ensures c.requires.some_worker c.requires.fresh (g.met.V.Kept.few x)))
+    (first_rule k.fixed k.log k.count k.role x c.entries-entries.result c.entries-entries.ensures.length c.requires.some_worker c.requires.fresh c.entries-entries.ensures.few))

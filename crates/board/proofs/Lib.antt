@@ -1,0 +1,3 @@
+mod Boards
+mod Logs
+mod Steps

@@ -1,0 +1,51 @@
+-- The program's own words: what a board keeps, and how it belongs together.
+use Rattle.std.specs.Prelude.{◌≡◌, ℕ, ◌+◌, ◌<◌, ◌≤◌, ◌^◌, Bool, true, false, List, [], ◌∷◌, length, Option, IfSome}
+use Rattle.mvn_outside.specs.declared.shelf.ShelfTold.{ShelfTold}
+use Rattle.build_core.specs.declared.event.Answered.{Answered}
+use Rattle.build_core.specs.declared.event.Event.{Event}
+use Rattle.build_core.specs.declared.event.Event.TheVariants as event
+use Rattle.build_core.specs.declared.plan.Plan.{Plan}
+use Rattle.event_core.specs.Outlines.{outline_of}
+use Rattle.event_core.specs.Runs.{answers_in}
+use Rattle.event_core.specs.SoundPlans.{IsSoundPlan}
+use Rattle.event_core.specs.declared.entry.RunEntry.{RunEntry}
+use Rattle.event_core.specs.declared.outline.Outline.{Outline}
+use Rattle.board.specs.Builds.{AreCaused}
+use Rattle.board.specs.Logs.{log_of, published_since, told_after}
+
+-- how many events are publishes, and how many answers
+abbrev pub publish_count : List Event → ℕ
+publish_count [] = 0
+publish_count (event.Publish w file ∷ events) = 1 + publish_count events
+publish_count (e ∷ events) = publish_count events
+
+abbrev pub answer_count : List Event → ℕ
+answer_count [] = 0
+answer_count (event.Answer w goal ∷ events) = 1 + answer_count events
+answer_count (e ∷ events) = answer_count events
+
+-- an event that is neither
+abbrev pub is_plain : Event → Bool
+is_plain (event.Publish w file) = false
+is_plain (event.Answer w goal) = false
+is_plain e = true
+
+-- the log, by what the repository told and tells
+abbrev pub log_by : (opening now : Option ShelfTold) → List Answered → List Event → List RunEntry
+log_by opening now answers events = log_of (published_since opening now) answers events
+
+-- a board's parts belong together: its events are the core's, each publish and each answer of them is told, faults are counted, and there is room
+-- for more answers; `told` and `faults` are what a repository tells, and its count
+pub record IsBoard {S : Type 0} (told : S → Option ShelfTold) (faults : S → ℕ) (plan : Plan) (core : Outline × List Event) (opening shelf : S) (answers : List Answered) (marks : List Bool) (room : ℕ) : Type 0 where
+  pub outline : core.0 ≡ outline_of plan
+  pub sound : IsSoundPlan plan
+  pub short : plan.events < 2 ^ 62
+  pub few : length plan.modules < 2 ^ 32
+  pub tells : told shelf ≡ told_after plan (log_by (told opening) (told shelf) answers core.1) (told opening)
+  pub published : IfSome (published_since (told opening) (told shelf)) (λ since. publish_count core.1 ≡ length since)
+  pub answered : answer_count core.1 ≡ length answers
+  pub kept : answers ≡ answers_in plan (log_by (told opening) (told shelf) answers core.1)
+  pub workers : length marks ≡ plan.workers
+  pub roomy : plan.events ≤ room
+  pub caused : AreCaused (told opening) (faults opening) (faults shelf) (log_by (told opening) (told shelf) answers core.1) marks
+  pub untouched : core.1 ≡ [] → shelf ≡ opening

@@ -1,0 +1,5 @@
+pub use Rattle.event_core.specs.Runs
+pub mod Builds
+pub mod Examples
+pub mod Keeping
+pub mod Logs

@@ -1,0 +1,14 @@
+// What the board answers.
+
+/// What a worker is told to do next.
+#[derive(Clone, Copy, Debug, PartialEq, Eq)]
+pub enum Next {
+    /// It builds this module, which has begun.
+    Module(u32),
+    /// This module was skipped; it asks again.
+    Skipped(u32),
+    /// Nothing may begin until another worker goes on.
+    Wait,
+    /// Each module has ended or was skipped.
+    Done,
+}

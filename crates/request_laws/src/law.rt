@@ -7,15 +7,18 @@ ghost use Rattle.goal_requests.specs.Names.{file_in};
 ghost use Rattle.goal_requests.specs.Requests.{request_in};
 ghost use Rattle.request_laws.specs.Telling.{IsTold};
 
-/// A law of the definitions: the path of each file of valid coordinates is read as its name, and what is read of a path is that
-/// path. It does nothing when it runs. Maven's repository layout.
+/// A law of the definitions: the path of each file of valid coordinates is read as its name, what is read is such a name, and it is
+/// the path itself. It does nothing when it runs. Maven's repository layout.
 pub fn files_are_read()
     ensures read { (gav : Gav) (name : List ℕ) → IsFileOf gav name → file_in name ≡ Some name }
+    ensures named { (path name : List ℕ) → file_in path ≡ Some name →
+        (gav : Gav) × IsFileOf gav name }
     ensures path { (path : List ℕ) → (file_in path ≡ None) ⊎ (file_in path ≡ Some path) }
 {}
 
 /// A law of the definitions: the bytes that are written for a request are read as that request, if its goal has the slot and the
-/// classpath that it has by default, and its lists and settings are such as `mvn` makes. It does nothing when it runs. Own format.
+/// classpath that it has by default, and its outputs, files and settings are as `IsTold` says. It does nothing when it runs. Own
+/// format.
 pub fn requests_are_read()
     ensures { (request : GoalRequest) → IsTold request →
         request_in (request_text request) ≡ Some request }

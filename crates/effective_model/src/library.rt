@@ -1,8 +1,8 @@
 // The POMs of a repository on a disk.
-use crate::reading::pom_bytes;
+use crate::reading::{all_files, pom_bytes};
 use mvn_base::{Gav, PomId};
-use mvn_outside::Tree;
-use mvn_shared::Text;
+use mvn_outside::{ReadFault, Tree};
+use mvn_shared::{Bytes, Mem, Text};
 use outside_mem::NoFailures;
 use outside_real::RealTree;
 use pom_source::Found;
@@ -10,7 +10,7 @@ use source_mem::MemPoms;
 use std::alloc::Global;
 
 // The group that folders stand for.
-fn group_of(alloc: Global, folders: &str) -> anyhow::Result<Text> {
+fn group_of(alloc: Global, folders: &str) -> Mem<Text> {
     let mut group = String::new(alloc);
     for folder in folders.split('/') {
         if !group.is_empty() {
@@ -28,25 +28,64 @@ fn is_pom_name(name: &str, artifact: &str, version: &str) -> bool {
     rest.strip_prefix(version).unwrap_or("") == ".pom"
 }
 
-// The coordinates of a POM by its path in a repository: the group's folders, the artifact's, the version's, and the file.
-fn gav_at(alloc: Global, path: &str) -> anyhow::Result<Option<Gav>> {
-    let Some((folder, name)) = path.rsplit_once('/') else {
-        return Ok(None);
-    };
-    let Some((above, version)) = folder.rsplit_once('/') else {
-        return Ok(None);
-    };
-    let Some((folders, artifact)) = above.rsplit_once('/') else {
-        return Ok(None);
-    };
-    if !is_pom_name(name, artifact, version) {
-        return Ok(None);
+// The folders of the group, the artifact and the version that the path of a POM names.
+fn parts_at(path: &str) -> Option<(&str, &str, &str)> {
+    let (folder, name) = path.rsplit_once('/')?;
+    let (above, version) = folder.rsplit_once('/')?;
+    let (folders, artifact) = above.rsplit_once('/')?;
+    if is_pom_name(name, artifact, version) {
+        Some((folders, artifact, version))
+    } else {
+        None
     }
-    Ok(Some(Gav {
-        group: group_of(alloc, folders)?,
-        artifact: Text::from_str(alloc, artifact)?,
-        version: Text::from_str(alloc, version)?,
-    }))
+}
+
+fn gav_of(alloc: Global, folders: &str, artifact: &str, version: &str) -> Mem<Gav> {
+    let group = group_of(alloc, folders)?;
+    let artifact = Text::from_str(alloc, artifact)?;
+    let version = Text::from_str(alloc, version)?;
+    Ok(Gav {
+        group,
+        artifact,
+        version,
+    })
+}
+
+// Puts a POM under coordinates.
+fn put_pom(source: &mut MemPoms<NoFailures>, gav: Gav, bytes: Bytes) -> Mem<()> {
+    let pom = PomId::Gav(gav.clone()?);
+    source.put_found(gav, Found { pom, bytes })
+}
+
+// Puts a file of a repository under the coordinates that its path names, if it is a POM.
+fn put_file<T: Tree>(
+    source: &mut MemPoms<NoFailures>,
+    tree: &mut T,
+    alloc: Global,
+    path: &Text,
+) -> Result<(), ReadFault> {
+    let Some((folders, artifact, version)) = parts_at(path.as_str()) else {
+        return Ok(());
+    };
+    let Some(bytes) = pom_bytes(tree, alloc, path)? else {
+        return Ok(());
+    };
+    let gav = gav_of(alloc, folders, artifact, version)?;
+    put_pom(source, gav, bytes)?;
+    Ok(())
+}
+
+// Puts each POM of a tree under its coordinates.
+fn put_tree<T: Tree>(
+    source: &mut MemPoms<NoFailures>,
+    tree: &mut T,
+    alloc: Global,
+) -> anyhow::Result<()> {
+    let paths = all_files(tree, alloc)?;
+    for path in paths.as_slice() {
+        put_file(source, tree, alloc, path)?;
+    }
+    Ok(())
 }
 
 /// Puts each POM of a repository under its coordinates.
@@ -55,16 +94,6 @@ pub(crate) fn read_library(
     source: &mut MemPoms<NoFailures>,
     folder: &str,
 ) -> anyhow::Result<()> {
-    let alloc = rt.alloc();
-    let mut tree = RealTree::new(rt, Text::from_str(alloc, folder)?);
-    for path in tree.list(&Text::from_str(alloc, "")?)?.as_slice() {
-        let Some(gav) = gav_at(alloc, path.as_str())? else {
-            continue;
-        };
-        if let Some(bytes) = pom_bytes(&mut tree, alloc, path)? {
-            let pom = PomId::Gav(gav.clone()?);
-            source.put_found(gav, Found { pom, bytes })?;
-        }
-    }
-    Ok(())
+    let mut tree = RealTree::new(rt, Text::from_str(rt.alloc(), folder)?);
+    put_tree(source, &mut tree, rt.alloc())
 }

@@ -61,8 +61,8 @@ fn add_files(
     winner: &Resolved,
 ) -> Mem<()>
     requires { HasNames winner.now }
-    ensures { OnOk result
-        (files.new ≡ fold with_name files.old (files_of (contains gav_eq selected.now) winner.now)) }
+    ensures { OnOk result (files.new
+        ≡ fold with_name files.old (files_of (contains gav_eq selected.now) winner.now)) }
 {
     if selected.contains(&winner.gav) {
         return Ok(());
@@ -79,7 +79,8 @@ impl Resolution {
     /// Maven's repository layout.
     pub fn files(&self, alloc: Global, selected: &HashSet<Gav>) -> Mem<List<FileName>>
         requires { All HasNames self.now.winners }
-        ensures { IfOk result (λ list. list ≡ fetch_list (contains gav_eq selected.now) self.now.winners) }
+        ensures { IfOk result (λ list. list
+            ≡ fetch_list (contains gav_eq selected.now) self.now.winners) }
     {
         let mut files = Files::new(alloc);
         let winners = self.winners.as_slice();

@@ -39,7 +39,8 @@ impl MemLibraries {
             ≡ with_model (models_in self.old) gav model other) }
         ensures err { OnErr result ((other : gavs.Gav) → models_in self.new other
             ≡ models_in self.old other) }
-        ensures versions { (name : Items ℕ) → versions_in self.new name ≡ versions_in self.old name }
+        ensures versions { (name : Items ℕ)
+            → versions_in self.new name ≡ versions_in self.old name }
     {
         self.models.insert(gav, model)?;
         Ok(())
@@ -59,10 +60,11 @@ impl MemLibraries {
         Ok(())
     }
 
-    /// A law of libraries in memory: there are libraries that they fit. So a clause for all libraries that fit says something of them.
-    /// It does nothing when it runs. Project rule.
+    /// A law of libraries in memory: there are libraries that they fit. So a clause for all libraries that fit says
+    /// something of them. It does nothing when it runs. Project rule.
     pub fn fits_libraries(&self)
-        ensures { (libraries : Libraries) × Fits (models_in self.now) (versions_in self.now) libraries }
+        ensures { (libraries : Libraries)
+            × Fits (models_in self.now) (versions_in self.now) libraries }
     {}
 }
 

@@ -77,7 +77,8 @@ impl Winners {
     /// The place of a key's winner; `None` where it has none. Costs the key, on the average.
     pub fn place(&self, key: &Key) -> Option<usize>
         ensures value { result ≡ place_of self.now key.now }
-        ensures there { IfSome result (λ place. slice_get self.now place ≡ row_of self.now key.now) }
+        ensures there { IfSome result (λ place.
+            slice_get self.now place ≡ row_of self.now key.now) }
     {
         self.index.get_index_of(key)
     }

@@ -105,8 +105,8 @@ fn add_links(
     winners: &Winners,
     place: usize,
 ) -> Mem<()>
-    ensures { OnOk result (list.new ≡ list.old
-        ++ map (links_below managed.now winners.now) (option_to_list (slice_get winners.now place))) }
+    ensures { OnOk result (list.new ≡ list.old ++ map (links_below managed.now winners.now)
+        (option_to_list (slice_get winners.now place))) }
 {
     if let Some(winner) = winners.get(place) {
         list.push(links_below(alloc, managed, winners, winner)?)?;

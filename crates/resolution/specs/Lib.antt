@@ -1,0 +1,6 @@
+pub use Rattle.mediation.specs.Libraries
+pub use Rattle.mediation.specs.Rows
+pub use Rattle.winner_scopes.specs.Scopes
+pub use Rattle.range_conflicts.specs.Conflicts
+pub use Rattle.tree_order.specs.Preorder
+pub mod Resolved

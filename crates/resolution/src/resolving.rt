@@ -1,0 +1,95 @@
+ghost use Rattle.std.specs.Prelude.{◌≡◌, Err, Ok, false, IfOk};
+ghost use Rattle.mvn_base.specs.Key.{key_text};
+ghost use Rattle.mvn_base.specs.declared.rule.Rule.TheVariants.{RangeConflict};
+ghost use Rattle.mvn_shared.specs.Cause.{HasCause};
+ghost use Rattle.mediation.specs.Faults.{Says, is_faulty};
+ghost use Rattle.mediation.specs.Libraries.{Libraries, graph_of};
+ghost use Rattle.mediation.specs.Rows.{IsWhole};
+ghost use Rattle.resolution.specs.Resolved.{IsMade, Mediates};
+
+use crate::notes::notes_of;
+use crate::resolved::resolved_in;
+use crate::tree::order_of;
+use classpaths::Resolution;
+use managed_deps::ManagedSet;
+use mediation::{Lookup, MediationFault, Winner, Winners, find_winners};
+use model_types::Dependency;
+use mvn_base::{Rule, key_text};
+use mvn_shared::{Mem, Shared};
+use range_conflicts::first_conflict;
+use std::alloc::Global;
+use winner_scopes::scopes_of;
+
+// What winners come to.
+fn made(
+    alloc: Global,
+    direct: &[Shared<Dependency>],
+    managed: &ManagedSet,
+    winners: &Winners,
+) -> Mem<Resolution>
+    ensures { IfOk result (λ resolution.
+        IsMade managed.now direct.now winners.now resolution) }
+{
+    let scopes = scopes_of(alloc, direct, managed, winners)?;
+    let order = order_of(alloc, winners)?;
+    let notes = notes_of(alloc, winners)?;
+    let list = resolved_in(alloc, winners, &scopes, &order)?;
+    Ok(Resolution {
+        winners: list,
+        notes,
+    })
+}
+
+// A declaration's range doesn't admit a winner.
+fn refused(alloc: Global, winner: &Winner) -> Result<Resolution, MediationFault>
+    ensures says { Says (Err (RangeConflict, key_text winner.now.edge.key)) result }
+    ensures blameless { is_faulty result ≡ false }
+{
+    let place = key_text(alloc, &winner.edge.key)?;
+    Err(MediationFault::Refused {
+        rule: Rule::RangeConflict,
+        place,
+    })
+}
+
+// What winners come to, or the first conflict.
+fn resolved(
+    alloc: Global,
+    direct: &[Shared<Dependency>],
+    managed: &ManagedSet,
+    winners: &Winners,
+) -> Result<Resolution, MediationFault>
+    ensures resolves { (libraries : Libraries)
+        → IsWhole libraries (graph_of libraries managed.now direct.now) winners.now
+        → Mediates libraries managed.now direct.now result }
+    ensures blameless { is_faulty result ≡ false }
+{
+    let conflict = first_conflict(alloc, direct, managed, winners)?;
+    match conflict {
+        Some(winner) => refused(alloc, winner),
+        None => Ok(made(alloc, direct, managed, winners)?),
+    }
+}
+
+/// What a project is built with: the winners of its dependency graph, each with its version, its scope and whether it has a POM,
+/// in the order of the dependency tree; and a note of each POM that is missing or refused, in the order in which they are met.
+/// Refused as `find_winners` refuses, and then by the first winner whose version a range of some declaration doesn't admit.
+/// `Lookup` comes only where the look-up failed. Costs what `find_winners` costs, and the texts of each declaration twice
+/// more. Introduction to the Dependency Mechanism.
+pub fn mediate<L: Lookup>(
+    alloc: Global,
+    direct: &[Shared<Dependency>],
+    managed: &ManagedSet,
+    lookup: &mut L,
+) -> Result<Resolution, MediationFault>
+    ensures resolves { (libraries : Libraries) → L.fits lookup.old libraries
+        → Mediates libraries managed.now direct.now result }
+    ensures same { (libraries : Libraries) → L.fits lookup.old libraries
+        → L.fits lookup.new libraries }
+    ensures cause { HasCause (L.faults lookup.old) (L.faults lookup.new) (is_faulty result) }
+{
+    match find_winners(alloc, direct, managed, lookup) {
+        Ok(winners) => resolved(alloc, direct, managed, &winners),
+        Err(fault) => Err(fault),
+    }
+}

@@ -1,0 +1,5 @@
+pub mod Collecting
+pub mod Injected
+pub mod Meeting
+pub mod Projects
+pub mod Reading

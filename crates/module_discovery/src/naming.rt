@@ -1,0 +1,245 @@
+ghost use Rattle.std.specs.Prelude.{◌≡◌, false, Err, IfOk};
+ghost use Rattle.mvn_shared.specs.Cause.{HasCause};
+ghost use Rattle.pom_source.specs.Answers.{Says, build_failed};
+ghost use Rattle.pom_source.specs.Worlds.{World};
+ghost use Rattle.pom_source.specs.declared.found.Given as givens;
+ghost use Rattle.pom_paths.specs.Paths.{joined};
+ghost use Rattle.profile_activation.specs.Activation.{folder_of};
+ghost use Rattle.pom_lineage.specs.Stores.{Holds, KeepsLines, KeepsRead};
+ghost use Rattle.module_discovery.specs.Discovery.{as_taken, at_either, at_last, taken_up, named, new_at, one_too_many, path_of, read_pom, refuse, root};
+
+use crate::expression::has_expression;
+use crate::found::FoundPoms;
+use crate::pom::{Listed, ModulePom};
+use mvn_base::{PomId, Rule};
+use mvn_shared::{Mem, Text};
+use pom_lineage::{Store, read_at};
+use pom_paths::joined;
+use pom_source::{BuildFault, PomSource, text_refused};
+use std::alloc::Global;
+
+/// A refusal of the POM at a path, which names a text. Costs both.
+pub(crate) fn refuse<T>(path: &Text, rule: Rule, text: &Text) -> Result<T, BuildFault>
+    ensures says { Says (refuse path.now rule text.now) result }
+    ensures cause { build_failed result ≡ false }
+{
+    let pom = PomId::Path(path.clone()?);
+    text_refused(&pom, rule, text)
+}
+
+// The path that a module's text leads to.
+fn path_of(alloc: Global, listed: &Listed) -> Result<Text, BuildFault>
+    ensures says { Says (path_of listed.now) result }
+    ensures cause { build_failed result ≡ false }
+{
+    if has_expression(listed.text.as_bytes()) {
+        return refuse(&listed.by, Rule::Unresolved, &listed.text);
+    }
+    let folder = joined(alloc, &listed.by, &Text::from_str(alloc, "..")?)?;
+    let path = joined(alloc, &folder, &listed.text)?;
+    Ok(path)
+}
+
+// The POM at a path, read or kept, if a file is there.
+#[tactic(auto, using(crate::proofs::Reading::read_none, crate::proofs::Reading::read_some, crate::proofs::Reading::read_fails))]
+fn read_pom<P: PomSource>(
+    alloc: Global,
+    store: &mut Store,
+    source: &mut P,
+    path: &Text,
+) -> Result<Option<ModulePom>, BuildFault>
+    ensures says { (world : World) (given : givens.Given) → P.fits_poms source.old world
+        → Holds world given store.old → Says (taken_up read_pom path.now (world.by_path path.now)) result }
+    ensures fit { (world : World) → P.fits_poms source.old world → P.fits_poms source.new world }
+    ensures holds { (world : World) (given : givens.Given) → P.fits_poms source.old world
+        → Holds world given store.old → Holds world given store.new }
+    ensures keeps { KeepsRead store.old store.new }
+    ensures keeps_lines { KeepsLines store.old store.new }
+    ensures cause { HasCause (P.faults source.old) (P.faults source.new) (build_failed result) }
+{
+    match read_at(alloc, store, source, path)? {
+        Some(raw) => {
+            let path = path.clone()?;
+            Ok(Some(ModulePom { path, raw }))
+        }
+        None => Ok(None),
+    }
+}
+
+// A POM at a path, if a file is there, where no more may come.
+fn too_many<P: PomSource>(
+    alloc: Global,
+    source: &mut P,
+    listed: &Listed,
+    path: &Text,
+) -> Result<Option<ModulePom>, BuildFault>
+    ensures says { (world : World) → P.fits_poms source.old world
+        → Says (taken_up (one_too_many listed.now) path.now (world.by_path path.now)) result }
+    ensures fit { (world : World) → P.fits_poms source.old world → P.fits_poms source.new world }
+    ensures cause { HasCause (P.faults source.old) (P.faults source.new) (build_failed result) }
+{
+    match source.by_path(path)? {
+        Some(_) => {
+            let list = Text::from_str(alloc, "modules")?;
+            refuse(&listed.by, Rule::TooLarge, &list)
+        }
+        None => Ok(None),
+    }
+}
+
+// The file at a path, if there is one, as it is taken up.
+fn taken_up<P: PomSource>(
+    alloc: Global,
+    store: &mut Store,
+    source: &mut P,
+    full: bool,
+    listed: &Listed,
+    path: &Text,
+) -> Result<Option<ModulePom>, BuildFault>
+    ensures says { (world : World) (given : givens.Given) → P.fits_poms source.old world
+        → Holds world given store.old
+        → Says (taken_up (as_taken full listed.now) path.now (world.by_path path.now)) result }
+    ensures fit { (world : World) → P.fits_poms source.old world → P.fits_poms source.new world }
+    ensures holds { (world : World) (given : givens.Given) → P.fits_poms source.old world
+        → Holds world given store.old → Holds world given store.new }
+    ensures keeps { KeepsRead store.old store.new }
+    ensures keeps_lines { KeepsLines store.old store.new }
+    ensures cause { HasCause (P.faults source.old) (P.faults source.new) (build_failed result) }
+{
+    if full {
+        too_many(alloc, source, listed, path)
+    } else {
+        read_pom(alloc, store, source, path)
+    }
+}
+
+// A POM at a path, if one is there that wasn't met.
+fn new_at<P: PomSource>(
+    alloc: Global,
+    store: &mut Store,
+    source: &mut P,
+    full: bool,
+    listed: &Listed,
+    found: &FoundPoms,
+    path: &Text,
+) -> Result<Option<ModulePom>, BuildFault>
+    ensures says { (world : World) (given : givens.Given) → P.fits_poms source.old world
+        → Holds world given store.old
+        → Says (new_at world (as_taken full listed.now) listed.now found.now path.now) result }
+    ensures fit { (world : World) → P.fits_poms source.old world → P.fits_poms source.new world }
+    ensures holds { (world : World) (given : givens.Given) → P.fits_poms source.old world
+        → Holds world given store.old → Holds world given store.new }
+    ensures keeps { KeepsRead store.old store.new }
+    ensures keeps_lines { KeepsLines store.old store.new }
+    ensures cause { HasCause (P.faults source.old) (P.faults source.new) (build_failed result) }
+{
+    if found.has(path) {
+        return refuse(&listed.by, Rule::DuplicateProject, path);
+    }
+    taken_up(alloc, store, source, full, listed, path)
+}
+
+// The file of a module's name, where no folder of that name has a POM.
+fn at_last<P: PomSource>(
+    alloc: Global,
+    store: &mut Store,
+    source: &mut P,
+    full: bool,
+    listed: &Listed,
+    found: &FoundPoms,
+    path: &Text,
+) -> Result<ModulePom, BuildFault>
+    ensures says { (world : World) (given : givens.Given) → P.fits_poms source.old world
+        → Holds world given store.old
+        → Says (at_last world (as_taken full listed.now) listed.now found.now path.now) result }
+    ensures fit { (world : World) → P.fits_poms source.old world → P.fits_poms source.new world }
+    ensures holds { (world : World) (given : givens.Given) → P.fits_poms source.old world
+        → Holds world given store.old → Holds world given store.new }
+    ensures keeps { KeepsRead store.old store.new }
+    ensures keeps_lines { KeepsLines store.old store.new }
+    ensures cause { HasCause (P.faults source.old) (P.faults source.new) (build_failed result) }
+{
+    match new_at(alloc, store, source, full, listed, found, path)? {
+        Some(pom) => Ok(pom),
+        None => refuse(&listed.by, Rule::ModuleNotFound, &listed.text),
+    }
+}
+
+// `pom.xml` in the folder at a path, or else the file.
+fn at_either<P: PomSource>(
+    alloc: Global,
+    store: &mut Store,
+    source: &mut P,
+    full: bool,
+    listed: &Listed,
+    found: &FoundPoms,
+    path: &Text,
+) -> Result<ModulePom, BuildFault>
+    ensures says { (world : World) (given : givens.Given) → P.fits_poms source.old world
+        → Holds world given store.old
+        → Says (at_either world (as_taken full listed.now) listed.now found.now path.now) result }
+    ensures fit { (world : World) → P.fits_poms source.old world → P.fits_poms source.new world }
+    ensures holds { (world : World) (given : givens.Given) → P.fits_poms source.old world
+        → Holds world given store.old → Holds world given store.new }
+    ensures keeps { KeepsRead store.old store.new }
+    ensures keeps_lines { KeepsLines store.old store.new }
+    ensures cause { HasCause (P.faults source.old) (P.faults source.new) (build_failed result) }
+{
+    let inside = joined(alloc, path, &Text::from_str(alloc, "pom.xml")?)?;
+    match new_at(alloc, store, source, full, listed, found, &inside)? {
+        Some(pom) => Ok(pom),
+        None => match at_last(alloc, store, source, full, listed, found, path) {
+            Ok(pom) => Ok(pom),
+            Err(fault) => Err(fault),
+        },
+    }
+}
+
+/// The POM that a module leads to, or its refusal: an expression in its text, no POM, one that was met, one too many if `full`, or
+/// what the POM's text breaks. Costs the paths and the POM's bytes.
+pub(crate) fn named<P: PomSource>(
+    alloc: Global,
+    store: &mut Store,
+    source: &mut P,
+    full: bool,
+    listed: &Listed,
+    found: &FoundPoms,
+) -> Result<ModulePom, BuildFault>
+    ensures says { (world : World) (given : givens.Given) → P.fits_poms source.old world
+        → Holds world given store.old
+        → Says (named world (as_taken full listed.now) listed.now found.now) result }
+    ensures fit { (world : World) → P.fits_poms source.old world → P.fits_poms source.new world }
+    ensures holds { (world : World) (given : givens.Given) → P.fits_poms source.old world
+        → Holds world given store.old → Holds world given store.new }
+    ensures keeps { KeepsRead store.old store.new }
+    ensures keeps_lines { KeepsLines store.old store.new }
+    ensures cause { HasCause (P.faults source.old) (P.faults source.new) (build_failed result) }
+{
+    let path = path_of(alloc, listed)?;
+    match at_either(alloc, store, source, full, listed, found, &path) {
+        Ok(pom) => Ok(pom),
+        Err(fault) => Err(fault),
+    }
+}
+
+/// The POM by which the project begins. Costs its bytes.
+pub(crate) fn root<P: PomSource>(
+    alloc: Global,
+    store: &mut Store,
+    source: &mut P,
+) -> Result<ModulePom, BuildFault>
+    ensures says { (world : World) (given : givens.Given) → P.fits_poms source.old world
+        → Holds world given store.old → Says (root world) result }
+    ensures fit { (world : World) → P.fits_poms source.old world → P.fits_poms source.new world }
+    ensures holds { (world : World) (given : givens.Given) → P.fits_poms source.old world
+        → Holds world given store.old → Holds world given store.new }
+    ensures keeps { KeepsRead store.old store.new }
+    ensures keeps_lines { KeepsLines store.old store.new }
+    ensures cause { HasCause (P.faults source.old) (P.faults source.new) (build_failed result) }
+{
+    let path = Text::from_str(alloc, "pom.xml")?;
+    match read_pom(alloc, store, source, &path)? {
+        Some(pom) => Ok(pom),
+        None => refuse(&path, Rule::ModuleNotFound, &path),
+    }
+}

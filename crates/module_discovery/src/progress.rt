@@ -1,0 +1,9 @@
+use crate::found::FoundPoms;
+use crate::waiting::Waiting;
+
+/// How far discovery has come: the POMs that were found, and the modules that wait for their turn.
+#[derive(Drop)]
+pub(crate) struct Progress {
+    pub(crate) found: FoundPoms,
+    pub(crate) waiting: Waiting,
+}

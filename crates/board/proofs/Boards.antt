@@ -1,20 +1,19 @@
 -- A board, one event more.
-use Rattle.std.proofs.Common.{◌≡◌, ℕ, zero, suc, ◌+◌, ◌≤◌, ◌<◌, ◌^◌, Bool, true, false, List, [], ◌∷◌, ◌++◌, length, filter, set, get_or, Option, Some, None, IfSome, refl, arith, sym, ap, subst, ◌∙◌, if◌then◌else◌}
+use Rattle.std.proofs.Common.{◌≡◌, ℕ, zero, suc, ◌+◌, ◌≤◌, Bool, true, false, List, [], ◌∷◌, ◌++◌, length, set, get_or, Option, Some, None, IfSome, refl, arith, sym, ap, subst, ◌∙◌}
 use Rattle.std.proofs.lemmas.Bool.{false≢true}
-use Rattle.std.proofs.lemmas.List.{length-append, length-set}
+use Rattle.std.proofs.lemmas.List.{length-append}
 use Rattle.mvn_shared.specs.Cause.{HasRisen, RoseBy}
 use Rattle.mvn_outside.specs.declared.shelf.Published.{Published}
 use Rattle.mvn_outside.specs.declared.shelf.ShelfTold.{ShelfTold}
 use Rattle.build_core.specs.declared.event.Answered.{Answered}
 use Rattle.build_core.specs.declared.event.Event.{Event}
 use Rattle.build_core.specs.declared.plan.Plan.{Plan}
-use Rattle.event_core.specs.Outlines.{outline_of}
 use Rattle.event_core.specs.Runs.{answers_in}
 use Rattle.event_core.specs.declared.entry.Carried.TheVariants as carried
 use Rattle.event_core.specs.declared.entry.RunEntry.{RunEntry}
 use Rattle.event_core.specs.declared.outline.Outline.{Outline}
 use Rattle.board.specs.Builds.{AreCaused}
-use Rattle.board.specs.Keeping.{IsBoard, answer_count, is_plain, log_by, publish_count}
+use Rattle.board.specs.Keeping.{IsBoard, is_plain, log_by, publish_count}
 use Rattle.board.specs.Logs.{is_shelf_end, marked, published_since, shelf_endings, told_after}
 use Rattle.board.proofs.Logs.{answers_append, answers_same, endings_one, entry, none_counted, one_of, plain_more, publishes_append, told_same}
 

@@ -1,3 +1,4 @@
 mod Boards
 mod Logs
+mod Shelves
 mod Steps

@@ -1,7 +1,7 @@
 -- Logs, one event more.
-use Rattle.std.proofs.Common.{◌≡◌, ℕ, zero, suc, ◌+◌, Bool, true, false, List, [], ◌∷◌, ◌++◌, length, drop, filter, filter_map, Option, Some, None, IfSome, option_map, refl, arith, sym, ap, subst, ◌∙◌, if◌then◌else◌}
+use Rattle.std.proofs.Common.{◌≡◌, ℕ, ◌+◌, Bool, true, false, List, [], ◌∷◌, ◌++◌, length, filter, Option, Some, None, IfSome, option_map, refl, arith, sym, ap, ◌∙◌, if◌then◌else◌}
 use Rattle.std.proofs.lemmas.Bool.{false≢true}
-use Rattle.std.proofs.lemmas.List.{append-nil, append_assoc}
+use Rattle.std.proofs.lemmas.List.{append-nil}
 use Rattle.mvn_outside.specs.declared.shelf.Published.{Published}
 use Rattle.mvn_outside.specs.declared.shelf.ShelfTold.{ShelfTold}
 use Rattle.build_core.specs.declared.event.Answered.{Answered}
@@ -15,7 +15,7 @@ use Rattle.event_core.specs.declared.entry.RunEntry.{RunEntry}
 use Rattle.run_law.proofs.Kept.{answers_more}
 use Rattle.run_law.proofs.Stored.{length_map}
 use Rattle.board.specs.Keeping.{answer_count, is_plain, publish_count}
-use Rattle.board.specs.Logs.{behind, is_shelf_end, log_of, next_answer, next_bytes, published_as, publishes_in, shelf_endings, told_after}
+use Rattle.board.specs.Logs.{behind, is_shelf_end, log_of, published_as, publishes_in, shelf_endings, told_after}
 
 abbrev pub entry : Event → Carried → RunEntry
 entry e what = record { event = e; carried = what }

@@ -1,11 +1,10 @@
 -- A board's calls, by what its parts do.
-use Rattle.std.proofs.Common.{◌≡◌, ℕ, zero, suc, ◌+◌, ◌≤◌, ◌<◌, ◌^◌, ◌⊎◌, inl, inr, Bool, true, false, ◌&&◌, nat_lt, List, [], ◌∷◌, ◌++◌, length, map, find, set, get_or, replicate, drop, Option, Some, None, is_some, is_none, IfSome, Result, Ok, Err, OnOk, IfErr, refl, arith, sym, ap, subst, ◌∙◌, if◌then◌else◌, unwrap_or}
+use Rattle.std.proofs.Common.{◌≡◌, ℕ, zero, suc, ◌+◌, ◌≤◌, ◌<◌, ◌^◌, Bool, true, false, nat_lt, List, [], ◌∷◌, ◌++◌, length, find, set, get_or, replicate, drop, Option, Some, None, is_some, is_none, IfSome, Result, Ok, Err, OnOk, IfErr, refl, arith, sym, ap, subst, ◌∙◌, if◌then◌else◌, unwrap_or}
 use Rattle.std.specs.List.{list_all}
-use Rattle.std.specs.Option.{option_map_or, option_or}
+use Rattle.std.specs.Option.{option_or}
 use Rattle.std.proofs.lemmas.Bool.{false≢true, lt-ltb}
 use Rattle.std.proofs.lemmas.List.{append-nil, length-replicate, length-set}
 use Rattle.std.proofs.lemmas.List.Folds.{find-append}
-use Rattle.mvn_shared.specs.Cause.{RoseBy}
 use Rattle.mvn_outside.specs.declared.shelf.ShelfTold.{ShelfTold}
 use Rattle.name_locks.specs.Locks.{below, blocker}
 use Rattle.name_locks.specs.declared.mode.Mode.{Mode}
@@ -16,31 +15,28 @@ use Rattle.build_core.specs.declared.event.Event.{Event}
 use Rattle.build_core.specs.declared.event.Event.TheVariants as event
 use Rattle.build_core.specs.declared.plan.Plan.{Plan}
 use Rattle.event_core.specs.Causes.{cause_now, hold_cause, where_found}
-use Rattle.event_core.specs.Enabled.{Enabled, IsEnabled, is_due, may_end_so}
-use Rattle.event_core.specs.Going.{AreOn, GoesOn, IsDue, NamesAscend, NeverLocked, NeverWaits}
+use Rattle.event_core.specs.Enabled.{Enabled, is_due, may_end_so}
+use Rattle.event_core.specs.Going.{AreOn, GoesOn, IsDue, NamesAscend, NeverWaits}
 use Rattle.event_core.specs.Outlines.{outline_of}
 use Rattle.event_core.specs.Sound.{IsSound}
 use Rattle.event_core.specs.SoundPlans.{IsSoundPlan}
 use Rattle.event_core.specs.Runs.{events_of}
 use Rattle.event_core.specs.Standing.{Course, Standing, course_of, first_lost, first_not_built, held_by, idle, is_complete, is_ready, is_skippable, is_waiting, module_of, off_course, on_course, progress_of, standing_of}
 use Rattle.event_core.specs.declared.deed.Deed.TheVariants as deed
-use Rattle.event_core.specs.declared.entry.Carried.TheVariants as carried
-use Rattle.event_core.specs.declared.entry.RunEntry.{RunEntry}
 use Rattle.event_core.specs.declared.outline.Outline.{Outline}
 use Rattle.event_core.specs.declared.refused.NotEnabled.{NotEnabled}
 use Rattle.event_core.specs.declared.refused.NotEnabled.TheVariants.{Lock}
 use Rattle.event_core.proofs.Climbs.{both}
-use Rattle.event_core.proofs.Dues.{below_or_not}
 use Rattle.event_core.proofs.Law.{cause_none, none_above}
 use Rattle.event_core.proofs.Weights.{nothing_is}
 use Rattle.run_law.proofs.Complete.{at_work}
-use Rattle.board.specs.Builds.{AnotherGoesOn, AreCaused, Build, MayCome, next_in, next_of, standing_at, tried_by, with_entry, with_event, with_mark}
+use Rattle.board.specs.Builds.{AreCaused, Build, MayCome, next_in, next_of, standing_at, with_event, with_mark}
 use Rattle.board.specs.declared.next.Next.{Next}
 use Rattle.board.specs.declared.next.Next.TheVariants as next
 use Rattle.board.specs.Keeping.{IsBoard, is_plain, log_by}
 use Rattle.board.specs.Logs.{is_shelf_end, marked, published_since, told_after}
 use Rattle.board.proofs.Boards.{event_board, log_more, marked_one, marked_unset}
-use Rattle.board.proofs.Logs.{entry, events_are, one_of}
+use Rattle.board.proofs.Logs.{events_are, one_of}
 
 -- ---- answers of the core
 

@@ -1,5 +1,5 @@
 -- Examples of logs and of what a worker does next, which the checker computes: worker 1 builds module 0, publishes file 3 and answers goal 0.
-use Rattle.std.specs.Prelude.{◌≡◌, ℕ, Bool, true, false, List, [], ◌∷◌, Some, None}
+use Rattle.std.specs.Prelude.{◌≡◌, true, false, List, [], ◌∷◌, Some, None}
 use Rattle.std.proofs.Common.{refl}
 use Rattle.goal_types.specs.declared.goal.GoalAnswer.TheVariants.{Done}
 use Rattle.mvn_outside.specs.declared.shelf.Published.{Published}

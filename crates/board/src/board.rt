@@ -69,7 +69,7 @@ pub enum BoardError<S> {
 }
 
 // An event that may come.
-fn step(core: &mut Core, event: Event)
+pub(crate) fn step(core: &mut Core, event: Event)
     requires { Enabled core.old.0 core.old.1 event }
     ensures { core.new ≡ (core.old.0, core.old.1 ++ event ∷ []) }
 {
@@ -104,7 +104,7 @@ fn holder_of(why: NotEnabled) -> u32
     }
 }
 
-fn set_mark(marks: &mut Vec<bool>, worker: u32, mark: bool)
+pub(crate) fn set_mark(marks: &mut Vec<bool>, worker: u32, mark: bool)
     ensures { marks.new.items ≡ slice_set marks.old.items worker mark }
 {
     if (worker as usize) < marks.len() {

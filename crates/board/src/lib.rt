@@ -4,6 +4,7 @@
 pub mod board;
 pub mod kept;
 pub mod next;
+mod publishing;
 
 pub use board::{Board, BoardError};
 pub use kept::Opened;

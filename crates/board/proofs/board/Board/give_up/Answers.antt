@@ -1,4 +1,4 @@
-use Rattle.std.proofs.Common.{◌≡◌, [], ap, sym, vec_capacity, ◌∙◌}
+use Rattle.std.proofs.Common.{ap, sym, vec_capacity, ◌∙◌}
 use Rattle.event_core.specs.Runs.{events_of}
 use Rattle.board.proofs.Steps.{events_same}
 use Rattle.board.proofs.board.Board.give_up.Goals as goal

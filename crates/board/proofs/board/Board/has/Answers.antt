@@ -1,4 +1,4 @@
-use Rattle.std.proofs.Common.{◌≡◌, ap, subst, vec_capacity, ◌∙◌}
+use Rattle.std.proofs.Common.{◌≡◌, subst, vec_capacity}
 use Rattle.event_core.specs.Scripts.{is_there}
 use Rattle.event_core.specs.Standing.{standing_of}
 use Rattle.board.specs.Builds.{standing_at}

@@ -1,7 +1,6 @@
-use Rattle.std.proofs.Common.{◌≡◌, ◌≤◌, [], length, ap, arith, subst, sym, vec_capacity, ◌∙◌}
+use Rattle.std.proofs.Common.{◌≤◌, [], length, ap, arith, subst, vec_capacity}
 use Rattle.event_core.specs.Enabled.{IsRun}
 use Rattle.event_core.specs.Runs.{IsRunOf}
-use Rattle.board.specs.Keeping.{log_by}
 use Rattle.board.specs.Logs.{published_since}
 use Rattle.board.proofs.Logs.{length_is}
 use Rattle.board.proofs.Steps.{at_build}

@@ -1,4 +1,4 @@
-use Rattle.std.proofs.Common.{◌≡◌, Some, ap, subst, sym, vec_capacity, ◌∙◌}
+use Rattle.std.proofs.Common.{Some, ap, subst, sym, vec_capacity, ◌∙◌}
 use Rattle.event_core.specs.Enabled.{Enabled}
 use Rattle.event_core.specs.Going.{NamesAscend, NeverLocked}
 use Rattle.event_core.specs.Outlines.{outline_of}

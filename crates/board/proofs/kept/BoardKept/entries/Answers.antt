@@ -1,4 +1,4 @@
-use Rattle.std.proofs.Common.{◌≡◌, ◌<◌, length, ap, arith, subst, sym, vec_capacity, ◌∙◌}
+use Rattle.std.proofs.Common.{◌<◌, length, ap, arith, subst, sym, ◌∙◌}
 use Rattle.board.specs.Logs.{published_since}
 use Rattle.board.proofs.Logs.{length_is}
 use Rattle.board.proofs.kept.BoardKept.entries.Goals as goal

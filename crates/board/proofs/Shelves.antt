@@ -1,0 +1,194 @@
+-- A board whose repository was asked.
+use Rattle.std.proofs.Common.{◌≡◌, ℕ, suc, ◌+◌, ◌<◌, Bool, true, List, [], ◌∷◌, ◌++◌, length, drop, set, Option, Some, None, IfSome, is_some, Err, refl, arith, sym, ap, subst, ◌∙◌}
+use Rattle.std.proofs.lemmas.Bool.{false≢true}
+use Rattle.std.proofs.lemmas.List.{append-nil, append_assoc, length-append, length-set}
+use Rattle.mvn_shared.specs.Cause.{HasCause, HasRisen}
+use Rattle.mvn_outside.specs.Faults.{device_failed}
+use Rattle.mvn_outside.specs.declared.fault.DeviceFault.{DeviceFault}
+use Rattle.mvn_outside.specs.declared.fault.DeviceFault.TheVariants as device
+use Rattle.mvn_outside.specs.Pieces.{Contents}
+use Rattle.mvn_outside.specs.Shelf.{Publishes as ShelfPublishes}
+use Rattle.mvn_outside.specs.declared.shelf.Published.{Published}
+use Rattle.mvn_outside.specs.declared.shelf.ShelfTold.{ShelfTold}
+use Rattle.build_core.specs.OneThread.{name_of}
+use Rattle.build_core.specs.declared.event.Answered.{Answered}
+use Rattle.build_core.specs.declared.event.Event.{Event}
+use Rattle.build_core.specs.declared.event.Event.TheVariants as event
+use Rattle.build_core.specs.declared.plan.Plan.{Plan}
+use Rattle.event_core.specs.Enabled.{Enabled, is_due}
+use Rattle.event_core.specs.Runs.{answers_in}
+use Rattle.event_core.specs.Standing.{course_of, standing_of}
+use Rattle.event_core.specs.declared.deed.Deed.{Deed}
+use Rattle.event_core.specs.declared.deed.Deed.TheVariants as deed
+use Rattle.event_core.specs.declared.entry.Carried.{Carried}
+use Rattle.event_core.specs.declared.entry.Carried.TheVariants as carried
+use Rattle.event_core.specs.declared.entry.RunEntry.{RunEntry}
+use Rattle.event_core.specs.declared.outline.Outline.{Outline}
+use Rattle.event_core.proofs.Ties.{any_idle}
+use Rattle.run_law.proofs.Kept.{answers_more}
+use Rattle.board.specs.Builds.{AreCaused, Build, Publishes}
+use Rattle.board.specs.Keeping.{IsBoard, log_by, publish_count}
+use Rattle.board.specs.Logs.{log_of, marked, published_since, publishes_in, shelf_endings, told_after}
+use Rattle.board.proofs.Boards.{caused_less, marked_set, not_empty, rose_less, rose_more}
+use Rattle.board.proofs.Logs.{answers_append, endings_one, entry, publish_more, publishes_append, publishes_one, untold_more}
+
+-- ---- lists
+
+pub drop_front : {A : Type 0} (xs ys : List A) → drop (length xs) (xs ++ ys) ≡ ys
+drop_front [] ys = refl
+drop_front (x ∷ xs) ys = drop_front xs ys
+
+-- one fault more, and one mark
+pub caused_more : (told : Option ShelfTold) (before now later w : ℕ) (log : List RunEntry) (marks : List Bool) → AreCaused told before now log marks → HasRisen now later → AreCaused told before later log (set marks w true)
+caused_more None before now later w log marks caused risen = tt
+caused_more (Some t) before now later w log marks caused risen =
+    rose_less (suc (shelf_endings log + marked marks)) (shelf_endings log + marked (set marks w true)) before later (omega (arith, marked_set marks w)) (rose_more (shelf_endings log + marked marks) before now later caused risen)
+
+module _ {S : Type 0} (told : S → Option ShelfTold) (faults : S → ℕ) (plan : Plan) (core : Outline × List Event) (opening shelf : S) (answers : List Answered) (marks : List Bool) (room : ℕ)
+    (board : IsBoard told faults plan core opening shelf answers marks room) where
+  abbrev log : List RunEntry
+  log = log_by (told opening) (told shelf) answers core.1
+
+  -- the repository was asked, and tells the same
+  pub asked_board : (later : S) (then_marks : List Bool) → told later ≡ told shelf → (core.1 ≡ [] → ⊥) → length then_marks ≡ length marks → AreCaused (told opening) (faults opening) (faults later) (log_by (told opening) (told shelf) answers core.1) then_marks
+      → IsBoard told faults plan core opening later answers then_marks room
+  asked_board later then_marks same begun long caused = record {
+    outline = board.outline;
+    sound = board.sound;
+    short = board.short;
+    few = board.few;
+    tells = subst (λ t. t ≡ told_after plan (log_by (told opening) t answers core.1) (told opening)) (sym same) board.tells;
+    published = subst (λ t. IfSome (published_since (told opening) t) (λ since. publish_count core.1 ≡ length since)) (sym same) board.published;
+    answered = board.answered;
+    kept = subst (λ t. answers ≡ answers_in plan (log_by (told opening) t answers core.1)) (sym same) board.kept;
+    workers = long ∙ board.workers;
+    roomy = board.roomy;
+    caused = subst (λ t. AreCaused (told opening) (faults opening) (faults later) (log_by (told opening) t answers core.1) then_marks) (sym same) caused;
+    untouched = λ none. absurd (begun none);
+  }
+
+  -- it tells at the start exactly where it tells now
+  pub tells_at_first : told shelf ≡ None → told opening ≡ None
+  tells_at_first none = by (told opening) refl
+    where
+      by : (t : Option ShelfTold) → told opening ≡ t → told opening ≡ None
+      by None e = e
+      by (Some t) e = absurd (false≢true (ap is_some (sym none ∙ board.tells ∙ ap (told_after plan log) e)))
+
+  -- what it tells that it didn't at first are the log's publishes
+  since_is : (t : ShelfTold) → told opening ≡ Some t → published_since (told opening) (told shelf) ≡ Some (publishes_in plan log)
+  since_is t e = ap (λ x. published_since x (told shelf)) e ∙ ap (published_since (Some t)) (board.tells ∙ ap (told_after plan log) e) ∙ ap (λ x. Some x) (drop_front t.publishes (publishes_in plan log))
+
+  -- ---- one publish more
+
+  module _ (w f : ℕ) (later : S) (area : Option Contents) (piece : ℕ) (gives : ShelfPublishes (told shelf) (told later) area piece (name_of plan f)) where
+    abbrev one : List ℕ → Published
+    one bytes = record { name = name_of plan f; bytes = bytes }
+
+    -- the bytes that it tells, and what follows
+    pub record Grown : Type 0 where
+      pub what : Carried
+      pub tells : Publishes (told shelf) (told later) area piece (name_of plan f) what
+      pub log_is : log_by (told opening) (told later) answers (core.1 ++ event.Publish w f ∷ []) ≡ log_by (told opening) (told shelf) answers core.1 ++ entry (event.Publish w f) what ∷ []
+      pub told_is : told later ≡ told_after plan (log_by (told opening) (told shelf) answers core.1 ++ entry (event.Publish w f) what ∷ []) (told opening)
+      pub counted : IfSome (published_since (told opening) (told later)) (λ since. publish_count (core.1 ++ event.Publish w f ∷ []) ≡ length since)
+      pub nothing : answers_in plan (log_by (told opening) (told shelf) answers core.1 ++ entry (event.Publish w f) what ∷ []) ≡ answers_in plan (log_by (told opening) (told shelf) answers core.1)
+
+    pub grown : Grown
+    grown = by (told opening) refl
+      where
+        by : (t : Option ShelfTold) → told opening ≡ t → Grown
+        by None e =
+            let none : told shelf ≡ None = board.tells ∙ ap (told_after plan log) e in
+            let later_none : told later ≡ None = subst (λ t. ShelfPublishes t (told later) area piece (name_of plan f)) none gives in
+            record {
+              what = carried.Nothing;
+              tells = subst (λ t. Publishes t (told later) area piece (name_of plan f) carried.Nothing) (sym none) (later_none, refl);
+              log_is = ap (λ x. log_of (published_since x (told later)) answers (core.1 ++ event.Publish w f ∷ [])) e ∙ untold_more answers core.1 w f board.answered
+                  ∙ ap (λ x. log_of (published_since x (told shelf)) answers core.1 ++ entry (event.Publish w f) carried.Nothing ∷ []) (sym e);
+              told_is = later_none ∙ ap (told_after plan (log ++ entry (event.Publish w f) carried.Nothing ∷ [])) (sym e);
+              counted = subst (λ x. IfSome (published_since x (told later)) (λ since. publish_count (core.1 ++ event.Publish w f ∷ []) ≡ length since)) (sym e) tt;
+              nothing = answers_more plan log (entry (event.Publish w f) carried.Nothing) ∙ append-nil (answers_in plan log);
+            }
+        by (Some t) e =
+            let old : told shelf ≡ Some (record t { publishes = t.publishes ++ publishes_in plan log }) = board.tells ∙ ap (told_after plan log) e in
+            let gift = subst (λ x. ShelfPublishes x (told later) area piece (name_of plan f)) old gives in
+            let bytes = gift.0 in
+            let what : Carried = carried.Published bytes in
+            let now : told later ≡ Some (record t { publishes = (t.publishes ++ publishes_in plan log) ++ one bytes ∷ [] }) = gift.1 in
+            let since : published_since (told opening) (told later) ≡ Some (publishes_in plan log ++ one bytes ∷ []) =
+            ap (λ x. published_since x (told later)) e ∙ ap (published_since (Some t)) now
+            ∙ ap (λ ps. Some (drop (length t.publishes) ps)) (append_assoc t.publishes (publishes_in plan log) (one bytes ∷ []))
+            ∙ ap (λ x. Some x) (drop_front t.publishes (publishes_in plan log ++ one bytes ∷ [])) in
+            let count : publish_count core.1 ≡ length (publishes_in plan log) = subst (λ x. IfSome x (λ since. publish_count core.1 ≡ length since)) (since_is t e) board.published in
+            record {
+              what = what;
+              tells = subst (λ x. Publishes x (told later) area piece (name_of plan f) what) (sym old) (bytes, gift.1, refl, gift.2);
+              log_is = ap (λ x. log_of x answers (core.1 ++ event.Publish w f ∷ [])) since ∙ publish_more (publishes_in plan log) (one bytes) answers core.1 w f count board.answered
+                  ∙ ap (λ x. log_of x answers core.1 ++ entry (event.Publish w f) what ∷ []) (sym (since_is t e));
+              told_is = now ∙ ap (λ ps. Some (record t { publishes = ps })) (append_assoc t.publishes (publishes_in plan log) (one bytes ∷ []))
+                  ∙ ap (λ ps. Some (record t { publishes = t.publishes ++ ps })) (sym (publishes_one plan log (entry (event.Publish w f) what)))
+                  ∙ ap (told_after plan (log ++ entry (event.Publish w f) what ∷ [])) (sym e);
+              counted = subst (λ x. IfSome x (λ since. publish_count (core.1 ++ event.Publish w f ∷ []) ≡ length since)) (sym since)
+                  (omega (arith, publishes_append core.1 (event.Publish w f ∷ []), length-append (publishes_in plan log) (one bytes ∷ []), count));
+              nothing = answers_more plan log (entry (event.Publish w f) what) ∙ append-nil (answers_in plan log);
+            }
+
+    pub published_board : faults later ≡ faults shelf → IsBoard told faults plan (core.0, core.1 ++ event.Publish w f ∷ []) opening later answers marks room
+    published_board still = record {
+      outline = board.outline;
+      sound = board.sound;
+      short = board.short;
+      few = board.few;
+      tells = grown.told_is ∙ ap (λ l. told_after plan l (told opening)) (sym grown.log_is);
+      published = grown.counted;
+      answered = omega (arith, answers_append core.1 (event.Publish w f ∷ []), board.answered);
+      kept = board.kept ∙ sym grown.nothing ∙ ap (answers_in plan) (sym grown.log_is);
+      workers = board.workers;
+      roomy = board.roomy;
+      caused = subst (λ l. AreCaused (told opening) (faults opening) (faults later) l marks) (sym grown.log_is)
+          (subst (λ n. AreCaused (told opening) (faults opening) n (log ++ entry (event.Publish w f) grown.what ∷ []) marks) (sym still)
+          (caused_less (told opening) (faults opening) (faults shelf) log (log ++ entry (event.Publish w f) grown.what ∷ []) marks marks (omega (arith, endings_one log (event.Publish w f) grown.what)) board.caused));
+      untouched = λ none. absurd (not_empty core.1 (event.Publish w f) none);
+    }
+
+-- ---- where a deed is due something has happened
+
+pub begun_by : (o : Outline) (events : List Event) (w : ℕ) (d : Deed) → is_due (course_of (standing_of o events) w) d ≡ true → events ≡ [] → ⊥
+begun_by o events w d due none = false≢true (sym (ap (λ c. is_due c d) (any_idle o.workers w)) ∙ subst (λ es. is_due (course_of (standing_of o es) w) d ≡ true) none due)
+
+-- the cause of a fault, and of want of memory
+pub risen_by : (before now : ℕ) (d : DeviceFault) → d ≡ device.Failed → HasCause before now (device_failed {T = Unit {0}} (Err d)) → HasRisen before now
+risen_by before now d is cause = subst (λ x. HasCause before now (device_failed {T = Unit {0}} (Err x))) is cause
+
+pub still_by : (before now : ℕ) (d : DeviceFault) → d ≡ device.Memory → HasCause before now (device_failed {T = Unit {0}} (Err d)) → now ≡ before
+still_by before now d is cause = subst (λ x. HasCause before now (device_failed {T = Unit {0}} (Err x))) is cause
+
+pub begun_publish : (o : Outline) (events : List Event) (w f : ℕ) → Enabled o events (event.Publish w f) → events ≡ [] → ⊥
+unfolding Enabled
+begun_publish o events w f is none = begun_by o events w (deed.Publish f) is.2 none
+
+pub publish_low : (o : Outline) (events : List Event) (w f : ℕ) → Enabled o events (event.Publish w f) → f < length o.present
+unfolding Enabled
+publish_low o events w f is = is.1
+
+module _ {S : Type 0} (told : S → Option ShelfTold) (faults : S → ℕ) (plan : Plan) (core : Outline × List Event) (opening shelf : S) (answers : List Answered) (marks : List Bool) (room : ℕ)
+    (board : IsBoard told faults plan core opening shelf answers marks room) (later : S) where
+  -- the repository failed, and the worker is marked
+  pub failed_board : {then_marks : List Bool} (w : ℕ) → told later ≡ told shelf → (core.1 ≡ [] → ⊥) → then_marks ≡ set marks w true → HasRisen (faults shelf) (faults later) → IsBoard told faults plan core opening later answers then_marks room
+  failed_board {then_marks} w same begun set_so risen = subst (λ ms. IsBoard told faults plan core opening later answers ms room) (sym set_so)
+      (asked_board told faults plan core opening shelf answers marks room board later (set marks w true) same begun (length-set marks w true)
+      (caused_more (told opening) (faults opening) (faults shelf) (faults later) w (log_by (told opening) (told shelf) answers core.1) marks board.caused risen))
+
+  -- it answered, and nothing has changed
+  pub same_board : told later ≡ told shelf → (core.1 ≡ [] → ⊥) → faults later ≡ faults shelf → IsBoard told faults plan core opening later answers marks room
+  same_board same begun still = asked_board told faults plan core opening shelf answers marks room board later marks same begun refl
+      (subst (λ n. AreCaused (told opening) (faults opening) n (log_by (told opening) (told shelf) answers core.1) marks) (sym still) board.caused)
+
+  -- the build after a publish
+  pub published_build : (w f : ℕ) (area : Option Contents) (piece : ℕ) (gives : ShelfPublishes (told shelf) (told later) area piece (name_of plan f)) {next_core : Outline × List Event} → next_core ≡ (core.0, core.1 ++ event.Publish w f ∷ [])
+      → (what : Carried) × Publishes (told shelf) (told later) area piece (name_of plan f) what
+      × (◌≡◌ {A = Build S} (record { plan = plan; opening = opening; shelf = later; log = log_by (told opening) (told later) answers next_core.1; marks = marks }) (record { plan = plan; opening = opening; shelf = later; log = log_by (told opening) (told shelf) answers core.1 ++ entry (event.Publish w f) what ∷ []; marks = marks }))
+  published_build w f area piece gives is =
+      let it = grown told faults plan core opening shelf answers marks room board w f later area piece gives in
+      (it.what, it.tells, ap (λ l. record { plan = plan; opening = opening; shelf = later; log = l; marks = marks }) (ap (λ t. log_by (told opening) (told later) answers t.1) is ∙ it.log_is))

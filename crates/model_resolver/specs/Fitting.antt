@@ -25,4 +25,4 @@ module _ {T S R : Type 0} (tree_told : T → Option Files) (tree_faults : T → 
   pub fits_still : (before now : ModelResolver T S R) (world : World) → TellsSame tree_told tree_faults shelf_told shelf_faults remote_told remote_faults before now
       → FitsWorld tree_told tree_faults shelf_told shelf_faults remote_told remote_faults before world → FitsWorld tree_told tree_faults shelf_told shelf_faults remote_told remote_faults now world
   fits_still before now world same fit =
-      subst (λ t. FitsTold t now.project world) (sym same.keeps.told) (subst (λ p. FitsTold (standing tree_told tree_faults shelf_told shelf_faults remote_told remote_faults before).told p world) (sym same.keeps.project) fit)
+      subst (λ t. FitsTold t now.project.now world) (sym same.keeps.told) (subst (λ p. FitsTold (standing tree_told tree_faults shelf_told shelf_faults remote_told remote_faults before).told p world) (sym same.keeps.project) fit)

@@ -13,7 +13,7 @@ module _ {T S R : Type 0} (tree_told : T → Option Files) (tree_faults : T → 
     told = record { tree = tree_told r.tree.now; shelf = shelf_told r.shelf.now; remote = remote_told r.remote.now };
     counts = record { tree = tree_faults r.tree.now; shelf = shelf_faults r.shelf.now; remote = remote_faults r.remote.now };
     failures = r.failures;
-    project = r.project;
+    project = r.project.now;
   }
 
   -- the devices are the same, and so is what they tell; their failures were counted
@@ -25,4 +25,4 @@ module _ {T S R : Type 0} (tree_told : T → Option Files) (tree_faults : T → 
 
   -- a world in which POMs are found as the devices tell
   abbrev pub FitsWorld : ModelResolver T S R → World → Type 0
-  FitsWorld r world = FitsTold (standing r).told r.project world
+  FitsWorld r world = FitsTold (standing r).told r.project.now world

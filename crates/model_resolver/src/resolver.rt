@@ -4,7 +4,7 @@ use crate::known::{project_at, project_of};
 use crate::repositories::find_in_repositories;
 use mvn_base::Gav;
 use mvn_outside::{DeviceFault, Files, Remote, Shelf, Tree};
-use mvn_shared::{Bytes, List, Text};
+use mvn_shared::{Bytes, Text};
 use pom_source::{Found, PomSource};
 use std::alloc::Global;
 
@@ -20,16 +20,17 @@ pub struct ProjectPom {
 /// repository, then in the remote one. Each of the project's POMs that was read is answered from memory. It counts its failures, and
 /// keeps which device failed first; after that no device is asked. Maven Model Builder, `ModelResolver`.
 #[derive(Drop)]
-pub struct ModelResolver<'a, T, S, R> {
+pub struct ModelResolver<'t, 's, 'r, 'p, T, S, R> {
     pub alloc: Global,
-    pub tree: &'a mut T,
-    pub shelf: &'a mut S,
-    pub remote: &'a mut R,
-    pub project: List<ProjectPom>,
+    pub tree: &'t mut T,
+    pub shelf: &'s mut S,
+    pub remote: &'r mut R,
+    pub project: &'p [ProjectPom],
     pub failures: Failures,
 }
 
-impl<'a, T: Tree, S: Shelf, R: Remote> Files for ModelResolver<'a, T, S, R> {
+impl<'t, 's, 'r, 'p, T: Tree, S: Shelf, R: Remote> Files
+    for ModelResolver<'t, 's, 'r, 'p, T, S, R> {
     ghost use Rattle.std.specs.Prelude.{false};
     ghost use Rattle.model_resolver.specs.Fitting.{may_fail};
     ghost use Rattle.model_resolver.specs.Resolving.{TellsSame};
@@ -49,7 +50,8 @@ impl<'a, T: Tree, S: Shelf, R: Remote> Files for ModelResolver<'a, T, S, R> {
     }
 }
 
-impl<'a, T: Tree, S: Shelf, R: Remote> PomSource for ModelResolver<'a, T, S, R> {
+impl<'t, 's, 'r, 'p, T: Tree, S: Shelf, R: Remote> PomSource
+    for ModelResolver<'t, 's, 'r, 'p, T, S, R> {
     ghost use Rattle.model_resolver.specs.Resolving.{FitsWorld};
     ghost use Rattle.model_resolver.specs.Fitting.{fits_tree, fits_still};
 
@@ -60,7 +62,7 @@ impl<'a, T: Tree, S: Shelf, R: Remote> PomSource for ModelResolver<'a, T, S, R> 
     ghost fits_on = { λ before now world same fits. fits_still T.files T.faults S.told S.faults R.files R.faults before now world same fits };
 
     fn by_path(&mut self, path: &Text) -> Result<Option<Bytes>, DeviceFault> {
-        if let Some(bytes) = project_at(self.project.as_slice(), path)? {
+        if let Some(bytes) = project_at(self.project, path)? {
             return Ok(Some(bytes));
         }
         ask_tree(self.alloc, &mut *self.tree, &mut self.failures, path)
@@ -68,7 +70,7 @@ impl<'a, T: Tree, S: Shelf, R: Remote> PomSource for ModelResolver<'a, T, S, R> 
 
     #[tactic(auto, using(crate::proofs::Finding::found_first, crate::proofs::Finding::found_later))]
     fn by_gav(&mut self, gav: &Gav) -> Result<Option<Found>, DeviceFault> {
-        if let Some(found) = project_of(self.project.as_slice(), gav)? {
+        if let Some(found) = project_of(self.project, gav)? {
             return Ok(Some(found));
         }
         find_in_repositories(

@@ -1,0 +1,16 @@
+pub use Rattle.mvn_shared.specs.Cause
+pub use Rattle.mvn_shared.specs.Files
+pub use Rattle.mvn_outside.specs.Shelf
+pub use Rattle.pom_source.specs.Answers
+pub use Rattle.pom_source.specs.Worlds
+pub use Rattle.profile_activation.specs.Judging
+pub use Rattle.effective.specs.Lawful
+pub use Rattle.model_resolver.specs.Devices
+pub use Rattle.model_resolver.specs.Finding
+pub use Rattle.source_files.specs.Sources
+pub mod Folders
+pub mod Itself
+pub mod Module
+pub mod Plans
+pub mod Project
+pub mod Composing

@@ -1,5 +1,5 @@
 -- A call from what was built and what was written.
-use Rattle.std.proofs.Common.{◌≡◌, ℕ, zero, suc, ◌+◌, ◌<◌, Bool, ◌&&◌, ◌==◌, cond, List, [], ◌∷◌, find, Option, Some, None, unwrap_or, Result, Ok, Err, IfOk, IfSome, refl, sym, ap, subst, ◌∙◌, arith}
+use Rattle.std.proofs.Common.{◌≡◌, ℕ, zero, suc, ◌+◌, ◌<◌, Bool, ◌&&◌, ◌==◌, cond, List, [], ◌∷◌, find, Option, Some, None, unwrap_or, Result, Ok, Err, IfOk, IfSome, refl, sym, ap, subst, ◌∙◌, arith, get_or}
 use Rattle.std.specs.Option.{option_map}
 use Rattle.std.proofs.lemmas.List.{append-nil}
 use Rattle.mvn_shared.specs.declared.memory.OutOfMemory.{OutOfMemory}
@@ -19,7 +19,7 @@ use Rattle.mvn_top.specs.Outcome.{not_built}
 use Rattle.mvn_top.specs.Ending.{IsWhole, Ends, IsLow, HasNone}
 use Rattle.mvn_base.specs.declared.machine.Machine.{Machine}
 use Rattle.mvn_top.specs.Project.{IfTold}
-use Rattle.mvn_top.specs.Headline.{numbered, kept_answers, plan_of, IfBoth, IsOutcome, IsCall, CountFits, ComesFrom}
+use Rattle.mvn_top.specs.Headline.{numbered, kept_answers, plan_of, IfBoth, IsOutcome, IsCall, CountFits, ComesFrom, OfFirst}
 use Rattle.mvn_top.proofs.Planned.{told_map}
 use Rattle.mvn_top.proofs.Tops.{both_map}
 
@@ -127,3 +127,10 @@ call_counts tree shelf remote words machine answers kept out status e h low =
     told_map tree shelf remote (λ files start there. IfOk out (λ wanted. wanted.status < 3 → (plan : Plan) → plan_of words files start there machine ≡ Ok plan → CountFits plan kept))
     (λ files start there. status < 3 → (plan : Plan) → plan_of words files start there machine ≡ Ok plan → CountFits plan (kept_answers answers))
     (λ files start there p. counts_low words files start there machine answers kept out status e low p) h
+
+-- ---- the first hand
+
+-- what holds of the item at the front holds of the first
+pub of_first : {A : Type 0} (P : A → Type 0) (items : List A) (a : A) → P (get_or items 0 a) → OfFirst items P
+of_first P [] a holds = tt
+of_first P (b ∷ items) a holds = holds

@@ -124,11 +124,11 @@ plan_is_one : (phase : Phase) (m : Model) (pom : List ℕ) (sources : List Sourc
 plan_is_one phase m pom sources few = record {
   alone = refl;
   bare = record {
-      few = few_goals (length (own_files m)) (length (calls_through phase m.packaging m.build.base.plugins)) (plan_for phase m pom sources).events refl few;
-      no_pom = goals_fit phase m.packaging m.build.base.plugins;
-      names = named_by m.gav (main_extension m.packaging) (is_pom m);
-      no_entries = refl;
-    };
+    few = few_goals (length (own_files m)) (length (calls_through phase m.packaging m.build.base.plugins)) (plan_for phase m pom sources).events refl few;
+    no_pom = goals_fit phase m.packaging m.build.base.plugins;
+    names = named_by m.gav (main_extension m.packaging) (is_pom m);
+    no_entries = refl;
+  };
   no_fetch = refl;
   no_upstream = refl;
   distinct = distinct_by m.gav (main_extension m.packaging) (is_pom m) (other_extension m);

@@ -10,7 +10,10 @@ use Rattle.mvn_outside.specs.Shelf.{files_now}
 use Rattle.mvn_outside.specs.declared.shelf.ShelfTold.{ShelfTold}
 use Rattle.build_core.specs.declared.plan.Plan.{Plan}
 use Rattle.one_hand.specs.Built.{LeavesFiles}
+use Rattle.mvn_shared.specs.Cause.{HasRisen}
+use Rattle.model_resolver.specs.Devices.{Counted, Counts}
 use Rattle.model_resolver.specs.declared.failures.PomDevice.{PomDevice}
+use Rattle.model_resolver.specs.declared.failures.PomDevice.TheVariants as device
 use Rattle.module_plan.specs.Plans.{IsModulePlan}
 use Rattle.module_plan.specs.Project.{planned}
 use Rattle.mvn_top.specs.declared.outcome.Outcome.{Outcome}
@@ -42,9 +45,13 @@ same_plan words world tree start remote machine t r m s =
 pub no_plan : (words : List (List ℕ)) (files there : Files) (machine : Machine) (answers : List GoalAnswer) (answer : Outcome) (told : Option ShelfTold) (tells : Bool)
     → IfSome told (λ t. plan_of words files (files_now t) there machine ≡ Err answer) → LeavesFiles told told tells (IsOutcome words files there machine answers answer)
 no_plan words files there machine answers answer None tells h = refl
-no_plan words files there machine answers answer (Some told) tells h = λ t. (told, refl, λ world tree remote same start kept.
-    let is : plan_in words world ≡ Err answer = same_plan words world files (files_now told) there machine tree remote same start ∙ h in
-    (sym (ap (outcome_with world) is), ap (files_with world) is ∙ start))
+no_plan words files there machine answers answer (Some told) tells h = λ t. (
+  told,
+  refl,
+  λ world tree remote same start kept.
+      let is : plan_in words world ≡ Err answer = same_plan words world files (files_now told) there machine tree remote same start ∙ h in
+      (sym (ap (outcome_with world) is), ap (files_with world) is ∙ start),
+)
 
 -- words that aren't known
 unknown_plan : (words : List (List ℕ)) (tree start remote : Files) (machine : Machine) → phase_asked words ≡ None → plan_of words tree start remote machine ≡ Err not_built
@@ -183,3 +190,42 @@ pub of_none : (tree : Option Files) (shelf : Option ShelfTold) (remote : Option 
 of_none tree shelf remote words phase machine answer Q e gives =
     told_map tree shelf remote (λ files start there. plan_of words files start there machine ≡ Err answer) (λ files start there. (other : Plan) → plan_of words files start there machine ≡ Ok other → Q other)
     (λ files start there is other so. no_such_plan answer other (Q other) (plan_of words files start there machine) is so) (told_plan tree shelf remote words phase machine None (Err answer) e gives refl)
+
+-- ---- counts of the devices
+
+-- where no device failed, none's count changed
+pub quiet_counts : (failed : Option PomDevice) (a b : Counts) → failed ≡ None → Counted None failed a b → (b.tree ≡ a.tree) × (b.shelf ≡ a.shelf) × (b.remote ≡ a.remote)
+quiet_counts failed a b none counted = subst (λ (f : Option PomDevice). Counted None f a b) none counted
+
+risen_by : (device : PomDevice) (a b : Counts) → Counted None (Some device) a b → HasRisen a.tree b.tree ⊎ (HasRisen a.shelf b.shelf ⊎ HasRisen a.remote b.remote)
+risen_by device.Tree a b counted = inl counted.0
+risen_by device.Shelf a b counted = inr (inl counted.1)
+risen_by device.Remote a b counted = inr (inr counted.2)
+
+-- where one failed, its count has risen
+pub risen_counts : (failed : Option PomDevice) (answer : Outcome) (a b : Counts) → IsNoPlan failed answer → answer.status ≡ 3 → Counted None failed a b → HasRisen a.tree b.tree ⊎ (HasRisen a.shelf b.shelf ⊎ HasRisen a.remote b.remote)
+risen_counts failed answer a b is three counted =
+    let some = three_some failed answer is three in
+    risen_by some.0 a b (subst (λ (f : Option PomDevice). Counted None f a b) some.1 counted)
+
+-- one of three is one of five
+pub of_five : {A B C D E : Type 0} → A ⊎ (B ⊎ C) → A ⊎ (B ⊎ (C ⊎ (D ⊎ E)))
+of_five (inl a) = inl a
+of_five (inr (inl b)) = inr (inl b)
+of_five (inr (inr c)) = inr (inr (inl c))
+
+if_told_all : (tree : Option Files) (shelf : Option ShelfTold) (remote : Option Files) (P : Files → Files → Files → Type 0) → ((a b c : Files) → P a b c) → IfTold tree shelf remote P
+if_told_all None shelf remote P p = tt
+if_told_all (Some files) None remote P p = tt
+if_told_all (Some files) (Some told) None P p = tt
+if_told_all (Some files) (Some told) (Some there) P p = p files (files_now told) there
+
+-- what is said of each plan holds where an answer below 3 stands in its place
+pub low_of_none : (tree : Option Files) (shelf : Option ShelfTold) (remote : Option Files) (words : List (List ℕ)) (phase : Phase) (machine : Machine) (failed : Option PomDevice) (answer : Outcome) (Q : Plan → Type 0) → phase_asked words ≡ Some phase
+    → GivesPlan tree shelf remote phase (given_of machine) failed (Err answer) → IfTold tree shelf remote (λ files start there. answer.status < 3 → (other : Plan) → plan_of words files start there machine ≡ Ok other → Q other)
+low_of_none tree shelf remote words phase machine None answer Q e gives =
+    told_map tree shelf remote (λ files start there. (other : Plan) → plan_of words files start there machine ≡ Ok other → Q other) (λ files start there. answer.status < 3 → (other : Plan) → plan_of words files start there machine ≡ Ok other → Q other)
+    (λ files start there h low. h) (of_none tree shelf remote words phase machine answer Q e gives)
+low_of_none tree shelf remote words phase machine (Some device) answer Q e gives =
+    if_told_all tree shelf remote (λ files start there. answer.status < 3 → (other : Plan) → plan_of words files start there machine ≡ Ok other → Q other)
+    (λ files start there low. absurd (not_less 3 3 answer.status (failed_status device answer gives.comes) (omega arith) low))

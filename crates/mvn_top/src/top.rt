@@ -62,7 +62,8 @@ fn build<T: Tree, R: Remote, S: Shelf, G: Gate>(
         return nothing(alloc, not_built(alloc));
     };
     let planning = plan_phase(alloc, phase, given, tree, shelf, &mut hand.remote);
-    match planning.answer {
+    let answer = planning.answer;
+    match answer {
         Ok(Ok(plan)) => build_plan(alloc, &plan, shelf, hand),
         Ok(Err(outcome)) => nothing(alloc, Ok(outcome)),
         Err(error) => nothing(alloc, Err(error)),

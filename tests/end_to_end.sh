@@ -79,7 +79,7 @@ want '1 MiB of characters past ASCII' 0 "$report" validate
   for _ in $(seq 59); do printf '</c>'; done
   printf '</configuration></plugin></plugins></build></project>'
 } > pom.xml
-want 'a configuration of 59 levels' 2 $'not built yet\n' validate
+want 'a configuration of 59 levels' 0 "$report" validate
 want 'two words' 2 $'not built yet\n' validate validate
 want 'a part of a word' 2 $'not built yet\n' valida
 
@@ -106,10 +106,8 @@ refused pom.xml rule 3 NotPomText at 43|<project><V></project
 refused pom.xml rule 4 Doctype at 0|<!DOCTYPE project><project/>
 refused pom.xml rule 2 Encoding at 30|<?xml version='1.0' encoding='UTF-16'?><project/>
 refused pom.xml rule 8 MissingField at project/dependencies/dependency[1]/groupId|<project><V><dependencies><dependency/></dependencies></project>
-not built yet|<project><V><groupId>a..b</groupId><A><N></project>
-not built yet|<project><V><G><A><N><packaging>pom</packaging></project>
-not built yet|<project><V><G><A><N><properties><x/></properties></project>
-not built yet|<project><V><parent><G><A><N></parent><artifactId>a</artifactId></project>
+refused pom.xml rule 9 BadName at a..b|<project><V><groupId>a..b</groupId><A><N></project>
+refused pom.xml rule 11 ParentNotFound at demo:app:1|<project><V><parent><G><A><N></parent><artifactId>a</artifactId></project>
 END
 printf '\xef\xbb\xbf<?xml version="1.0"?>\r\n<!-- by hand -->\r\n%s\r\n' "${pom/<version>/<name>An app<\/name><version>}" > pom.xml
 want 'a POM with more in it' 0 "$report" validate

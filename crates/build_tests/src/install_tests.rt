@@ -83,7 +83,7 @@ fn installed(
 {
     let words = [Bytes::from_slice(alloc, b"install")?];
     let machine = machine(alloc)?;
-    let ended = mvn(alloc, &words, &machine, tree, shelf, workers, sink);
+    let ended = mvn(alloc, &words, machine, tree, shelf, workers, sink);
     Ok(Left {
         status: ended.status,
         names: ended.shelf.names(),

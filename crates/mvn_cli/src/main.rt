@@ -30,9 +30,10 @@ mvn builds a Maven project (POM model 4.0.0). It is not Apache Maven.
 Usage: mvn WORD
 
 Words:
-  validate        read and check pom.xml in the current folder, and report its module
-  install         also run the goals of a jar, and put the POM and the jar into the
-                  local repository
+  validate        make the effective model of pom.xml in the current folder, check it,
+                  and run the goals of the phase validate
+  install         run the goals up to the phase install, and put the POM and what is
+                  made into the local repository
   -h, --help      print this help
   -v, --version   print the version
 
@@ -40,13 +41,14 @@ The built-in goals do not compile: the output of a goal is a SHA-256 digest of i
 input. Don't point MVN_REPO at a repository that Maven uses. A program that MVN_GATE
 names runs the goals in their place.
 
-Anything else is answered by `not built yet`. So is a POM that needs more than a group,
-an artifact, a version and the packaging jar.
+Anything else is answered by `not built yet`. So is a project with modules or with
+dependencies. Parents and imports are looked up in the project, in the local
+repository and in the remote one.
 
 Environment:
   MVN_REPO        the local repository (by default .m2/repository in the project)
   MVN_REMOTE      a folder that stands for a remote repository (by default .m2/remote
-                  in the project); nothing is fetched yet
+                  in the project); POMs of parents and imports are read from it
   MVN_GATE        a program that runs the goals, once for each (by default the
                   built-in goals)
 
@@ -120,7 +122,7 @@ fn build<O: Sink>(rt: &HostRuntime, words: &[Bytes], out: &mut O) -> Mem<u8> {
     let mut hands = hands(rt, &repository, &remote, &process, &program)?;
     let mut tree = RealTree::new(rt, Text::from_str(alloc, ".")?);
     let shelf = RealShelf::new(rt, repository);
-    let ended = mvn(alloc, words, &machine, &mut tree, shelf, &mut hands, out);
+    let ended = mvn(alloc, words, machine, &mut tree, shelf, &mut hands, out);
     Ok(ended.status)
 }
 

@@ -1,11 +1,12 @@
 -- A call from what was built and what was written.
-use Rattle.std.proofs.Common.{◌≡◌, ℕ, zero, suc, ◌+◌, ◌<◌, Bool, ◌&&◌, ◌==◌, cond, List, [], ◌∷◌, find, Option, Some, None, unwrap_or, Result, Ok, Err, IfOk, IfSome, refl, sym, ap, subst, ◌∙◌, arith}
+use Rattle.std.proofs.Common.{◌≡◌, ℕ, zero, suc, ◌+◌, ◌<◌, Bool, ◌&&◌, ◌==◌, cond, List, [], ◌∷◌, find, Option, Some, None, unwrap_or, Result, Ok, Err, IfOk, IfSome, refl, sym, ap, subst, ◌∙◌, arith, get_or}
 use Rattle.std.specs.Option.{option_map}
 use Rattle.std.proofs.lemmas.List.{append-nil}
 use Rattle.mvn_shared.specs.declared.memory.OutOfMemory.{OutOfMemory}
 use Rattle.mvn_shared.specs.Files.{Files}
 use Rattle.mvn_shared.specs.Told.{gains}
 use Rattle.goal_types.specs.declared.goal.GoalAnswer.{GoalAnswer}
+use Rattle.goal_types.specs.declared.goal.GoalRequest.{GoalRequest}
 use Rattle.goal_types.specs.declared.goal.GoalAnswer.TheVariants.{Done}
 use Rattle.mvn_outside.specs.declared.shelf.ShelfTold.{ShelfTold}
 use Rattle.build_core.specs.declared.plan.Plan.{Plan}
@@ -16,7 +17,11 @@ use Rattle.one_hand.specs.Built.{LeavesFiles}
 use Rattle.mvn_top.specs.declared.outcome.Outcome.{Outcome}
 use Rattle.mvn_top.specs.Outcome.{not_built}
 use Rattle.mvn_top.specs.Ending.{IsWhole, Ends, IsLow, HasNone}
-use Rattle.mvn_top.specs.Headline.{numbered, kept_answers, plan_of, IsOutcome, IsCall, CountFits, ComesFrom}
+use Rattle.mvn_base.specs.declared.machine.Machine.{Machine}
+use Rattle.mvn_top.specs.Project.{IfTold}
+use Rattle.mvn_top.specs.Headline.{numbered, kept_answers, plan_of, IfBoth, IsOutcome, IsCall, CountFits, ComesFrom, OfFirst}
+use Rattle.mvn_top.proofs.Planned.{told_map}
+use Rattle.mvn_top.proofs.Tops.{both_map}
 
 -- ---- the answers by number
 
@@ -57,21 +62,28 @@ leaves_more : (before now : Option ShelfTold) (tells : Bool) (R Q : Files → Fi
 leaves_more None now tells R Q h l = l
 leaves_more (Some told) now tells R Q h l = λ t. let left = l t in (left.0, left.1, h _ _ left.2)
 
-call_outcome : (words : List (List ℕ)) (files : Files) (answers : List Answered) (kept : List GoalAnswer) (wanted : Outcome) (status : ℕ) (written now : Option (List ℕ)) (before after : Files) → answers ≡ numbered 0 kept
-    → IsWhole wanted status written now → IsOutcome words files kept wanted before after → IsCall words files answers status written now before after
-call_outcome words files answers kept wanted status written now before after e whole is world tree start same =
-    let io = is world tree start (λ i. same i ∙ by_number answers kept i e) in
+call_outcome : (words : List (List ℕ)) (files there : Files) (machine : Machine) (answers : List Answered) (kept : List GoalAnswer) (wanted : Outcome) (status : ℕ) (written now : Option (List ℕ)) (before after : Files) → answers ≡ numbered 0 kept
+    → IsWhole wanted status written now → IsOutcome words files there machine kept wanted before after → IsCall words files there machine answers status written now before after
+call_outcome words files there machine answers kept wanted status written now before after e whole is world tree remote here start same =
+    let io = is world tree remote here start (λ i. same i ∙ by_number answers kept i e) in
     (subst (λ (o : Outcome). IsWhole o status written now) io.0 whole, io.1)
 
-pub call_of : (told : Option Files) (words : List (List ℕ)) (answers : List Answered) (kept : List GoalAnswer) (out : Result Outcome OutOfMemory) (status : ℕ) (written now : Option (List ℕ)) (before after : Option ShelfTold) (tells : Bool) → answers ≡ numbered 0 kept
-    → IfSome told (λ files. IfOk out (λ wanted. wanted.status < 3 → LeavesFiles before after tells (IsOutcome words files kept wanted)))
+call_low : (words : List (List ℕ)) (files there : Files) (machine : Machine) (answers : List Answered) (kept : List GoalAnswer) (out : Result Outcome OutOfMemory) (status : ℕ) (written now : Option (List ℕ)) (before after : Option ShelfTold) (tells : Bool) → answers ≡ numbered 0 kept
     → IfOk out (λ wanted. status < 3 → IsWhole wanted status written now) → (status < 3 → IsLow out)
-    → IfSome told (λ files. status < 3 → LeavesFiles before after tells (IsCall words files answers status written now))
-call_of None words answers kept out status written now before after tells e h whole low = tt
-call_of (Some files) words answers kept (Ok wanted) status written now before after tells e h whole low = λ l.
-    leaves_more before after tells (IsOutcome words files kept wanted) (IsCall words files answers status written now)
-    (λ a b r. call_outcome words files answers kept wanted status written now a b e (whole l) r) (h (low l))
-call_of (Some files) words answers kept (Err x) status written now before after tells e h whole low = λ l. absurd (low l)
+    → IfOk out (λ wanted. wanted.status < 3 → LeavesFiles before after tells (IsOutcome words files there machine kept wanted))
+    → status < 3 → LeavesFiles before after tells (IsCall words files there machine answers status written now)
+call_low words files there machine answers kept (Ok wanted) status written now before after tells e whole low h = λ l.
+    leaves_more before after tells (IsOutcome words files there machine kept wanted) (IsCall words files there machine answers status written now)
+    (λ a b r. call_outcome words files there machine answers kept wanted status written now a b e (whole l) r) (h (low l))
+call_low words files there machine answers kept (Err x) status written now before after tells e whole low h = λ l. absurd (low l)
+
+pub call_of : (tree remote : Option Files) (words : List (List ℕ)) (machine : Machine) (answers : List Answered) (kept : List GoalAnswer) (out : Result Outcome OutOfMemory) (status : ℕ) (written now : Option (List ℕ)) (before after : Option ShelfTold) (tells : Bool) → answers ≡ numbered 0 kept
+    → IfBoth tree remote (λ files there. IfOk out (λ wanted. wanted.status < 3 → LeavesFiles before after tells (IsOutcome words files there machine kept wanted)))
+    → IfOk out (λ wanted. status < 3 → IsWhole wanted status written now) → (status < 3 → IsLow out)
+    → IfBoth tree remote (λ files there. status < 3 → LeavesFiles before after tells (IsCall words files there machine answers status written now))
+call_of tree remote words machine answers kept out status written now before after tells e h whole low =
+    both_map tree remote (λ files there. IfOk out (λ wanted. wanted.status < 3 → LeavesFiles before after tells (IsOutcome words files there machine kept wanted))) (λ files there. status < 3 → LeavesFiles before after tells (IsCall words files there machine answers status written now))
+    (λ files there p. call_low words files there machine answers kept out status written now before after tells e whole low p) h
 
 -- ---- what is written
 
@@ -93,18 +105,32 @@ none_ends wanted status written now sink_before sink_now four same = record {
   fault = λ three d. absurd (four_is_not_three status four three);
 }
 
-pub call_ends : (told : Option Files) (words : List (List ℕ)) (answers : List Answered) (kept : List GoalAnswer) (out : Result Outcome OutOfMemory) (status : ℕ) (written now : Option (List ℕ)) (sink_before sink_now : ℕ) → answers ≡ numbered 0 kept
-    → IfOk out (λ wanted. wanted.status < 3 → ComesFrom told words kept wanted) → IfOk out (λ wanted. Ends wanted status written now sink_before sink_now) → (status < 3 → IsLow out) → HasNone out status written now
-    → (wanted : Outcome) × (status < 3 → ComesFrom told words (kept_answers answers) wanted) × Ends wanted status written now sink_before sink_now
-call_ends told words answers kept (Ok wanted) status written now sink_before sink_now e comes ends low none =
+pub call_ends : (words : List (List ℕ)) (gate : Option (GoalRequest → GoalAnswer → Bool)) (answers : List Answered) (kept : List GoalAnswer) (out : Result Outcome OutOfMemory) (status : ℕ) (written now : Option (List ℕ)) (sink_before sink_now : ℕ) → answers ≡ numbered 0 kept
+    → IfOk out (λ wanted. wanted.status < 3 → ComesFrom words gate kept wanted) → IfOk out (λ wanted. Ends wanted status written now sink_before sink_now) → (status < 3 → IsLow out) → HasNone out status written now
+    → (wanted : Outcome) × (status < 3 → ComesFrom words gate (kept_answers answers) wanted) × Ends wanted status written now sink_before sink_now
+call_ends words gate answers kept (Ok wanted) status written now sink_before sink_now e comes ends low none =
     let same : kept_answers answers ≡ kept = ap kept_answers e ∙ kept_numbered 0 kept in
-    (wanted, λ l. subst (λ (k : List GoalAnswer). ComesFrom told words k wanted) (sym same) (comes (low l)), ends)
-call_ends told words answers kept (Err x) status written now sink_before sink_now e comes ends low none =
+    (wanted, λ l. subst (λ (k : List GoalAnswer). ComesFrom words gate k wanted) (sym same) (comes (low l)), ends)
+call_ends words gate answers kept (Err x) status written now sink_before sink_now e comes ends low none =
     (not_built, λ l. absurd (low l), none_ends not_built status written now sink_before sink_now none.0 none.1)
 
-pub call_counts : (told : Option Files) (words : List (List ℕ)) (answers : List Answered) (kept : List GoalAnswer) (out : Result Outcome OutOfMemory) (status : ℕ) → answers ≡ numbered 0 kept
-    → IfSome told (λ files. IfOk out (λ wanted. wanted.status < 3 → (plan : Plan) → plan_of words files ≡ Ok plan → CountFits plan kept)) → (status < 3 → IsLow out)
-    → IfSome told (λ files. status < 3 → (plan : Plan) → plan_of words files ≡ Ok plan → CountFits plan (kept_answers answers))
-call_counts None words answers kept out status e h low = tt
-call_counts (Some files) words answers kept (Ok wanted) status e h low = λ l plan is. subst (λ (k : List GoalAnswer). CountFits plan k) (sym (ap kept_answers e ∙ kept_numbered 0 kept)) (h (low l) plan is)
-call_counts (Some files) words answers kept (Err x) status e h low = λ l. absurd (low l)
+counts_low : (words : List (List ℕ)) (files start there : Files) (machine : Machine) (answers : List Answered) (kept : List GoalAnswer) (out : Result Outcome OutOfMemory) (status : ℕ) → answers ≡ numbered 0 kept → (status < 3 → IsLow out)
+    → IfOk out (λ wanted. wanted.status < 3 → (plan : Plan) → plan_of words files start there machine ≡ Ok plan → CountFits plan kept)
+    → status < 3 → (plan : Plan) → plan_of words files start there machine ≡ Ok plan → CountFits plan (kept_answers answers)
+counts_low words files start there machine answers kept (Ok wanted) status e low h = λ l plan is. subst (λ (k : List GoalAnswer). CountFits plan k) (sym (ap kept_answers e ∙ kept_numbered 0 kept)) (h (low l) plan is)
+counts_low words files start there machine answers kept (Err x) status e low h = λ l. absurd (low l)
+
+pub call_counts : (tree : Option Files) (shelf : Option ShelfTold) (remote : Option Files) (words : List (List ℕ)) (machine : Machine) (answers : List Answered) (kept : List GoalAnswer) (out : Result Outcome OutOfMemory) (status : ℕ) → answers ≡ numbered 0 kept
+    → IfTold tree shelf remote (λ files start there. IfOk out (λ wanted. wanted.status < 3 → (plan : Plan) → plan_of words files start there machine ≡ Ok plan → CountFits plan kept)) → (status < 3 → IsLow out)
+    → IfTold tree shelf remote (λ files start there. status < 3 → (plan : Plan) → plan_of words files start there machine ≡ Ok plan → CountFits plan (kept_answers answers))
+call_counts tree shelf remote words machine answers kept out status e h low =
+    told_map tree shelf remote (λ files start there. IfOk out (λ wanted. wanted.status < 3 → (plan : Plan) → plan_of words files start there machine ≡ Ok plan → CountFits plan kept))
+    (λ files start there. status < 3 → (plan : Plan) → plan_of words files start there machine ≡ Ok plan → CountFits plan (kept_answers answers))
+    (λ files start there p. counts_low words files start there machine answers kept out status e low p) h
+
+-- ---- the first hand
+
+-- what holds of the item at the front holds of the first
+pub of_first : {A : Type 0} (P : A → Type 0) (items : List A) (a : A) → P (get_or items 0 a) → OfFirst items P
+of_first P [] a holds = tt
+of_first P (b ∷ items) a holds = holds

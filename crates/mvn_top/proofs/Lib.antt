@@ -1,11 +1,9 @@
-pub mod Builds
-pub mod Calls
-pub mod Onces
-pub mod Planned
-pub mod Projects
-pub mod Rans
-pub mod Readings
-pub mod SourcesRead
-pub mod Stops
-pub mod Tops
-pub mod Valid
+mod Builds
+mod Calls
+mod IfSomes
+mod Onces
+mod Ones
+mod Planned
+mod Rans
+mod Stops
+mod Tops

@@ -15,7 +15,7 @@ use Rattle.build_core.specs.declared.plan.PlanModule.{PlanModule}
 use Rattle.build_core.specs.declared.plan.OwnFile.{OwnFile}
 use Rattle.build_core.specs.OneThread.{name_of, own_bytes}
 use Rattle.one_hand.specs.Installing.{publish_of, own_publishes, Adds}
-use Rattle.mvn_top.specs.Planning.{file_names}
+use Rattle.module_plan.specs.Plans.{other_names}
 use Rattle.mvn_top.specs.Once.{IsDistinct, PublishesOnce}
 
 -- nothing is published
@@ -111,17 +111,24 @@ apart a b h e = clash (sym h ∙ ap (pointwise nat_eq a) (sym e) ∙ nat_list_eq
 names_apart : (gav : Gav) (c e d f : List ℕ) → pointwise nat_eq (ending_of c e) (ending_of d f) ≡ false → file_name gav c e ≢ file_name gav d f
 names_apart gav c e d f h = apart (file_name gav c e) (file_name gav d f) (names_differ gav c e d f h)
 
-pub file_names_distinct : (gav : Gav) → IsDistinct (file_names gav)
-file_names_distinct gav = (
-  (names_apart gav [] (codes "pom") [] (codes "jar") refl, (names_apart gav [] (codes "pom") (codes "tests") (codes "jar") refl, (names_apart gav [] (codes "pom") (codes "sources") (codes "jar") refl, (names_apart gav [] (codes "pom") (codes "javadoc") (codes "jar") refl, tt)))),
-  (
-    (names_apart gav [] (codes "jar") (codes "tests") (codes "jar") refl, (names_apart gav [] (codes "jar") (codes "sources") (codes "jar") refl, (names_apart gav [] (codes "jar") (codes "javadoc") (codes "jar") refl, tt))),
-    (
-      (names_apart gav (codes "tests") (codes "jar") (codes "sources") (codes "jar") refl, (names_apart gav (codes "tests") (codes "jar") (codes "javadoc") (codes "jar") refl, tt)),
-      (
-        (names_apart gav (codes "sources") (codes "jar") (codes "javadoc") (codes "jar") refl, tt),
-        (tt, tt),
-      ),
-    ),
-  ),
+-- of the files beside the POM and the main one
+others_distinct : (gav : Gav) → IsDistinct (other_names gav)
+others_distinct gav = (
+  (names_apart gav (codes "tests") (codes "jar") (codes "sources") (codes "jar") refl, (names_apart gav (codes "tests") (codes "jar") (codes "javadoc") (codes "jar") refl, tt)),
+  ((names_apart gav (codes "sources") (codes "jar") (codes "javadoc") (codes "jar") refl, tt), (tt, tt)),
+)
+
+-- a file without a classifier isn't one of them
+apart_from_others : (gav : Gav) (e : List ℕ) → AllByRecursion (λ other. file_name gav [] e ≢ other) (other_names gav)
+apart_from_others gav e = (names_apart gav [] e (codes "tests") (codes "jar") refl, (names_apart gav [] e (codes "sources") (codes "jar") refl, (names_apart gav [] e (codes "javadoc") (codes "jar") refl, tt)))
+
+-- the names of a module's files, whose packaging is `pom`
+pub pom_names_distinct : (gav : Gav) → IsDistinct (file_name gav [] (codes "pom") ∷ other_names gav)
+pom_names_distinct gav = (apart_from_others gav (codes "pom"), others_distinct gav)
+
+-- and of any other, whose main file has another extension
+pub main_names_distinct : (gav : Gav) (e : List ℕ) → pointwise nat_eq (codes "pom") e ≡ false → IsDistinct (file_name gav [] (codes "pom") ∷ file_name gav [] e ∷ other_names gav)
+main_names_distinct gav e other = (
+  (names_apart gav [] (codes "pom") [] e other, apart_from_others gav (codes "pom")),
+  (apart_from_others gav e, others_distinct gav),
 )

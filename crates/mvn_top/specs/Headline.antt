@@ -1,5 +1,5 @@
 -- What a call answers and leaves, as a function of its words and of what stands outside. Own rules.
-use Rattle.std.specs.Prelude.{◌≡◌, ◌⊎◌, ℕ, suc, Bool, true, List, [], ◌∷◌, map, slice_get, Option, Some, None, Result, Ok, Err}
+use Rattle.std.specs.Prelude.{◌≡◌, ◌⊎◌, ℕ, suc, Bool, true, List, [], ◌∷◌, map, slice_get, Option, Some, None, Result, Ok, Err, IfSome}
 use Rattle.mvn_shared.specs.Files.{Files}
 use Rattle.goal_types.specs.declared.goal.GoalAnswer.{GoalAnswer}
 use Rattle.goal_types.specs.declared.goal.GoalCall.{GoalCall}
@@ -11,35 +11,40 @@ use Rattle.build_core.specs.declared.event.Answered.{Answered}
 use Rattle.build_core.specs.Slots.{slots_before}
 use Rattle.build_core.specs.OneThread.{Supply, answer_at, request, one_thread}
 use Rattle.one_hand.specs.Running.{nth_answer, HasAllAnswers}
-use Rattle.mvn_top.specs.declared.command.Command.{Command}
 use Rattle.mvn_top.specs.declared.outcome.Outcome.{Outcome}
-use Rattle.mvn_top.specs.Commands.{command_of}
-use Rattle.mvn_top.specs.Reading.{reading_of}
-use Rattle.mvn_top.specs.Sources.{sources_of}
-use Rattle.mvn_top.specs.Outcome.{not_built, planned}
-use Rattle.mvn_top.specs.Project.{GivesProject}
+use Rattle.mvn_base.specs.declared.machine.Machine.{Machine}
+use Rattle.mvn_base.specs.declared.phase.Phase.{Phase}
+use Rattle.module_plan.specs.Plans.{IsModulePlan}
+use Rattle.module_plan.specs.Project.{planned}
+use Rattle.mvn_top.specs.Commands.{phase_asked}
+use Rattle.mvn_top.specs.Outcome.{not_built, of_planned}
+use Rattle.mvn_top.specs.Project.{given_of, IsNoPlan}
 use Rattle.mvn_top.specs.Ending.{IsWhole}
 use Rattle.mvn_top.specs.Ran.{ran, IsOne, RanAlways}
 
--- what a call is given: the project's files, the repository's files at the start, the remote's, and the answers of the
--- goals by module and goal
+-- what a call is given: the project's files, the repository's files at the start, the remote's, what the project may ask of the
+-- machine, and the answers of the goals by module and goal
 pub record World : Type 0 where
   pub tree : Files
   pub start : Files
   pub remote : Files
+  pub machine : Machine
   pub answers : ℕ → ℕ → GoalAnswer
 
 abbrev pub supply_of : World → Supply
 supply_of world = record { start = world.start; remote = world.remote; answers = world.answers }
 
--- the plan for a command over a project of these files
-abbrev pub plan_with : Option Command → Files → Result Plan Outcome
-plan_with None files = Err not_built
-plan_with (Some c) files = planned c (reading_of files) (sources_of files)
+-- the plan for a phase, or what is answered in its place
+abbrev pub plan_with : (tree start remote : Files) → Machine → Option Phase → Result Plan Outcome
+plan_with tree start remote machine None = Err not_built
+plan_with tree start remote machine (Some phase) = of_planned (planned tree start remote phase (given_of machine))
 
--- the plan for the words, or what is answered in its place
-abbrev pub plan_of : List (List ℕ) → Files → Result Plan Outcome
-plan_of words files = plan_with (command_of words) files
+-- so for the words
+abbrev pub plan_of : List (List ℕ) → (tree start remote : Files) → Machine → Result Plan Outcome
+plan_of words tree start remote machine = plan_with tree start remote machine (phase_asked words)
+
+abbrev pub plan_in : List (List ℕ) → World → Result Plan Outcome
+plan_in words world = plan_of words world.tree world.start world.remote world.machine
 
 -- what is answered of a plan, and the files that are left
 abbrev pub outcome_with : World → Result Plan Outcome → Outcome
@@ -52,11 +57,11 @@ files_with world (Ok plan) = (one_thread plan (supply_of world)).files
 
 -- the outcome of a call: its text and its status
 abbrev pub outcome : List (List ℕ) → World → Outcome
-outcome words world = outcome_with world (plan_of words world.tree)
+outcome words world = outcome_with world (plan_in words world)
 
 -- the repository's files that it leaves
 abbrev pub files_after : List (List ℕ) → World → Files
-files_after words world = files_with world (plan_of words world.tree)
+files_after words world = files_with world (plan_in words world)
 
 -- a plan of one module that needs nothing of the repository
 abbrev pub IsSingle : Plan → Type 0
@@ -75,25 +80,30 @@ AnswersFit test plan answers = (m : PlanModule) → plan.modules ≡ m ∷ [] �
 abbrev pub CountFits : Plan → List GoalAnswer → Type 0
 CountFits plan answers = (m : PlanModule) → plan.modules ≡ m ∷ [] → HasAllAnswers m answers
 
--- the answer is the outcome, and the files are those that it leaves, of all worlds with these files and answers
-abbrev pub IsOutcome : List (List ℕ) → (tree : Files) → List GoalAnswer → Outcome → (before after : Files) → Type 0
-IsOutcome words tree answers answer before after = (world : World) → world.tree ≡ tree → world.start ≡ before → ((i : ℕ) → world.answers 0 i ≡ nth_answer answers i)
+-- the answer is the outcome, and the files are those that it leaves, of all worlds with these files, this machine and these answers
+abbrev pub IsOutcome : List (List ℕ) → (tree remote : Files) → Machine → List GoalAnswer → Outcome → (before after : Files) → Type 0
+IsOutcome words tree remote machine answers answer before after = (world : World) → world.tree ≡ tree → world.remote ≡ remote → world.machine ≡ machine → world.start ≡ before → ((i : ℕ) → world.answers 0 i ≡ nth_answer answers i)
     → (answer ≡ outcome words world) × (files_after words world ≡ after)
 
--- over any tree: where the answer comes from
-abbrev pub ComesFrom : Option Files → List (List ℕ) → List GoalAnswer → Outcome → Type 0
-ComesFrom told words answers answer = ((command_of words ≡ None) × (answer ≡ not_built))
-    ⊎ ((c : Command) × (command_of words ≡ Some c) × (GivesProject told c (Err answer) ⊎ ((plan : Plan) × GivesProject told c (Ok plan) × RanAlways plan answers answer)))
+-- Over any devices: the words aren't known, or the project isn't built yet or is refused, or a plan of one lawful model is built by one
+-- hand, and its goals are answered as the gate does, if it tells.
+abbrev pub ComesFrom : List (List ℕ) → Option (GoalRequest → GoalAnswer → Bool) → List GoalAnswer → Outcome → Type 0
+ComesFrom words gate answers answer = ((phase_asked words ≡ None) × (answer ≡ not_built))
+    ⊎ ((phase : Phase) × (phase_asked words ≡ Some phase) × (IsNoPlan None answer ⊎ ((plan : Plan) × IsModulePlan phase plan × RanAlways plan answers answer × IfSome gate (λ test. AnswersFit test plan answers))))
+
+-- where the project's folder and the remote tell their files
+abbrev pub IfBoth : Option Files → Option Files → ((tree remote : Files) → Type 0) → Type 0
+IfBoth tree remote P = IfSome tree (λ files. IfSome remote (λ there. P files there))
 
 -- the answers of the first module's goals, the first of which has this number
 abbrev pub numbered : ℕ → List GoalAnswer → List Answered
 numbered n [] = []
 numbered n (answer ∷ answers) = (record { «module» = 0; goal = n; answer = answer }) ∷ numbered (suc n) answers
 
--- Of all worlds with these files and answers: the status and what is written are those of the outcome, and the files are
--- those that it leaves.
-abbrev pub IsCall : List (List ℕ) → (tree : Files) → List Answered → (status : ℕ) → (written now : Option (List ℕ)) → (before after : Files) → Type 0
-IsCall words tree answers status written now before after = (world : World) → world.tree ≡ tree → world.start ≡ before → ((i : ℕ) → world.answers 0 i ≡ answer_at answers 0 i)
+-- Of all worlds with these files, this machine and these answers: the status and what is written are those of the outcome, and the
+-- files are those that it leaves.
+abbrev pub IsCall : List (List ℕ) → (tree remote : Files) → Machine → List Answered → (status : ℕ) → (written now : Option (List ℕ)) → (before after : Files) → Type 0
+IsCall words tree remote machine answers status written now before after = (world : World) → world.tree ≡ tree → world.remote ≡ remote → world.machine ≡ machine → world.start ≡ before → ((i : ℕ) → world.answers 0 i ≡ answer_at answers 0 i)
     → IsWhole (outcome words world) status written now × (files_after words world ≡ after)
 
 -- the answers alone, in order

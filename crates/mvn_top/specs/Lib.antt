@@ -5,17 +5,15 @@ pub use Rattle.mvn_base.specs.Gav
 pub use Rattle.mvn_base.specs.Names
 pub use Rattle.mvn_base.specs.Refusal
 pub use Rattle.mvn_base.specs.Rule
-pub use Rattle.pom_model.specs.Raw
-pub use Rattle.pom_text.specs.Answers
+pub use Rattle.pom_source.specs.Answers
+pub use Rattle.model_resolver.specs.Devices
+pub use Rattle.module_plan.specs.Plans
+pub use Rattle.module_plan.specs.Project as module_project
 pub mod Commands
 pub mod Ending
 pub mod Headline
 pub mod Once
 pub mod Outcome
-pub mod Planning
 pub mod Project
 pub mod Ran
-pub mod Reading
-pub mod Simple
 pub mod Rows
-pub mod Sources

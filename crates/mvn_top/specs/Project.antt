@@ -1,35 +1,45 @@
--- What planning a project gives, by what its tree tells. Own rules.
-use Rattle.std.specs.Prelude.{◌≡◌, ◌⊎◌, ℕ, Bool, false, ◌==◌, List, Option, Result, Ok, Err, IfSome}
+-- What planning a project gives, by what its devices tell. Own rules.
+use Rattle.std.specs.Prelude.{◌≡◌, ◌⊎◌, ℕ, Bool, List, [], Option, None, Some, Result, Ok, Err, IfSome, is_some}
 use Rattle.mvn_shared.specs.Files.{Files}
-use Rattle.mvn_base.specs.declared.gav.Gav.{Gav}
-use Rattle.goal_types.specs.declared.goal.SourceFile.{SourceFile}
+use Rattle.mvn_base.specs.declared.machine.Machine.{Machine}
+use Rattle.mvn_base.specs.declared.phase.Phase.{Phase}
+use Rattle.mvn_base.specs.declared.refusal.Refusal.{Refusal}
+use Rattle.mvn_outside.specs.Shelf.{files_now}
+use Rattle.mvn_outside.specs.declared.shelf.ShelfTold.{ShelfTold}
 use Rattle.build_core.specs.declared.plan.Plan.{Plan}
-use Rattle.mvn_top.specs.declared.command.Command.{Command}
+use Rattle.pom_source.specs.declared.fault.BuildFault.{BuildFault}
+use Rattle.pom_source.specs.declared.found.Given.{Given}
+use Rattle.model_resolver.specs.declared.failures.PomDevice.{PomDevice}
+use Rattle.module_plan.specs.Plans.{IsModulePlan}
+use Rattle.module_plan.specs.Project.{planned}
+use Rattle.mvn_top.specs.Outcome.{fault_line, not_built, of_planned, refused_by}
 use Rattle.mvn_top.specs.declared.outcome.Outcome.{Outcome}
-use Rattle.mvn_top.specs.declared.reading.Reading.{Reading}
-use Rattle.mvn_top.specs.Reading.{reading_of}
-use Rattle.mvn_top.specs.declared.sources.SourcesFault.{SourcesFault}
-use Rattle.mvn_top.specs.declared.sources.SourcesFault.TheVariants.{Failed, TooMany, Memory}
-use Rattle.mvn_top.specs.Planning.{plan_for}
-use Rattle.mvn_top.specs.Sources.{sources_of}
-use Rattle.mvn_top.specs.Outcome.{fault_tree, too_many_sources, sources_for, planned_of, planned}
 
--- a module's plan, or what is answered where its sources can't be had, by what reading them gave
-abbrev pub PlannedFrom : Command → Gav → (pom : List ℕ) → Result (List SourceFile) SourcesFault → Result Plan Outcome → Type 0
-PlannedFrom c gav pom (Ok sources) answer = answer ≡ Ok (plan_for c gav pom sources)
-PlannedFrom c gav pom (Err TooMany) answer = answer ≡ Err too_many_sources
-PlannedFrom c gav pom (Err Failed) answer = answer ≡ Err fault_tree
-PlannedFrom c gav pom (Err Memory) answer = ⊥
+-- no properties are defined and no profiles chosen on the command line yet
+abbrev pub given_of : Machine → Given
+given_of machine = record { machine = machine; defines = []; choice = record { on = []; off = [] } }
 
--- a module's plan, of the sources that the tree tells, or the tree's fault
-abbrev pub GivesModule : Option Files → Command → Gav → (pom : List ℕ) → Result Plan Outcome → Type 0
-GivesModule told c gav pom answer = (answer ≡ Err fault_tree) ⊎ ((sources : Option (List SourceFile)) × IfSome told (λ files. sources ≡ sources_of files) × (answer ≡ planned_of c gav pom (sources_for c sources)))
+-- an answer in place of a plan: a project isn't built yet, it is refused, or the device that failed is named
+abbrev pub IsNoPlan : Option PomDevice → Outcome → Type 0
+IsNoPlan None answer = (answer ≡ not_built) ⊎ ((refusal : Refusal) × (answer ≡ refused_by refusal))
+IsNoPlan (Some device) answer = answer ≡ fault_line device
 
--- a project's plan, of the POM and the sources that the tree tells, or the tree's fault
-abbrev pub GivesProject : Option Files → Command → Result Plan Outcome → Type 0
-GivesProject told c answer = (answer ≡ Err fault_tree) ⊎ ((reading : Reading) × (sources : Option (List SourceFile)) × IfSome told (λ files. (reading ≡ reading_of files) × (sources ≡ sources_of files)) × (answer ≡ planned c reading sources))
+-- a plan, or an answer in its place, from what planning gave
+abbrev pub ComesFromPlan : Result (Option Plan) BuildFault → Option PomDevice → Result Plan Outcome → Type 0
+ComesFromPlan plan failed (Ok p) = plan ≡ Ok (Some p)
+ComesFromPlan plan failed (Err answer) = IsNoPlan failed answer
 
--- the tree failed
-abbrev pub plan_failed : Result Plan Outcome → Bool
-plan_failed (Ok plan) = false
-plan_failed (Err answer) = answer.status == 3
+-- where the project's folder, the local repository and the remote one tell their files
+abbrev pub IfTold : Option Files → Option ShelfTold → Option Files → ((tree start remote : Files) → Type 0) → Type 0
+IfTold tree shelf remote P = IfSome tree (λ files. IfSome shelf (λ told. IfSome remote (λ there. P files (files_now told) there)))
+
+-- a plan for a phase, where no device failed, or what is answered in its place
+abbrev pub IsAnswered : Phase → Option PomDevice → Result Plan Outcome → Type 0
+IsAnswered phase failed (Ok plan) = (failed ≡ None) × IsModulePlan phase plan
+IsAnswered phase failed (Err answer) = IsNoPlan failed answer
+
+-- and it is the project's, unless a device failed
+pub record GivesPlan (tree : Option Files) (shelf : Option ShelfTold) (remote : Option Files) (phase : Phase) (given : Given) (failed : Option PomDevice)
+    (answer : Result Plan Outcome) : Type 0 where
+  pub is : failed ≡ None → IfTold tree shelf remote (λ files start there. answer ≡ of_planned (planned files start there phase given))
+  pub comes : IsAnswered phase failed answer

@@ -129,6 +129,7 @@ fn build_one<R, S: Shelf, G: Gate>(
         IfSome (S.told shelf.new) IsSettled) }
     ensures answers { IfSome (G.answers hand.old.gate) (λ test.
         FitsRequests test plan.now module.now result.answers) }
+    ensures remote { hand.new.remote ≡ hand.old.remote }
     ensures quiet { IfOk result.outcome (λ answer. answer.status < 3 →
         (S.faults shelf.new ≡ S.faults shelf.old) ×
         (S.Area.faults hand.new.area ≡ S.Area.faults hand.old.area) ×
@@ -189,6 +190,7 @@ fn build_swept<R, S: Shelf, G: Gate>(
         IfSome (S.told shelf.new) IsSettled) }
     ensures answers { IfSome (G.answers hand.old.gate) (λ test.
         AnswersFit test plan.now result.answers) }
+    ensures remote { hand.new.remote ≡ hand.old.remote }
     ensures quiet { IfOk result.outcome (λ answer. answer.status < 3 →
         (S.faults shelf.new ≡ S.faults shelf.old) ×
         (S.Area.faults hand.new.area ≡ S.Area.faults hand.old.area) ×
@@ -226,6 +228,7 @@ pub fn build_plan<R, S: Shelf, G: Gate>(
         IfSome (S.told shelf.new) IsSettled) }
     ensures answers { IfSome (G.answers hand.old.gate) (λ test.
         AnswersFit test plan.now result.answers) }
+    ensures remote { hand.new.remote ≡ hand.old.remote }
     ensures quiet { IfOk result.outcome (λ answer. answer.status < 3 →
         (S.faults shelf.new ≡ S.faults shelf.old) ×
         (S.Area.faults hand.new.area ≡ S.Area.faults hand.old.area) ×

@@ -1,23 +1,18 @@
-// What a call answers that builds nothing, by what reading the POM gave.
-ghost use Rattle.std.specs.Prelude as logic;
-ghost use Rattle.std.specs.Prelude.{◌≡◌, IfOk};
-ghost use Rattle.mvn_base.specs.declared.refusal.Refusal as refusals;
-ghost use Rattle.model_types.specs.declared.model.RawModel as models;
+// What a call answers that builds nothing, by what planning gave.
+ghost use Rattle.std.specs.Prelude.{◌≡◌, ◌++◌, Option, None, Some, Err, codes, is_some, IfOk};
 ghost use Rattle.std.specs.String.{string_bytes};
-ghost use Rattle.mvn_base.specs.Says.{Says};
-ghost use Rattle.mvn_base.specs.declared.refusal.PomId.TheVariants.{Path};
-ghost use Rattle.mvn_top.specs.Outcome.{line, not_built, fault_tree, refused, refused_by, too_many_sources, of_bare, of_raw, of_text, of_pom};
-ghost use Rattle.mvn_top.specs.Reading.{pom_path};
-ghost use Rattle.mvn_top.specs.Simple.{bare_gav};
-ghost use Rattle.pom_model.specs.Raw.{raw};
+ghost use Rattle.build_core.specs.declared.plan.Plan as plans;
+ghost use Rattle.pom_source.specs.Answers.{Built, Fails, Says, build_failed, fault_failed};
+ghost use Rattle.model_resolver.specs.declared.failures.PomDevice as devices;
+ghost use Rattle.mvn_top.specs.Outcome.{device_name, fault_line, line, not_built, of_planned, refused_by, root_missing};
+ghost use Rattle.mvn_top.specs.Project.{ComesFromPlan, IsNoPlan};
 
-use crate::reading::{POM_PATH, Reading};
-use crate::simple::bare_gav;
-use model_types::RawModel;
-use mvn_base::{Gav, ModelError, POM_LIMIT, Place, PomId, Refusal, Rule};
+use build_core::Plan;
+use model_resolver::PomDevice;
+use module_plan::Planned;
+use mvn_base::{Place, PomId, Refusal, Rule};
 use mvn_shared::{Bytes, Mem, OutOfMemory, Text};
-use pom_model::read_model;
-use pom_text::{PomText, TextFault, read_text};
+use pom_source::BuildFault;
 use std::alloc::Global;
 
 /// What a call answers: the text that it writes, and the exit status.
@@ -51,7 +46,7 @@ fn line(text: String) -> Mem<Bytes>
     Ok(Bytes::of(bytes))
 }
 
-/// The answer to words, or to a POM, that this stage doesn't build yet.
+/// The answer to words, or to a project, that this stage doesn't build yet.
 #[tactic(auto, unfolding(crate::specs::Outcome::not_built))]
 pub fn not_built(alloc: Global) -> Mem<Outcome>
     ensures { IfOk result (λ outcome. outcome ≡ not_built) }
@@ -63,11 +58,25 @@ pub fn not_built(alloc: Global) -> Mem<Outcome>
     })
 }
 
-#[tactic(auto, unfolding(crate::specs::Outcome::fault_tree))]
-pub fn fault_tree(alloc: Global) -> Mem<Outcome>
-    ensures { IfOk result (λ outcome. outcome ≡ fault_tree) }
+// The name of a device.
+fn device_name(device: PomDevice) -> &'static str
+    ensures { result.now ≡ device_name device }
 {
-    let text = line(String::from_str(alloc, "fault tree")?)?;
+    match device {
+        PomDevice::Tree => "tree",
+        PomDevice::Shelf => "shelf",
+        PomDevice::Remote => "remote",
+    }
+}
+
+// The answer where a device failed.
+#[tactic(auto, unfolding(crate::specs::Outcome::fault_line))]
+fn fault_line(alloc: Global, device: PomDevice) -> Mem<Outcome>
+    ensures { IfOk result (λ outcome. outcome ≡ fault_line device) }
+{
+    let mut text = String::from_str(alloc, "fault ")?;
+    text.push_str(device_name(device))?;
+    let text = line(text)?;
     Ok(Outcome {
         text,
         status: FAULT,
@@ -86,87 +95,52 @@ fn refused_by(alloc: Global, refusal: &Refusal) -> Mem<Outcome>
     })
 }
 
-// The project's POM.
-fn project_pom(alloc: Global) -> Mem<PomId>
-    ensures { IfOk result (λ pom. pom ≡ Path pom_path) }
+// The refusal of a folder without a POM.
+fn root_missing(alloc: Global) -> Mem<Refusal>
+    ensures { IfOk result (λ refusal. refusal ≡ root_missing) }
 {
-    Ok(PomId::Path(Text::from_str(alloc, POM_PATH)?))
+    let pom = PomId::Path(Text::from_str(alloc, "pom.xml")?);
+    let place = Place::Name(Text::from_str(alloc, "pom.xml")?);
+    Ok(Refusal {
+        pom,
+        rule: Rule::ModuleNotFound,
+        place,
+    })
 }
 
-// The refusal of the project's POM.
-fn refused(alloc: Global, rule: Rule, place: Place) -> Mem<Outcome>
-    ensures { IfOk result (λ outcome. outcome ≡ refused rule place) }
+// What is answered where there is no plan: of a device that failed the line that names it.
+fn unplanned(alloc: Global, fault: &BuildFault, failed: Option<PomDevice>) -> Mem<Outcome>
+    requires failed { is_some failed ≡ fault_failed fault.now }
+    ensures says { (said : Built (Option plans.Plan)) → Fails said fault.now → failed ≡ None
+        → IfOk result (λ outcome. of_planned said ≡ Err outcome) }
+    ensures fault { (device : devices.PomDevice) → failed ≡ Some device
+        → IfOk result (λ outcome. outcome ≡ fault_line device) }
+    ensures none { IfOk result (IsNoPlan failed) }
 {
-    let pom = project_pom(alloc)?;
-    refused_by(alloc, &Refusal { pom, rule, place })
-}
-
-/// The refusal of too many sources, or too large ones.
-#[tactic(auto, unfolding(crate::specs::Outcome::too_many_sources))]
-pub fn too_many_sources(alloc: Global) -> Mem<Outcome>
-    ensures { IfOk result (λ outcome. outcome ≡ too_many_sources) }
-{
-    let place = Place::Name(Text::from_str(alloc, "sources")?);
-    refused(alloc, Rule::TooLarge, place)
-}
-
-// The module of a model that this stage builds.
-fn of_model(alloc: Global, model: &RawModel) -> Mem<Result<Gav, Outcome>>
-    ensures { IfOk result (λ answer. answer ≡ of_bare (bare_gav model.now)) }
-{
-    match bare_gav(model)? {
-        Some(gav) => Ok(Ok(gav)),
-        None => Ok(Err(not_built(alloc)?)),
-    }
-}
-
-// The module of what a POM says, or its refusal.
-fn of_read(alloc: Global, read: &Result<RawModel, ModelError>) -> Mem<Result<Gav, Outcome>>
-    ensures { (said : logic.Result models.RawModel refusals.Refusal) → Says said read.now →
-        IfOk result (λ answer. answer ≡ of_raw said) }
-{
-    match read {
-        Ok(model) => of_model(alloc, model),
-        Err(ModelError::Refused(refusal)) => Ok(Err(refused_by(alloc, refusal)?)),
-        Err(ModelError::Memory) => Err(OutOfMemory),
-    }
-}
-
-// The module of a POM's elements, or their refusal.
-fn of_elements(alloc: Global, text: &PomText) -> Mem<Result<Gav, Outcome>>
-    ensures { IfOk result (λ answer. answer ≡ of_raw (raw text.now.nodes (Path pom_path))) }
-{
-    let pom = project_pom(alloc)?;
-    let read = read_model(alloc, text, &pom);
-    of_read(alloc, &read)
-}
-
-// The module of a POM's text, or what is answered to it.
-#[tactic(auto, unfolding(crate::specs::Outcome::of_text))]
-fn of_text(alloc: Global, bytes: &[u8]) -> Mem<Result<Gav, Outcome>>
-    ensures { IfOk result (λ answer. answer ≡ of_text bytes.now) }
-{
-    match read_text(alloc, bytes) {
-        Ok(text) => of_elements(alloc, &text),
-        Err(TextFault::Refused { rule, place }) => {
-            Ok(Err(refused(alloc, rule, Place::Byte(place))?))
+    match fault {
+        BuildFault::Refused(refusal) => refused_by(alloc, refusal),
+        BuildFault::Absent => refused_by(alloc, &root_missing(alloc)?),
+        BuildFault::Source => {
+            let Some(device) = failed else { unreachable!() };
+            fault_line(alloc, device)
         }
-        Err(TextFault::Memory) => Err(OutOfMemory),
+        BuildFault::Memory => Err(OutOfMemory),
     }
 }
 
-/// The module of what reading the project's POM gave, or what is answered to it. Costs one pass over its bytes.
-#[tactic(auto, unfolding(crate::specs::Outcome::of_pom))]
-pub fn of_pom(alloc: Global, reading: &Reading) -> Mem<Result<Gav, Outcome>>
-    ensures { IfOk result (λ answer. answer ≡ of_pom reading.now) }
+/// The plan that planning gave, or what is answered in its place.
+pub fn answered(alloc: Global, planned: Planned) -> Mem<Result<Plan, Outcome>>
+    requires failed { is_some planned.failed ≡ build_failed planned.plan }
+    ensures says { (said : Built (Option plans.Plan)) → Says said planned.plan
+        → planned.failed ≡ None → IfOk result (λ answer. answer ≡ of_planned said) }
+    ensures fault { (device : devices.PomDevice) → planned.failed ≡ Some device
+        → IfOk result (λ answer. answer ≡ Err (fault_line device)) }
+    ensures comes { IfOk result (ComesFromPlan planned.plan planned.failed) }
 {
-    match reading {
-        Reading::Faulty => Ok(Err(fault_tree(alloc)?)),
-        Reading::TooLong => Ok(Err(refused(alloc, Rule::TooLarge, Place::Byte(POM_LIMIT))?)),
-        Reading::Missing => {
-            let place = Place::Name(Text::from_str(alloc, POM_PATH)?);
-            Ok(Err(refused(alloc, Rule::ModuleNotFound, place)?))
-        }
-        Reading::Found(bytes) => of_text(alloc, bytes.as_slice()),
+    let Planned { plan, failed } = planned;
+    match plan {
+        Ok(Some(plan)) => Ok(Ok(plan)),
+        Ok(None) => Ok(Err(not_built(alloc)?)),
+        Err(fault) => Ok(Err(unplanned(alloc, &fault, failed)?)),
     }
 }

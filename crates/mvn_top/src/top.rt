@@ -6,56 +6,64 @@ ghost use Rattle.one_hand.specs.Built.{LeavesFiles};
 ghost use Rattle.mvn_top.specs.declared.outcome.Outcome.{Outcome};
 ghost use Rattle.mvn_top.specs.Once.{PublishesOnce, StopsBetween};
 ghost use Rattle.mvn_top.specs.Ending.{IsWhole, Ends, IsLow, IsFault, HasNone};
-ghost use Rattle.mvn_top.specs.Headline.{numbered, kept_answers, IsCall, plan_of, IsOutcome, AnswersFit, CountFits, ComesFrom, OfFirst, OfFirsts, SameOthers};
+ghost use Rattle.mvn_top.specs.Headline.{numbered, kept_answers, IfBoth, IsCall, plan_of, IsOutcome, AnswersFit, CountFits, ComesFrom, OfFirst, OfFirsts, SameOthers};
+ghost use Rattle.mvn_top.specs.Project.{given_of, IfTold};
 
 use crate::build::{Call, build_plan, nothing};
-use crate::command::command_of;
+use crate::command::phase_asked;
 use crate::outcome::{FAULT, NO_MEMORY, Outcome, not_built};
-use crate::project::plan_project;
+use crate::project::plan_phase;
 use build_core::{Answered, Event};
 use goal_types::GoalAnswer;
-use mvn_base::Machine;
-use mvn_outside::{DeviceFault, Gate, Hand, Shelf, Sink, Tree, write_all};
+use mvn_base::{Choice, Machine};
+use mvn_outside::{DeviceFault, Gate, Hand, Remote, Shelf, Sink, Tree, write_all};
 use mvn_shared::{Bytes, List, Mem, OutOfMemory};
+use pom_source::Given;
 use std::alloc::Global;
 
 // What the call answers, and what its goals were answered.
-fn build<T: Tree, R, S: Shelf, G: Gate>(
+fn build<T: Tree, R: Remote, S: Shelf, G: Gate>(
     alloc: Global,
     words: &[Bytes],
+    given: &Given,
     tree: &mut T,
     shelf: &mut S,
     hand: &mut Hand<R, S::Area, G>,
 ) -> Call
-    ensures outcome { IfSome (T.files tree.old) (λ files.
+    requires given { given.now ≡ given_of given.now.machine }
+    ensures outcome { IfBoth (T.files tree.old) (R.files hand.old.remote) (λ files there.
         IfOk result.outcome (λ answer. answer.status < 3
-        → LeavesFiles (S.told shelf.old) (S.told shelf.new) (is_some (S.Area.contents hand.old.area)) (IsOutcome words.now files result.answers answer))) }
+        → LeavesFiles (S.told shelf.old) (S.told shelf.new) (is_some (S.Area.contents hand.old.area)) (IsOutcome words.now files there given.now.machine result.answers answer))) }
     ensures bound { IfOk result.outcome (λ answer. answer.status ≤ 3) }
     ensures comes { IfOk result.outcome (λ answer. answer.status < 3 →
-        ComesFrom (T.files tree.old) words.now result.answers answer) }
-    ensures count { IfSome (T.files tree.old) (λ files.
-        IfOk result.outcome (λ answer. answer.status < 3 → (plan : Plan) →
-        plan_of words.now files ≡ Ok plan → CountFits plan result.answers)) }
+        ComesFrom words.now (G.answers hand.old.gate) result.answers answer) }
+    ensures count { IfTold (T.files tree.old) (S.told shelf.old) (R.files hand.old.remote)
+        (λ files start there. IfOk result.outcome (λ answer. answer.status < 3 → (plan : Plan) →
+        plan_of words.now files start there given.now.machine ≡ Ok plan → CountFits plan result.answers)) }
     ensures once { PublishesOnce (S.told shelf.old) (S.told shelf.new) }
     ensures settled { IfOk result.outcome (λ answer. answer.status < 2 →
         IfSome (S.told shelf.new) IsSettled) }
-    ensures answers { IfSome (T.files tree.old) (λ files.
-        IfSome (G.answers hand.old.gate) (λ test. (plan : Plan) →
-        plan_of words.now files ≡ Ok plan → AnswersFit test plan result.answers)) }
+    ensures answers { IfTold (T.files tree.old) (S.told shelf.old) (R.files hand.old.remote)
+        (λ files start there. IfSome (G.answers hand.old.gate) (λ test. (plan : Plan) →
+        plan_of words.now files start there given.now.machine ≡ Ok plan → AnswersFit test plan result.answers)) }
     ensures quiet { IfOk result.outcome (λ answer. answer.status < 3 →
         (T.faults tree.new ≡ T.faults tree.old) × (S.faults shelf.new ≡ S.faults shelf.old) ×
+        (R.faults hand.new.remote ≡ R.faults hand.old.remote) ×
         (S.Area.faults hand.new.area ≡ S.Area.faults hand.old.area) ×
         (G.faults hand.new.gate ≡ G.faults hand.old.gate)) }
     ensures fault { IfOk result.outcome (λ answer. answer.status ≡ 3 →
         HasRisen (T.faults tree.old) (T.faults tree.new) ⊎
         (HasRisen (S.faults shelf.old) (S.faults shelf.new) ⊎
+        (HasRisen (R.faults hand.old.remote) (R.faults hand.new.remote) ⊎
         (HasRisen (S.Area.faults hand.old.area) (S.Area.faults hand.new.area) ⊎
-        HasRisen (G.faults hand.old.gate) (G.faults hand.new.gate)))) }
+        HasRisen (G.faults hand.old.gate) (G.faults hand.new.gate))))) }
 {
-    let Some(command) = command_of(words) else {
+    let Some(phase) = phase_asked(words) else {
         return nothing(alloc, not_built(alloc));
     };
-    match plan_project(alloc, command, tree) {
+    let planning = plan_phase(alloc, phase, given, tree, shelf, &mut hand.remote);
+    let answer = planning.answer;
+    match answer {
         Ok(Ok(plan)) => build_plan(alloc, &plan, shelf, hand),
         Ok(Err(outcome)) => nothing(alloc, Ok(outcome)),
         Err(error) => nothing(alloc, Err(error)),
@@ -116,41 +124,45 @@ fn numbered(alloc: Global, answers: List<GoalAnswer>) -> Mem<List<Answered>>
 }
 
 // The call by one hand.
-fn call_hand<T: Tree, R, S: Shelf, G: Gate, O: Sink>(
+fn call_hand<T: Tree, R: Remote, S: Shelf, G: Gate, O: Sink>(
     alloc: Global,
     words: &[Bytes],
+    given: &Given,
     tree: &mut T,
     shelf: S,
     hand: &mut Hand<R, S::Area, G>,
     out: &mut O,
 ) -> Ended<S>
-    ensures outcome { IfSome (T.files tree.old) (λ files. result.status < 3
-        → LeavesFiles (S.told shelf) (S.told result.shelf) (is_some (S.Area.contents hand.old.area)) (IsCall words.now files result.answers result.status (O.written out.old) (O.written out.new))) }
+    requires given { given.now ≡ given_of given.now.machine }
+    ensures outcome { IfBoth (T.files tree.old) (R.files hand.old.remote) (λ files there. result.status < 3
+        → LeavesFiles (S.told shelf) (S.told result.shelf) (is_some (S.Area.contents hand.old.area)) (IsCall words.now files there given.now.machine result.answers result.status (O.written out.old) (O.written out.new))) }
     ensures ends { (wanted : Outcome) ×
-        (result.status < 3 →
-        ComesFrom (T.files tree.old) words.now (kept_answers result.answers) wanted)
+        (result.status < 3 → ComesFrom words.now (G.answers hand.old.gate) (kept_answers result.answers) wanted)
         × Ends wanted result.status (O.written out.old) (O.written out.new) (O.faults out.old) (O.faults out.new) }
-    ensures count { IfSome (T.files tree.old) (λ files. result.status < 3 → (plan : Plan) →
-        plan_of words.now files ≡ Ok plan → CountFits plan (kept_answers result.answers)) }
+    ensures count { IfTold (T.files tree.old) (S.told shelf) (R.files hand.old.remote)
+        (λ files start there. result.status < 3 → (plan : Plan) →
+        plan_of words.now files start there given.now.machine ≡ Ok plan → CountFits plan (kept_answers result.answers)) }
     ensures once { PublishesOnce (S.told shelf) (S.told result.shelf) }
     ensures settled { result.status < 2 → IfSome (S.told result.shelf) IsSettled }
-    ensures answers { IfSome (T.files tree.old) (λ files.
-        IfSome (G.answers hand.old.gate) (λ test. (plan : Plan) →
-        plan_of words.now files ≡ Ok plan → AnswersFit test plan (kept_answers result.answers))) }
+    ensures answers { IfTold (T.files tree.old) (S.told shelf) (R.files hand.old.remote)
+        (λ files start there. IfSome (G.answers hand.old.gate) (λ test. (plan : Plan) →
+        plan_of words.now files start there given.now.machine ≡ Ok plan → AnswersFit test plan (kept_answers result.answers))) }
     ensures quiet { result.status < 3 → (T.faults tree.new ≡ T.faults tree.old) ×
         (S.faults result.shelf ≡ S.faults shelf) ×
+        (R.faults hand.new.remote ≡ R.faults hand.old.remote) ×
         (S.Area.faults hand.new.area ≡ S.Area.faults hand.old.area) ×
         (G.faults hand.new.gate ≡ G.faults hand.old.gate) × (O.faults out.new ≡ O.faults out.old) }
     ensures fault { result.status ≡ 3 → HasRisen (O.faults out.old) (O.faults out.new) ⊎
         (HasRisen (T.faults tree.old) (T.faults tree.new) ⊎
         (HasRisen (S.faults shelf) (S.faults result.shelf) ⊎
+        (HasRisen (R.faults hand.old.remote) (R.faults hand.new.remote) ⊎
         (HasRisen (S.Area.faults hand.old.area) (S.Area.faults hand.new.area) ⊎
-        HasRisen (G.faults hand.old.gate) (G.faults hand.new.gate)))) }
+        HasRisen (G.faults hand.old.gate) (G.faults hand.new.gate))))) }
     ensures bound { result.status ≤ 4 }
     ensures trace { result.trace ≡ [] }
 {
     let mut shelf = shelf;
-    let Call { outcome, answers } = build(alloc, words, tree, &mut shelf, hand);
+    let Call { outcome, answers } = build(alloc, words, given, tree, &mut shelf, hand);
     match numbered(alloc, answers) {
         Ok(answers) => {
             let status = write_answer(out, outcome);
@@ -170,19 +182,34 @@ fn call_hand<T: Tree, R, S: Shelf, G: Gate, O: Sink>(
     }
 }
 
+// What is given to all POMs of a call: the machine. Takes no memory.
+fn given_of(alloc: Global, machine: Machine) -> Given
+    ensures { result ≡ given_of machine }
+{
+    Given {
+        machine,
+        defines: List::new(alloc),
+        choice: Choice {
+            on: List::new(alloc),
+            off: List::new(alloc),
+        },
+    }
+}
+
 /// Builds the project in `tree` as the words say, writes the report or one line to `out`, and answers the exit status: 0
-/// where the module is built, 1 where it isn't, 2 where the words or the project are refused, 3 after a fault of a device,
-/// 4 where memory ran out. The words are the one word `validate` or `install`, for now: so the machine isn't asked. The
-/// first hand builds: its area is swept first of all calls to it, and its remote isn't asked. What was published is settled
-/// once, before the report is written. Project rule.
+/// if the module is built, 1 if it isn't, 2 if the words or the project are refused, 3 after a fault of a device,
+/// 4 if memory ran out. The words are the one word `validate` or `install`, for now. The project is one module, by its effective
+/// model: parents and imports are looked up in the project's folder, in the repository, and in the first hand's remote. The
+/// first hand builds: its area is swept first of all calls to it. What was published is settled once, before the report is
+/// written. Project rule.
 ///
-/// The POM is read once; the sources are read once, and only where goals run. They are copied once, into the request that
-/// all goals share. Costs what reading, the goals and publishing cost, and memory for the sources twice, for the module's
-/// outputs twice, and for the report.
-pub fn mvn<T: Tree, R, S: Shelf, G: Gate, O: Sink>(
+/// The project's POM is read once, and so are its sources. They are copied once, into the request that all goals share. Costs
+/// what the effective model, reading, the goals and publishing cost, and memory for the sources twice, for the module's outputs
+/// twice, and for the report.
+pub fn mvn<T: Tree, R: Remote, S: Shelf, G: Gate, O: Sink>(
     alloc: Global,
     words: &[Bytes],
-    _machine: &Machine,
+    machine: Machine,
     tree: &mut T,
     shelf: S,
     hands: &mut [Hand<R, S::Area, G>],
@@ -191,29 +218,28 @@ pub fn mvn<T: Tree, R, S: Shelf, G: Gate, O: Sink>(
     requires some_hand { 1 ≤ length hands.old }
     requires most_hands { length hands.old ≤ 16 }
 
-    // Below 3, where the tree, the repository and the area tell, the text, the status and the repository's files are those
-    // of the build by one hand, of the files that they told and the answers that are kept.
+    // Below 3, where the tree, the repository, the remote and the area tell, the text, the status and the repository's files are
+    // those of the build by one hand, of the files that they told, the machine and the answers that are kept.
     ensures outcome { OfFirst hands.old (λ hand.
-        IfSome (T.files tree.old) (λ files. result.status < 3
-        → LeavesFiles (S.told shelf) (S.told result.shelf) (is_some (S.Area.contents hand.area)) (IsCall words.now files result.answers result.status (O.written out.old) (O.written out.new)))) }
+        IfBoth (T.files tree.old) (R.files hand.remote) (λ files there. result.status < 3
+        → LeavesFiles (S.told shelf) (S.told result.shelf) (is_some (S.Area.contents hand.area)) (IsCall words.now files there machine result.answers result.status (O.written out.old) (O.written out.new)))) }
 
-    // Over any objects the answer comes from the words, from what reading the project gave, and from the build by one hand
-    // of the plan for it. What is written is a part of its text from its front: the whole, unless the sink failed or memory
-    // ran out.
-    ensures ends { (wanted : Outcome) ×
-        (result.status < 3 →
-        ComesFrom (T.files tree.old) words.now (kept_answers result.answers) wanted)
-        × Ends wanted result.status (O.written out.old) (O.written out.new) (O.faults out.old) (O.faults out.new) }
+    // Over any objects the answer comes from the words, or from a plan of one lawful model built by one hand, or it is a refusal.
+    // What is written is a part of its text from its front: the whole, unless the sink failed or memory ran out.
+    ensures ends { OfFirst hands.old (λ hand. (wanted : Outcome) ×
+        (result.status < 3 → ComesFrom words.now (G.answers hand.gate) (kept_answers result.answers) wanted)
+        × Ends wanted result.status (O.written out.old) (O.written out.new) (O.faults out.old) (O.faults out.new)) }
 
     // The answers that are kept are the gate's, to the requests that the definition names.
     ensures answers { OfFirst hands.old (λ hand.
-        IfSome (T.files tree.old) (λ files.
-        IfSome (G.answers hand.gate) (λ test. (plan : Plan) → plan_of words.now files ≡ Ok plan →
+        IfTold (T.files tree.old) (S.told shelf) (R.files hand.remote) (λ files start there.
+        IfSome (G.answers hand.gate) (λ test. (plan : Plan) → plan_of words.now files start there machine ≡ Ok plan →
         AnswersFit test plan (kept_answers result.answers)))) }
 
     // Below 3 there is one answer for each goal that the definition reaches.
-    ensures count { IfSome (T.files tree.old) (λ files. result.status < 3 → (plan : Plan) →
-        plan_of words.now files ≡ Ok plan → CountFits plan (kept_answers result.answers)) }
+    ensures count { OfFirst hands.old (λ hand.
+        IfTold (T.files tree.old) (S.told shelf) (R.files hand.remote) (λ files start there. result.status < 3 → (plan : Plan) →
+        plan_of words.now files start there machine ≡ Ok plan → CountFits plan (kept_answers result.answers))) }
 
     // Each name is published at most once, and the settled number never falls; so at every moment, and after a stop, a name has
     // its old value or its new one.
@@ -226,16 +252,17 @@ pub fn mvn<T: Tree, R, S: Shelf, G: Gate, O: Sink>(
     // Below 3 no device failed, and at 3 one did.
     ensures quiet { result.status < 3 → (T.faults tree.new ≡ T.faults tree.old) ×
         (S.faults result.shelf ≡ S.faults shelf) × (O.faults out.new ≡ O.faults out.old)
-        × OfFirsts hands.old hands.new (λ before now. (S.Area.faults now.area ≡ S.Area.faults before.area) × (G.faults now.gate ≡ G.faults before.gate)) }
+        × OfFirsts hands.old hands.new (λ before now. (R.faults now.remote ≡ R.faults before.remote) × (S.Area.faults now.area ≡ S.Area.faults before.area) × (G.faults now.gate ≡ G.faults before.gate)) }
     ensures fault { OfFirsts hands.old hands.new (λ before now. result.status ≡ 3 →
         HasRisen (O.faults out.old) (O.faults out.new) ⊎
         (HasRisen (T.faults tree.old) (T.faults tree.new)
-        ⊎ (HasRisen (S.faults shelf) (S.faults result.shelf) ⊎ (HasRisen (S.Area.faults before.area) (S.Area.faults now.area) ⊎ HasRisen (G.faults before.gate) (G.faults now.gate))))) }
+        ⊎ (HasRisen (S.faults shelf) (S.faults result.shelf) ⊎ (HasRisen (R.faults before.remote) (R.faults now.remote) ⊎ (HasRisen (S.Area.faults before.area) (S.Area.faults now.area) ⊎ HasRisen (G.faults before.gate) (G.faults now.gate)))))) }
     ensures bound { result.status ≤ 4 }
 
     // The other hands are as they were, and no events are kept.
     ensures hands { SameOthers hands.old hands.new }
     ensures trace { result.trace ≡ [] }
 {
-    call_hand(alloc, words, tree, shelf, &mut hands[0], out)
+    let given = given_of(alloc, machine);
+    call_hand(alloc, words, &given, tree, shelf, &mut hands[0], out)
 }

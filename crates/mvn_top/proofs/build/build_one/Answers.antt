@@ -8,7 +8,7 @@ use Rattle.mvn_top.specs.Ran.{is_clean, lacks_memory, clean_outcome, RanSo, RanA
 use Rattle.mvn_top.proofs.Builds.{clean_quiet, leaves_settled, low_is_clean, three_is_faulty, whose_fault, if_ok_both, if_ok_under}
 use Rattle.mvn_top.proofs.Onces.{once_of_adds}
 use Rattle.mvn_top.specs.Headline.{FitsRequests}
-use Rattle.mvn_top.proofs.SourcesRead.{if_some_map}
+use Rattle.mvn_top.proofs.IfSomes.{if_some_map}
 use Rattle.mvn_top.proofs.Rans.{leaves_ran, always_ran, fits_requests}
 use Rattle.mvn_top.proofs.build.build_one.Goals as goal
 

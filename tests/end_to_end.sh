@@ -169,11 +169,11 @@ mv elsewhere/java src/main/java
 rm -r src/main/java/part elsewhere
 mkdir -p src/main/java/demo
 
-# sources of one byte more than is allowed together; `validate` doesn't read them
+# sources of one byte more than is allowed together; they are read whatever the phase
 mkdir -p src/test/resources
 truncate -s $((268435456 + 1 - $(wc -c < src/main/java/demo/App.java))) src/test/resources/big
 want 'sources over the limit' 2 $'refused pom.xml rule 1 TooLarge at sources\n' install
-want 'sources over the limit, unread' 0 "$report" validate
+want 'sources over the limit, whatever the phase' 2 $'refused pom.xml rule 1 TooLarge at sources\n' validate
 truncate -s -1 src/test/resources/big
 want 'sources at the limit' 0 "$report" install
 rm -r src/test

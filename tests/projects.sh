@@ -57,7 +57,7 @@ other parent/pom.xml "$above"
 want 'a parent whose packaging is not pom' 2 $'refused pom.xml rule 10 ParentPackaging at demo:parent:2\n' validate
 project "$child"
 other .m2/repository/demo/parent/2/parent-2.pom "$parent<build>"
-want 'a parent that is no POM text' 2 $'refused demo:parent:2 rule 3 NotPomText at 156\n' validate
+want 'a parent that is no POM text' 2 $'refused demo:parent:2 rule 3 NotPomText at 150\n' validate
 
 project '<groupId>demo</groupId><artifactId>app</artifactId><version>${v}</version><properties><v>3</v></properties>'
 want 'a version by a property' 0 "built demo:app:3$built" validate
@@ -73,8 +73,8 @@ project "$app<build><plugins><plugin><groupId>demo</groupId><artifactId>app</art
 want 'a plugin that is the module itself' 2 $'not built yet\n' validate
 project "$app<build><sourceDirectory>code</sourceDirectory></build>"
 mkdir code
-: > code/fail-test
-want 'sources in another folder' 1 "failed demo:app:1 goal maven-surefire-plugin:test default-test: fail-test$unbuilt" install
+echo no luck > code/fail-test
+want 'sources in another folder' 1 "failed demo:app:1 goal maven-surefire-plugin:test default-test: no luck$unbuilt" install
 
 bom='<dependencyManagement><dependencies><dependency><groupId>demo</groupId><artifactId>bom</artifactId><version>1</version><type>pom</type><scope>import</scope></dependency></dependencies></dependencyManagement>'
 project "$app$bom"

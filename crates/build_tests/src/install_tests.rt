@@ -2,11 +2,11 @@
 ghost use Rattle.std.specs.Prelude.{◌≡◌, length};
 
 use goal_types::{GoalAnswer, SourceFile};
+use mvn_base::Machine;
 use mvn_outside::Hand;
 use mvn_shared::{Bytes, List, Mem, Text};
 use mvn_top::mvn;
 use outside_mem::{Calls, MemArea, MemGate, MemRemote, MemShelf, MemSink, MemTree, NoFailures};
-use row_models::machine;
 use std::alloc::Global;
 use std::process::Abort;
 use std::test::Fail;
@@ -61,6 +61,21 @@ fn worker(alloc: Global, letters: &str, fault: Fault) -> Mem<Worker> {
     let area = MemArea::new(alloc, &failing(alloc, fault, 'a')?)?;
     let gate = gate(alloc, letters, fault)?;
     Ok(Hand { remote, area, gate })
+}
+
+// A machine of which the folder of the project alone is known.
+fn machine(alloc: Global) -> Mem<Machine> {
+    let root = Text::from_str(alloc, "/w")?;
+    Ok(Machine {
+        root,
+        env: List::new(alloc),
+        system: List::new(alloc),
+        jdk: Text::of(String::new(alloc)),
+        os_name: Text::of(String::new(alloc)),
+        os_family: Text::of(String::new(alloc)),
+        os_arch: Text::of(String::new(alloc)),
+        os_version: Text::of(String::new(alloc)),
+    })
 }
 
 // What an install leaves.

@@ -8,6 +8,8 @@ cd "$work" || exit 1
 limit=1048576
 built=$'built demo:app:1.0\ntotal 1 built 1 failed 0 skipped 0\n'
 waits=$'not built yet\n'
+long=$'refused pom.xml rule 1 TooLarge at p\n'
+jar=$'refused pom.xml rule 14 AggregatorPackaging at jar\n'
 head='<project><modelVersion>4.0.0</modelVersion><groupId>demo</groupId><artifactId>app</artifactId><version>1.0</version>'
 
 # OPENING, PART, ENDING: a POM of the limit with these in its project, the part as often as there is room, and line ends behind it
@@ -35,40 +37,41 @@ want() {
   if [ "$code" = "$2" ] && [ "$got" = "$3" ]; then pass "$1"; else fail "$1" "$(printf 'wanted %s %q, got %s %q' "$2" "$3" "$code" "$got")"; fi
 }
 
-# NAME, OPENING, PART, ENDING: such a POM breaks no rule, and has something that isn't built yet
-full() { fill "$2" "$3" "$4" && want "$1" 2 "$waits"; }
+# NAME, STATUS, TEXT, OPENING, PART, ENDING: what is answered to such a POM
+full() { fill "$4" "$5" "$6" && want "$1" "$2" "$3"; }
 
-full 'a group of 1 MiB' '<parent><groupId>' x '</groupId><artifactId>a</artifactId><version>1</version></parent>'
+fill '<parent><groupId>' x '</groupId><artifactId>a</artifactId><version>1</version></parent>'
+want 'a group of 1 MiB' 2 "refused pom.xml rule 11 ParentNotFound at $(tr -cd x < pom.xml):a:1"$'\n'
 fill '<name>' x '</name>'
 want 'a skipped text of 1 MiB' 0 "$built"
-full 'a value of 1 MiB' '<properties><p>' x '</p></properties>'
-full 'a value of 1 MiB of references' '<properties><p>' '&#233;' '</p></properties>'
-full 'a value of 1 MiB of carriage returns' '<properties><p>' $'\r' '</p></properties>'
-full 'a value of 1 MiB of CDATA' '<properties><p><![CDATA[' x ']]></p></properties>'
-full 'a value of 1 MiB of CDATA parts' '<properties><p>' '<![CDATA[x]]>' '</p></properties>'
-full 'a value of 1 MiB of comments' '<properties><p>' '<!--x-->' '</p></properties>'
-full 'a name of a property of 1 MiB' '<properties><' n '/></properties>'
-full 'a module of 1 MiB' '<modules><module>' m '</module></modules>'
-full '1 MiB of attributes at a configuration' '<build><plugins><plugin><artifactId>p</artifactId><configuration' ' b=""' '/></plugin></plugins></build>'
-full 'one attribute of 1 MiB' '<build><plugins><plugin><artifactId>p</artifactId><configuration b="' x '"/></plugin></plugins></build>'
-full 'a name of an attribute of 1 MiB' '<build><plugins><plugin><artifactId>p</artifactId><configuration ' b '=""/></plugin></plugins></build>'
-full 'a text of 1 MiB in a configuration' '<build><plugins><plugin><artifactId>p</artifactId><configuration>' ' ' '</configuration></plugin></plugins></build>'
+full 'a value of 1 MiB' 2 "$long" '<properties><p>' x '</p></properties>'
+full 'a value of 1 MiB of references' 2 "$long" '<properties><p>' '&#233;' '</p></properties>'
+full 'a value of 1 MiB of carriage returns' 0 "$built" '<properties><p>' $'\r' '</p></properties>'
+full 'a value of 1 MiB of CDATA' 2 "$long" '<properties><p><![CDATA[' x ']]></p></properties>'
+full 'a value of 1 MiB of CDATA parts' 2 "$long" '<properties><p>' '<![CDATA[x]]>' '</p></properties>'
+full 'a value of 1 MiB of comments' 0 "$built" '<properties><p>' '<!--x-->' '</p></properties>'
+full 'a name of a property of 1 MiB' 0 "$built" '<properties><' n '/></properties>'
+full 'a module of 1 MiB' 2 "$jar" '<modules><module>' m '</module></modules>'
+full '1 MiB of attributes at a configuration' 0 "$built" '<build><plugins><plugin><artifactId>p</artifactId><configuration' ' b=""' '/></plugin></plugins></build>'
+full 'one attribute of 1 MiB' 0 "$built" '<build><plugins><plugin><artifactId>p</artifactId><configuration b="' x '"/></plugin></plugins></build>'
+full 'a name of an attribute of 1 MiB' 0 "$built" '<build><plugins><plugin><artifactId>p</artifactId><configuration ' b '=""/></plugin></plugins></build>'
+full 'a text of 1 MiB in a configuration' 0 "$built" '<build><plugins><plugin><artifactId>p</artifactId><configuration>' ' ' '</configuration></plugin></plugins></build>'
 
 deep=$(times '<cccccc>' 59)$(times '</cccccc>' 59)
-full 'configurations of 59 levels' '<build><plugins>' "<plugin><artifactId>p</artifactId><configuration>$deep</configuration></plugin>" '</plugins></build>'
+full 'configurations of 59 levels' 0 "$built" '<build><plugins>' "<plugin><artifactId>p</artifactId><configuration>$deep</configuration></plugin>" '</plugins></build>'
 wide="<c>$(times '<c/>' 1024)</c>"
-full 'a configuration of 1,024 empty elements in each of its elements' '<build><plugins><plugin><artifactId>p</artifactId><configuration>' "$wide" '</configuration></plugin></plugins></build>'
+full 'a configuration of 1,024 empty elements in each of its elements' 0 "$built" '<build><plugins><plugin><artifactId>p</artifactId><configuration>' "$wide" '</configuration></plugin></plugins></build>'
 one='<dependency><groupId>g</groupId><artifactId>a</artifactId><version>1</version></dependency>'
-full '1 MiB of dependencies' '<profiles>' "<profile><dependencies>$(times "$one" 12)</dependencies></profile>" '</profiles>'
+full '1 MiB of dependencies in profiles' 0 "$built" '<profiles>' "<profile><dependencies>$(times "$one" 12)</dependencies></profile>" '</profiles>'
 cut='<exclusion><groupId>g</groupId></exclusion>'
-full '1 MiB of exclusions' '<dependencies>' "<dependency><groupId>g</groupId><artifactId>a</artifactId><exclusions>$(times "$cut" 24)</exclusions></dependency>" '</dependencies>'
+full '1 MiB of exclusions' 2 $'refused pom.xml rule 19 VersionMissing at g:a:jar\n' '<dependencies>' "<dependency><groupId>g</groupId><artifactId>a</artifactId><exclusions>$(times "$cut" 24)</exclusions></dependency>" '</dependencies>'
 goals="<execution><goals>$(times '<goal/>' 8)</goals></execution>"
-full '1 MiB of goals' '<build><plugins>' "<plugin><artifactId>p</artifactId><executions>$(times "$goals" 11)</executions></plugin>" '</plugins></build>'
-full '1 MiB of profiles' '<profiles>' "<profile><properties>$(times '<a>1</a>' 128)</properties></profile>" '</profiles>'
+full '1 MiB of goals' 2 "$waits" '<build><plugins>' "<plugin><artifactId>p</artifactId><executions>$(times "$goals" 11)</executions></plugin>" '</plugins></build>'
+full '1 MiB of profiles' 0 "$built" '<profiles>' "<profile><properties>$(times '<a>1</a>' 128)</properties></profile>" '</profiles>'
 
 # A list of 1,024 items is read, and the next item is refused; the POM is filled up behind it.
 fill "<modules>$(times '<module>m</module>' 1024)</modules><name>" x '</name>'
-want '1,024 modules' 2 "$waits"
+want '1,024 modules' 2 "$jar"
 fill "<modules>$(times '<module>m</module>' 1025)</modules><name>" x '</name>'
 want '1,025 modules' 2 $'refused pom.xml rule 1 TooLarge at project/modules\n'
 fill "<build><plugins><plugin><artifactId>p</artifactId><configuration>$(times '<c/>' 1025)</configuration></plugin></plugins></build><name>" x '</name>'

@@ -1,16 +1,16 @@
 #!/usr/bin/env python3
-"""Winners of random small dependency graphs, told by the definition over all counting paths.
+"""What random small dependency graphs resolve to, told by the definition over all counting paths and all walks.
 
-usage: graphs.py COUNT SEED INPUT WANTED [whole]
+usage: graphs.py COUNT SEED INPUT WANTED [refused]
 
 Writes the input of the program `bench_graphs` and the answer that it has to give. Nothing here is a queue: a path is a
 list of declarations from the project on, what it leads to is found from the whole path, and the winner of a key is the
-least of its counting paths by length and then by positions.
+least of its counting paths by length and then by positions. A scope is the widest of all walks. The first winner, by
+length and positions, is refused for which some counting declaration states a range that doesn't admit its version.
+The winners stand in the order in which a walk through the tree meets them, each with its scope; then what stands on
+each classpath, the files to fetch, and what isn't known of their POMs.
 
-With the word `whole` the answer says also what follows from the winners, and some POMs are refused: the first winner, by
-length and positions, for which some counting declaration states a range that doesn't admit its version; or the winners in
-the order in which a walk through the tree meets them, each with its scope and its path; what stands on each classpath;
-the files to fetch; and what isn't known of their POMs. A scope is the widest of all walks. No program answers that yet.
+With the word `refused` some POMs are there and are refused. No program reads that yet.
 """
 import random
 import sys
@@ -208,7 +208,7 @@ def files(project, winners):
     return ["fetch " + name for name in dict.fromkeys(names)]
 
 
-def whole_answer(project):
+def answer(project):
     """What a project's resolution is, or the first refusal."""
     winners = winners_of(project)
     refusal = first_refusal(project, winners) or first_conflict(project, winners)
@@ -217,26 +217,13 @@ def whole_answer(project):
     ordered = sorted(winners.values(), key=positions)
     scopes = [scope_of(project, winners, key_of(path)) for path in ordered]
     lines = [
-        f"{':'.join(key_of(path))} {picked(project, path)[0]} {scope} {','.join(map(str, positions(path)))}"
+        f"{':'.join(key_of(path))} {picked(project, path)[0]} {scope}"
         for (path, scope) in zip(ordered, scopes)
     ]
     for kind, wanted in ON_CLASSPATH.items():
         places = [at for (at, path) in enumerate(ordered) if key_of(path)[2] == "jar" and scopes[at] in wanted]
         lines.append(" ".join([kind, *map(str, places)]))
     return lines + files(project, winners) + notes(project, winners)
-
-
-def answer(project):
-    ordered = by_length(winners_of(project))
-    place = {key_of(path): at for (at, path) in enumerate(ordered, 1)}
-    lines = []
-    for path in ordered:
-        version, refusal = picked(project, path)
-        if refusal is not None:
-            return [refusal]
-        above = place[key_of(path[:-1])] if len(path) > 1 else 0
-        lines.append(f"{':'.join(key_of(path))} {version} {above}")
-    return lines
 
 
 def random_requirement(pick):
@@ -299,17 +286,16 @@ def spelled(project):
 
 def main():
     count, seed, given, wanted = int(sys.argv[1]), int(sys.argv[2]), sys.argv[3], sys.argv[4]
-    is_whole = sys.argv[5:] == ["whole"]
+    with_refused = sys.argv[5:] == ["refused"]
     pick = random.Random(seed)
     projects = [random_project(pick) for _ in range(count)]
-    for project in projects if is_whole else []:
+    for project in projects if with_refused else []:
         refuse_some(pick, project)
-    told = whole_answer if is_whole else answer
     with open(given, "w") as file:
         file.write("project\n".join("".join(text + "\n" for text in spelled(project)) for project in projects))
     with open(wanted, "w") as file:
         for project in projects:
-            file.write("".join(text + "\n" for text in told(project)) + "\n")
+            file.write("".join(text + "\n" for text in answer(project)) + "\n")
 
 
 main()

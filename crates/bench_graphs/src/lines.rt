@@ -1,8 +1,8 @@
-use crate::libraries::{Listed, name_of};
 use crate::models::{Declared, build, dependency, gav, model};
+use lookup_mem::MemLibraries;
 use model_types::{Build, Dependency};
 use mvn_base::Gav;
-use mvn_shared::{List, Mem, Shared};
+use mvn_shared::{List, Mem, Shared, Text};
 use std::alloc::{AllocError, Global};
 use std::collections::HashMap;
 use std::mem::replace;
@@ -11,9 +11,11 @@ use std::mem::replace;
 /// its dependencies so far.
 #[derive(Drop)]
 pub struct Read {
-    pub listed: Listed,
+    pub libraries: MemLibraries,
     pub direct: List<Shared<Dependency>>,
     pub managed: List<Shared<Dependency>>,
+    /// The versions of each artifact so far, under `group:artifact`.
+    versions: HashMap<Text, List<Text>>,
     begun: Option<Gav>,
     needs: List<Shared<Dependency>>,
     build: Shared<Build>,
@@ -40,22 +42,40 @@ fn declared<'a>(words: &[&'a str], optional: &'a str, exclusions: &'a str) -> Op
     }
 }
 
+// What an artifact's versions are kept under.
+fn name_of(gav: &Gav) -> Mem<Text> {
+    let mut name = gav.group.clone()?;
+    name.push_str(":")?;
+    name.push_str(gav.artifact.as_str())?;
+    Ok(name)
+}
+
 impl Read {
     pub fn new(alloc: Global) -> Mem<Read> {
         let build = build(alloc)?;
-        let listed = Listed {
-            alloc,
-            models: HashMap::new(alloc),
-            versions: HashMap::new(alloc),
-        };
         Ok(Read {
-            listed,
+            libraries: MemLibraries::new(alloc),
             direct: List::new(alloc),
             managed: List::new(alloc),
+            versions: HashMap::new(alloc),
             begun: None,
             needs: List::new(alloc),
             build,
         })
+    }
+
+    // One version more of an artifact.
+    fn add_version(&mut self, alloc: Global, gav: &Gav) -> Mem<()> {
+        let name = name_of(gav)?;
+        let mut list = match self.versions.remove(&name) {
+            Some(list) => list,
+            None => List::new(alloc),
+        };
+        list.push(gav.version.clone()?)?;
+        self.libraries
+            .put_versions(&gav.group, &gav.artifact, list.clone()?)?;
+        self.versions.insert(name, list)?;
+        Ok(())
     }
 
     /// Ends the library that was begun.
@@ -64,18 +84,9 @@ impl Read {
         match self.begun.take() {
             None => self.direct = needs,
             Some(gav) => {
-                let name = name_of(&gav.group, &gav.artifact)?;
-                let version = gav.version.clone()?;
-                match self.listed.versions.get_mut(&name) {
-                    Some(list) => list.push(version)?,
-                    None => {
-                        let mut list = List::new(alloc);
-                        list.push(version)?;
-                        self.listed.versions.insert(name, list)?;
-                    }
-                }
+                self.add_version(alloc, &gav)?;
                 let model = model(alloc, gav.clone()?, &self.build, needs)?;
-                self.listed.models.insert(gav, model)?;
+                self.libraries.put_model(gav, model)?;
             }
         }
         Ok(())

@@ -3,32 +3,109 @@
 //! `pom GROUP ARTIFACT VERSION`, where a library begins; `needs GROUP ARTIFACT VERSION TYPE SCOPE OPTIONAL EXCLUSIONS`, a
 //! dependency of that library, or of the project where none has begun. Exclusions are `group:artifact`, with commas
 //! between; a library's versions stand in ascending order. `project` begins another project. Prints for each project its
-//! winners, each with its version and the place of the winner above it, from 1, or the refusal; then a blank line.
+//! winners, each with its version, the place of the winner above it, from 1, and its scope; and then what isn't known of
+//! their POMs; or the refusal; then a blank line.
 #![tactic(auto)]
 
-mod libraries;
+ghost use Rattle.std.specs.Prelude.{All};
+ghost use Rattle.classpaths.specs.Classpaths.{HasNames};
+
 mod lines;
 mod models;
+mod names;
 
-use libraries::Listed;
+use classpaths::{Kind, Note, Resolution, Resolved};
+use collector::Scope;
 use lines::Read;
 use managed_deps::managed;
-use mediation::{MediationFault, Winners, find_winners};
-use mvn_base::key_text;
+use mediation::MediationFault;
+use mvn_base::Gav;
+use names::are_named;
+use resolution::mediate;
+use std::collections::HashSet;
 
-fn print_winners(rt: &HostRuntime, winners: &Winners) -> anyhow::Result<()> {
-    for place in 0..winners.len() {
-        if let Some(winner) = winners.get(place) {
-            let above = match winner.above {
-                Some(above) => above.saturating_add(1),
-                None => 0,
-            };
-            let version = &winner.version;
-            match key_text(rt.alloc(), &winner.edge.key) {
-                Ok(key) => println!(rt; "{key} {version} {above}")?,
-                Err(_) => println!(rt; "out of memory")?,
+fn scope_name(scope: Scope) -> &'static str {
+    match scope {
+        Scope::Compile => "compile",
+        Scope::Provided => "provided",
+        Scope::Runtime => "runtime",
+        Scope::Test => "test",
+    }
+}
+
+fn print_winner(rt: &HostRuntime, winner: &Resolved) -> anyhow::Result<()> {
+    let (group, artifact, version) = (&winner.gav.group, &winner.gav.artifact, &winner.gav.version);
+    let kind = &winner.kind;
+    let scope = scope_name(winner.scope);
+    println!(rt; "{group}:{artifact}:{kind} {version} {scope}")?;
+    Ok(())
+}
+
+fn print_note(rt: &HostRuntime, note: &Note) -> anyhow::Result<()> {
+    match note {
+        Note::Missing(gav) => {
+            let (group, artifact, version) = (&gav.group, &gav.artifact, &gav.version);
+            println!(rt; "note missing {group}:{artifact}:{version}")?;
+        }
+        Note::Refused(gav, _) => {
+            let (group, artifact, version) = (&gav.group, &gav.artifact, &gav.version);
+            println!(rt; "note refused {group}:{artifact}:{version}")?;
+        }
+    }
+    Ok(())
+}
+
+fn print_path(
+    rt: &HostRuntime,
+    name: &str,
+    resolution: &Resolution,
+    kind: Kind,
+) -> anyhow::Result<()> {
+    print!(rt; "{name}")?;
+    match resolution.classpath(rt.alloc(), kind) {
+        Ok(list) => {
+            for place in list.as_slice() {
+                print!(rt; " {place}")?;
             }
         }
+        Err(_) => {}
+    }
+    println!(rt; "")?;
+    Ok(())
+}
+
+fn print_files(
+    rt: &HostRuntime,
+    resolution: &Resolution,
+    selected: &HashSet<Gav>,
+) -> anyhow::Result<()>
+    requires { All HasNames resolution.now.winners }
+{
+    match resolution.files(rt.alloc(), selected) {
+        Ok(files) => {
+            for file in files.as_slice() {
+                let name = file.as_text();
+                println!(rt; "fetch {name}")?;
+            }
+        }
+        Err(_) => println!(rt; "out of memory")?,
+    }
+    Ok(())
+}
+
+fn print_resolved(rt: &HostRuntime, resolution: &Resolution) -> anyhow::Result<()> {
+    for winner in resolution.winners.as_slice() {
+        print_winner(rt, winner)?;
+    }
+    print_path(rt, "compile", resolution, Kind::Compile)?;
+    print_path(rt, "runtime", resolution, Kind::Runtime)?;
+    print_path(rt, "test", resolution, Kind::Test)?;
+    let selected = HashSet::new(rt.alloc());
+    if are_named(resolution.winners.as_slice()) {
+        print_files(rt, resolution, &selected)?;
+    }
+    for note in resolution.notes.as_slice() {
+        print_note(rt, note)?;
     }
     Ok(())
 }
@@ -45,8 +122,8 @@ fn print_fault(rt: &HostRuntime, fault: &MediationFault) -> anyhow::Result<()> {
 fn print_read(rt: &HostRuntime, read: &mut Read) -> anyhow::Result<()> {
     let alloc = rt.alloc();
     match managed(alloc, read.managed.as_slice(), &[]) {
-        Ok(set) => match find_winners(alloc, read.direct.as_slice(), &set, &mut read.listed) {
-            Ok(winners) => print_winners(rt, &winners),
+        Ok(set) => match mediate(alloc, read.direct.as_slice(), &set, &mut read.libraries) {
+            Ok(resolution) => print_resolved(rt, &resolution),
             Err(fault) => print_fault(rt, &fault),
         },
         Err(_) => {

@@ -6,7 +6,7 @@ use mvn_base::Machine;
 use mvn_outside::Hand;
 use mvn_shared::{Bytes, List, Mem, Text};
 use mvn_top::mvn;
-use outside_mem::{Calls, MemArea, MemGate, MemRemote, MemShelf, MemSink, MemTree, NoFailures};
+use outside_mem::{Calls, MemArea, MemGate, MemRemote, MemShelf, MemSink, MemTree};
 use std::alloc::Global;
 use std::process::Abort;
 use std::test::Fail;
@@ -19,7 +19,11 @@ type Fault = (char, u64);
 
 const NO_FAULT: Fault = ('-', 0);
 
-type Worker = Hand<MemRemote<NoFailures>, MemArea<Calls>, MemGate<Calls>>;
+// A POM whose parent has to be looked up by its coordinates.
+const CHILD: &[u8] =
+    b"<project><modelVersion>4.0.0</modelVersion><parent><groupId>g</groupId><artifactId>p</artifactId><version>1</version></parent><artifactId>app</artifactId></project>";
+
+type Worker = Hand<MemRemote<Calls>, MemArea<Calls>, MemGate<Calls>>;
 
 // The calls of an object that fail.
 fn failing(alloc: Global, fault: Fault, object: char) -> Mem<List<u64>> {
@@ -30,10 +34,10 @@ fn failing(alloc: Global, fault: Fault, object: char) -> Mem<List<u64>> {
     Ok(calls)
 }
 
-fn tree(alloc: Global, fault: Fault) -> Mem<MemTree<Calls>> {
+fn tree(alloc: Global, pom: &[u8], fault: Fault) -> Mem<MemTree<Calls>> {
     let failing = failing(alloc, fault, 't')?;
     let path = Text::from_str(alloc, "pom.xml")?;
-    let bytes = Bytes::from_slice(alloc, POM)?;
+    let bytes = Bytes::from_slice(alloc, pom)?;
     let mut files = List::new(alloc);
     files.push(SourceFile { path, bytes })?;
     MemTree::new(alloc, files, &failing)
@@ -57,7 +61,7 @@ fn gate(alloc: Global, letters: &str, fault: Fault) -> Mem<MemGate<Calls>> {
 }
 
 fn worker(alloc: Global, letters: &str, fault: Fault) -> Mem<Worker> {
-    let remote = MemRemote::without_failures(alloc, List::new(alloc))?;
+    let remote = MemRemote::new(alloc, List::new(alloc), &failing(alloc, fault, 'r')?)?;
     let area = MemArea::new(alloc, &failing(alloc, fault, 'a')?)?;
     let gate = gate(alloc, letters, fault)?;
     Ok(Hand { remote, area, gate })
@@ -106,9 +110,15 @@ fn installed(
     })
 }
 
-// The same of these answers with this fault.
-fn install(alloc: Global, letters: &str, fault: Fault, sink: &mut MemSink<Calls>) -> Mem<Left> {
-    let mut tree = tree(alloc, fault)?;
+// The same of this POM and these answers with this fault.
+fn install(
+    alloc: Global,
+    pom: &[u8],
+    letters: &str,
+    fault: Fault,
+    sink: &mut MemSink<Calls>,
+) -> Mem<Left> {
+    let mut tree = tree(alloc, pom, fault)?;
     let shelf = MemShelf::new(alloc, List::new(alloc), &failing(alloc, fault, 's')?)?;
     let mut workers = [worker(alloc, letters, fault)?];
     installed(alloc, &mut tree, shelf, &mut workers, sink)
@@ -124,7 +134,7 @@ fn check(
     text: &str,
 ) -> Mem<()> {
     let mut sink = MemSink::new(alloc, &failing(alloc, fault, 'o')?)?;
-    let left = install(alloc, letters, fault, &mut sink)?;
+    let left = install(alloc, POM, letters, fault, &mut sink)?;
     assert_eq!(rt; (left.status, left.names), (wanted.0, wanted.1), "{text}");
     assert!(rt; left.answers == wanted.2 || left.status > 2);
     assert!(rt; sink.bytes() == text.as_bytes());
@@ -181,5 +191,25 @@ fn each_call_that_fails_is_told(rt: HostRuntime) -> Result<(), Fail> {
     check_fault(&rt, rt.alloc(), 's', (1, 2), 1, SHELF)?;
     check_fault(&rt, rt.alloc(), 's', (2, 3), 2, SETTLE)?;
     check_fault(&rt, rt.alloc(), 'o', (0, 1), 2, "")?;
+    Ok(())
+}
+
+// An install of the POM with a parent ends with this status and this text, and leaves the repository as it was.
+fn check_child(rt: &impl Abort, alloc: Global, fault: Fault, status: u8, text: &str) -> Mem<()> {
+    let mut sink = MemSink::new(alloc, &failing(alloc, fault, 'o')?)?;
+    let left = install(alloc, CHILD, "", fault, &mut sink)?;
+    assert_eq!(rt; (left.status, left.names), (status, 0), "{text}");
+    assert!(rt; sink.bytes() == text.as_bytes());
+    Ok(())
+}
+
+const NO_PARENT: &str = "refused pom.xml rule 11 ParentNotFound at g:p:1\n";
+
+#[test]
+fn a_look_up_that_fails_names_the_device(rt: HostRuntime) -> Result<(), Fail> {
+    check_child(&rt, rt.alloc(), ('t', 0), 3, "fault tree\n")?;
+    check_child(&rt, rt.alloc(), ('s', 0), 3, "fault shelf\n")?;
+    check_child(&rt, rt.alloc(), ('r', 0), 3, "fault remote\n")?;
+    check_child(&rt, rt.alloc(), NO_FAULT, 2, NO_PARENT)?;
     Ok(())
 }

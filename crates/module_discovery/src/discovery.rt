@@ -1,5 +1,6 @@
 ghost use Rattle.std.specs.Prelude.{◌≡◌, ◌∷◌, ◌++◌, [], IfOk};
 ghost use Rattle.mvn_shared.specs.Cause.{HasCause};
+ghost use Rattle.profile_activation.specs.Judging.{TellsOn};
 ghost use Rattle.pom_source.specs.Answers.{Says, build_failed};
 ghost use Rattle.pom_source.specs.Worlds.{World};
 ghost use Rattle.pom_source.specs.declared.found.Given as givens;
@@ -42,6 +43,7 @@ fn with_pom<P: PomSource>(
     ensures says { (world : World) → P.fits_poms source.old world
         → Says (with_pom world given.now found waiting pom) result }
     ensures fit { (world : World) → P.fits_poms source.old world → P.fits_poms source.new world }
+    ensures same { TellsOn P.tells_same source.old source.new }
     ensures cause { HasCause (P.faults source.old) (P.faults source.new) (build_failed result) }
 {
     let modules = listed_by(alloc, source, given, &pom)?;
@@ -50,6 +52,7 @@ fn with_pom<P: PomSource>(
 }
 
 // The POM of the module that is next, and what it lists.
+#[tactic(auto, using(pom_lineage::proofs::Telling::told_both))]
 fn with_module<P: PomSource>(
     alloc: Global,
     store: &mut Store,
@@ -62,6 +65,7 @@ fn with_module<P: PomSource>(
     ensures says { (world : World) → P.fits_poms source.old world → Holds world given.now store.old
         → Says (with_module world given.now found waiting listed.now) result }
     ensures fit { (world : World) → P.fits_poms source.old world → P.fits_poms source.new world }
+    ensures same { TellsOn P.tells_same source.old source.new }
     ensures holds { (world : World) → P.fits_poms source.old world → Holds world given.now store.old
         → Holds world given.now store.new }
     ensures keeps { KeepsRead store.old store.new }
@@ -76,6 +80,7 @@ fn with_module<P: PomSource>(
 }
 
 // What there is if no more POMs may come: a module that waits is one too many.
+#[tactic(auto, using(pom_lineage::proofs::Telling::untold))]
 fn with_none<P: PomSource>(
     alloc: Global,
     store: &mut Store,
@@ -86,6 +91,7 @@ fn with_none<P: PomSource>(
         → Holds world given store.old
         → Says (with_none world progress.found progress.waiting) result }
     ensures fit { (world : World) → P.fits_poms source.old world → P.fits_poms source.new world }
+    ensures same { TellsOn P.tells_same source.old source.new }
     ensures holds { (world : World) (given : givens.Given) → P.fits_poms source.old world
         → Holds world given store.old → Holds world given store.new }
     ensures keeps { KeepsRead store.old store.new }
@@ -102,7 +108,7 @@ fn with_none<P: PomSource>(
 }
 
 // What is found, with the POMs of the modules that wait.
-#[tactic(auto, using(crate::proofs::Collecting::collected_end, crate::proofs::Collecting::collected_fails))]
+#[tactic(auto, using(pom_lineage::proofs::Telling::told_both, crate::proofs::Collecting::collected_end, crate::proofs::Collecting::collected_fails))]
 fn collected<P: PomSource>(
     alloc: Global,
     store: &mut Store,
@@ -113,6 +119,7 @@ fn collected<P: PomSource>(
     ensures says { (world : World) → P.fits_poms source.old world → Holds world given.now store.old
         → Says (collected world given.now 1023 progress.found progress.waiting) result }
     ensures fit { (world : World) → P.fits_poms source.old world → P.fits_poms source.new world }
+    ensures same { TellsOn P.tells_same source.old source.new }
     ensures holds { (world : World) → P.fits_poms source.old world → Holds world given.now store.old
         → Holds world given.now store.new }
     ensures keeps { KeepsRead store.old store.new }
@@ -137,6 +144,7 @@ fn collected<P: PomSource>(
 }
 
 // The POM by which the project begins, and the modules that it lists.
+#[tactic(auto, using(pom_lineage::proofs::Telling::told_both))]
 fn begun<P: PomSource>(
     alloc: Global,
     store: &mut Store,
@@ -146,6 +154,7 @@ fn begun<P: PomSource>(
     ensures says { (world : World) → P.fits_poms source.old world → Holds world given.now store.old
         → Says (begun world given.now) result }
     ensures fit { (world : World) → P.fits_poms source.old world → P.fits_poms source.new world }
+    ensures same { TellsOn P.tells_same source.old source.new }
     ensures holds { (world : World) → P.fits_poms source.old world → Holds world given.now store.old
         → Holds world given.now store.new }
     ensures keeps { KeepsRead store.old store.new }
@@ -167,6 +176,7 @@ fn begun<P: PomSource>(
 /// POM, a POM that was met, or one POM more than 1,024. Each POM is read once, and stays in the store. `Source` comes only if the
 /// source's count of faults rose. Costs the POMs' bytes, and the criteria of their profiles. Guide to Working with Multiple Modules; POM
 /// Reference, "Aggregation"; the order of refusals and the limit are project rules.
+#[tactic(auto, using(pom_lineage::proofs::Telling::told_both))]
 pub fn discover<P: PomSource>(
     alloc: Global,
     store: &mut Store,
@@ -176,6 +186,7 @@ pub fn discover<P: PomSource>(
     ensures says { (world : World) → P.fits_poms source.old world → Holds world given.now store.old
         → Says (discovered world given.now) result }
     ensures fit { (world : World) → P.fits_poms source.old world → P.fits_poms source.new world }
+    ensures same { TellsOn P.tells_same source.old source.new }
     ensures holds { (world : World) → P.fits_poms source.old world → Holds world given.now store.old
         → Holds world given.now store.new }
     ensures keeps { KeepsRead store.old store.new }

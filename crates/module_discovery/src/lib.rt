@@ -2,7 +2,6 @@
 #![tactic(auto)]
 
 mod discovery;
-mod expression;
 mod found;
 mod law;
 mod modules;

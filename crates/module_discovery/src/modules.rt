@@ -1,5 +1,6 @@
 ghost use Rattle.std.specs.Prelude.{◌≡◌, ◌++◌, false, flat_map, slice_get, IfOk, OnOk};
 ghost use Rattle.mvn_shared.specs.Cause.{HasCause};
+ghost use Rattle.profile_activation.specs.Judging.{TellsOn};
 ghost use Rattle.pom_source.specs.Answers.{Says, build_failed};
 ghost use Rattle.pom_source.specs.Worlds.{World};
 ghost use Rattle.profile_injection.specs.Injection.{inject};
@@ -93,7 +94,7 @@ fn aggregated(pom: &ModulePom, list: List<Listed>) -> Result<List<Listed>, Build
 
 /// The modules that a POM lists, and those of its active profiles, or that its packaging isn't `pom`. Costs the criteria of its
 /// profiles, and the modules. POM Reference, "Aggregation".
-#[tactic(auto, using(pom_lineage::proofs::Telling::fits_after))]
+#[tactic(auto, using(pom_lineage::proofs::Telling::untold, pom_lineage::proofs::Telling::fits_after))]
 pub(crate) fn listed_by<P: PomSource>(
     alloc: Global,
     source: &mut P,
@@ -103,6 +104,7 @@ pub(crate) fn listed_by<P: PomSource>(
     ensures says { (world : World) → P.fits_poms source.old world
         → Says (listed_by world given.now pom.now) result }
     ensures fit { (world : World) → P.fits_poms source.old world → P.fits_poms source.new world }
+    ensures same { TellsOn P.tells_same source.old source.new }
     ensures cause { HasCause (P.faults source.old) (P.faults source.new) (build_failed result) }
 {
     if pom.raw.profiles.len() > MOST_PROFILES {

@@ -1,5 +1,6 @@
 ghost use Rattle.std.specs.Prelude.{◌≡◌, false, Err, IfOk};
 ghost use Rattle.mvn_shared.specs.Cause.{HasCause};
+ghost use Rattle.profile_activation.specs.Judging.{TellsOn};
 ghost use Rattle.pom_source.specs.Answers.{Says, build_failed};
 ghost use Rattle.pom_source.specs.Worlds.{World};
 ghost use Rattle.pom_source.specs.declared.found.Given as givens;
@@ -8,12 +9,11 @@ ghost use Rattle.profile_activation.specs.Activation.{folder_of};
 ghost use Rattle.pom_lineage.specs.Stores.{Holds, KeepsLines, KeepsRead};
 ghost use Rattle.module_discovery.specs.Discovery.{as_taken, at_either, at_last, taken_up, named, new_at, one_too_many, path_of, read_pom, refuse, root};
 
-use crate::expression::has_expression;
 use crate::found::FoundPoms;
 use crate::pom::{Listed, ModulePom};
 use mvn_base::{PomId, Rule};
 use mvn_shared::{Mem, Text};
-use pom_lineage::{Store, read_at};
+use pom_lineage::{Store, has_expression, read_at};
 use pom_paths::joined;
 use pom_source::{BuildFault, PomSource, text_refused};
 use std::alloc::Global;
@@ -51,6 +51,7 @@ fn read_pom<P: PomSource>(
     ensures says { (world : World) (given : givens.Given) → P.fits_poms source.old world
         → Holds world given store.old → Says (taken_up read_pom path.now (world.by_path path.now)) result }
     ensures fit { (world : World) → P.fits_poms source.old world → P.fits_poms source.new world }
+    ensures same { TellsOn P.tells_same source.old source.new }
     ensures holds { (world : World) (given : givens.Given) → P.fits_poms source.old world
         → Holds world given store.old → Holds world given store.new }
     ensures keeps { KeepsRead store.old store.new }
@@ -67,6 +68,7 @@ fn read_pom<P: PomSource>(
 }
 
 // A POM at a path, if a file is there, where no more may come.
+#[tactic(auto, using(pom_lineage::proofs::Telling::told_once))]
 fn too_many<P: PomSource>(
     alloc: Global,
     source: &mut P,
@@ -76,6 +78,7 @@ fn too_many<P: PomSource>(
     ensures says { (world : World) → P.fits_poms source.old world
         → Says (taken_up (one_too_many listed.now) path.now (world.by_path path.now)) result }
     ensures fit { (world : World) → P.fits_poms source.old world → P.fits_poms source.new world }
+    ensures same { TellsOn P.tells_same source.old source.new }
     ensures cause { HasCause (P.faults source.old) (P.faults source.new) (build_failed result) }
 {
     match source.by_path(path)? {
@@ -100,6 +103,7 @@ fn taken_up<P: PomSource>(
         → Holds world given store.old
         → Says (taken_up (as_taken full listed.now) path.now (world.by_path path.now)) result }
     ensures fit { (world : World) → P.fits_poms source.old world → P.fits_poms source.new world }
+    ensures same { TellsOn P.tells_same source.old source.new }
     ensures holds { (world : World) (given : givens.Given) → P.fits_poms source.old world
         → Holds world given store.old → Holds world given store.new }
     ensures keeps { KeepsRead store.old store.new }
@@ -114,6 +118,7 @@ fn taken_up<P: PomSource>(
 }
 
 // A POM at a path, if one is there that wasn't met.
+#[tactic(auto, using(pom_lineage::proofs::Telling::untold))]
 fn new_at<P: PomSource>(
     alloc: Global,
     store: &mut Store,
@@ -127,6 +132,7 @@ fn new_at<P: PomSource>(
         → Holds world given store.old
         → Says (new_at world (as_taken full listed.now) listed.now found.now path.now) result }
     ensures fit { (world : World) → P.fits_poms source.old world → P.fits_poms source.new world }
+    ensures same { TellsOn P.tells_same source.old source.new }
     ensures holds { (world : World) (given : givens.Given) → P.fits_poms source.old world
         → Holds world given store.old → Holds world given store.new }
     ensures keeps { KeepsRead store.old store.new }
@@ -153,6 +159,7 @@ fn at_last<P: PomSource>(
         → Holds world given store.old
         → Says (at_last world (as_taken full listed.now) listed.now found.now path.now) result }
     ensures fit { (world : World) → P.fits_poms source.old world → P.fits_poms source.new world }
+    ensures same { TellsOn P.tells_same source.old source.new }
     ensures holds { (world : World) (given : givens.Given) → P.fits_poms source.old world
         → Holds world given store.old → Holds world given store.new }
     ensures keeps { KeepsRead store.old store.new }
@@ -166,6 +173,7 @@ fn at_last<P: PomSource>(
 }
 
 // `pom.xml` in the folder at a path, or else the file.
+#[tactic(auto, using(pom_lineage::proofs::Telling::untold, pom_lineage::proofs::Telling::told_both))]
 fn at_either<P: PomSource>(
     alloc: Global,
     store: &mut Store,
@@ -179,6 +187,7 @@ fn at_either<P: PomSource>(
         → Holds world given store.old
         → Says (at_either world (as_taken full listed.now) listed.now found.now path.now) result }
     ensures fit { (world : World) → P.fits_poms source.old world → P.fits_poms source.new world }
+    ensures same { TellsOn P.tells_same source.old source.new }
     ensures holds { (world : World) (given : givens.Given) → P.fits_poms source.old world
         → Holds world given store.old → Holds world given store.new }
     ensures keeps { KeepsRead store.old store.new }
@@ -197,6 +206,7 @@ fn at_either<P: PomSource>(
 
 /// The POM that a module leads to, or its refusal: an expression in its text, no POM, one that was met, one too many if `full`, or
 /// what the POM's text breaks. Costs the paths and the POM's bytes.
+#[tactic(auto, using(pom_lineage::proofs::Telling::untold))]
 pub(crate) fn named<P: PomSource>(
     alloc: Global,
     store: &mut Store,
@@ -209,6 +219,7 @@ pub(crate) fn named<P: PomSource>(
         → Holds world given store.old
         → Says (named world (as_taken full listed.now) listed.now found.now) result }
     ensures fit { (world : World) → P.fits_poms source.old world → P.fits_poms source.new world }
+    ensures same { TellsOn P.tells_same source.old source.new }
     ensures holds { (world : World) (given : givens.Given) → P.fits_poms source.old world
         → Holds world given store.old → Holds world given store.new }
     ensures keeps { KeepsRead store.old store.new }
@@ -223,6 +234,7 @@ pub(crate) fn named<P: PomSource>(
 }
 
 /// The POM by which the project begins. Costs its bytes.
+#[tactic(auto, using(pom_lineage::proofs::Telling::untold))]
 pub(crate) fn root<P: PomSource>(
     alloc: Global,
     store: &mut Store,
@@ -231,6 +243,7 @@ pub(crate) fn root<P: PomSource>(
     ensures says { (world : World) (given : givens.Given) → P.fits_poms source.old world
         → Holds world given store.old → Says (root world) result }
     ensures fit { (world : World) → P.fits_poms source.old world → P.fits_poms source.new world }
+    ensures same { TellsOn P.tells_same source.old source.new }
     ensures holds { (world : World) (given : givens.Given) → P.fits_poms source.old world
         → Holds world given store.old → Holds world given store.new }
     ensures keeps { KeepsRead store.old store.new }

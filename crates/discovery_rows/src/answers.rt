@@ -1,0 +1,157 @@
+// What is told of projects.
+use crate::given::given;
+use crate::ordering::{chosen, models, ordered};
+use crate::project::{Project, empty, put_all_named, put_deep, put_fields, put_wide};
+use build_order::BuildOrder;
+use model_types::Model;
+use module_discovery::{ModulePom, discover};
+use module_selection::SelectionFault;
+use mvn_base::ModelError;
+use mvn_shared::{List, Mem, Shared};
+use pom_lineage::Store;
+use pom_source::BuildFault;
+use row_models::field;
+use std::alloc::Global;
+
+// The paths of POMs, with a space between two.
+fn paths(alloc: Global, poms: &List<ModulePom>) -> Mem<String> {
+    let mut text = String::new(alloc);
+    for pom in poms.as_slice() {
+        if !text.is_empty() {
+            text.push_str(" ")?;
+        }
+        text.push_str(pom.path.as_str())?;
+    }
+    Ok(text)
+}
+
+// Why there are none.
+fn fault_text(alloc: Global, fault: &BuildFault) -> anyhow::Result<String> {
+    let text = match fault {
+        BuildFault::Refused(refusal) => format!(in alloc; "{refusal}")?,
+        BuildFault::Absent => String::from_str(alloc, "no such POM")?,
+        BuildFault::Source => String::from_str(alloc, "the source failed")?,
+        BuildFault::Memory => String::from_str(alloc, "out of memory")?,
+    };
+    Ok(text)
+}
+
+// What is found.
+fn found(
+    alloc: Global,
+    project: &mut Project,
+    ids: &str,
+) -> anyhow::Result<Result<List<ModulePom>, BuildFault>> {
+    let given = given(alloc, ids)?;
+    let mut store = Store::new(alloc);
+    Ok(discover(alloc, &mut store, project, &given))
+}
+
+fn told(alloc: Global, project: &mut Project, ids: &str) -> anyhow::Result<String> {
+    match found(alloc, project, ids)? {
+        Ok(poms) => Ok(paths(alloc, &poms)?),
+        Err(fault) => fault_text(alloc, &fault),
+    }
+}
+
+// How many POMs are found.
+fn counted(alloc: Global, project: &mut Project) -> anyhow::Result<String> {
+    match found(alloc, project, "")? {
+        Ok(poms) => {
+            let count = poms.len();
+            Ok(format!(in alloc; "{count}")?)
+        }
+        Err(fault) => fault_text(alloc, &fault),
+    }
+}
+
+/// What is told of a project that is spelled, with profiles switched on.
+pub(crate) fn spelled(alloc: Global, fields: &[&str]) -> anyhow::Result<String> {
+    let mut project = empty(alloc, &List::new(alloc))?;
+    if let Some((ids, files)) = fields.split_first() {
+        put_fields(alloc, &mut project, files)?;
+        return told(alloc, &mut project, *ids);
+    }
+    told(alloc, &mut project, "")
+}
+
+/// What is told where a call fails.
+pub(crate) fn failing(alloc: Global, fields: &[&str]) -> anyhow::Result<String> {
+    let mut numbers = List::new(alloc);
+    numbers.push(field(fields, 0).parse::<u64>().unwrap_or(0))?;
+    let mut project = empty(alloc, &numbers)?;
+    if let Some((_, files)) = fields.split_first() {
+        put_fields(alloc, &mut project, files)?;
+    }
+    told(alloc, &mut project, "")
+}
+
+/// How many POMs there are where each lists the next.
+pub(crate) fn deep(alloc: Global, row: &str) -> anyhow::Result<String> {
+    let mut project = empty(alloc, &List::new(alloc))?;
+    put_deep(alloc, &mut project, row.parse::<u32>().unwrap_or(0))?;
+    counted(alloc, &mut project)
+}
+
+/// How many there are where the root lists all.
+pub(crate) fn wide(alloc: Global, row: &str) -> anyhow::Result<String> {
+    let mut project = empty(alloc, &List::new(alloc))?;
+    put_wide(alloc, &mut project, row.parse::<u32>().unwrap_or(0))?;
+    counted(alloc, &mut project)
+}
+
+// The artifacts of some modules, with a space between two.
+fn artifacts(alloc: Global, models: &[Shared<Model>], numbers: &[u32]) -> Mem<String> {
+    let mut text = String::new(alloc);
+    for n in numbers {
+        if let Some(m) = models.get(*n as usize) {
+            if !text.is_empty() {
+                text.push_str(" ")?;
+            }
+            text.push_str(m.gav.artifact.as_str())?;
+        }
+    }
+    Ok(text)
+}
+
+// The modules that words select, or the word that means none.
+fn chosen_text(
+    alloc: Global,
+    models: &[Shared<Model>],
+    found: &BuildOrder,
+    words: &str,
+) -> Mem<String> {
+    match chosen(alloc, models, found, words) {
+        Ok(list) => artifacts(alloc, models, list.as_slice()),
+        Err(SelectionFault::Unknown(place)) => Ok(format!(in alloc; "word {place} UnknownModule")?),
+        Err(SelectionFault::Memory) => Ok(String::from_str(alloc, "out of memory")?),
+    }
+}
+
+// The modules that words select in their order, or why there is none.
+fn ordered_text(alloc: Global, models: &[Shared<Model>], words: &str) -> Mem<String> {
+    match ordered(alloc, models) {
+        Ok(found) => chosen_text(alloc, models, &found, words),
+        Err(ModelError::Refused(refusal)) => Ok(format!(in alloc; "{refusal}")?),
+        Err(ModelError::Memory) => Ok(String::from_str(alloc, "out of memory")?),
+    }
+}
+
+// The same of a project.
+fn selected_text(alloc: Global, project: &mut Project, words: &str) -> anyhow::Result<String> {
+    let given = given(alloc, "")?;
+    match models(alloc, project, &given) {
+        Ok(models) => Ok(ordered_text(alloc, &models, words)?),
+        Err(fault) => fault_text(alloc, &fault),
+    }
+}
+
+/// The modules that words select, in the order in which they are built.
+pub(crate) fn selected(alloc: Global, fields: &[&str]) -> anyhow::Result<String> {
+    let mut project = empty(alloc, &List::new(alloc))?;
+    if let Some((words, files)) = fields.split_first() {
+        put_all_named(alloc, &mut project, files)?;
+        return selected_text(alloc, &mut project, *words);
+    }
+    selected_text(alloc, &mut project, "validate")
+}

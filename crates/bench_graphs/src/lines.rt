@@ -51,7 +51,7 @@ fn name_of(gav: &Gav) -> Mem<Text> {
 }
 
 impl Read {
-    pub fn new(alloc: Global) -> Mem<Read> {
+    pub(crate) fn new(alloc: Global) -> Mem<Read> {
         let build = build(alloc)?;
         Ok(Read {
             libraries: MemLibraries::new(alloc),
@@ -79,7 +79,7 @@ impl Read {
     }
 
     /// Ends the library that was begun.
-    pub fn end(&mut self, alloc: Global) -> Mem<()> {
+    pub(crate) fn end(&mut self, alloc: Global) -> Mem<()> {
         let needs = replace(&mut self.needs, List::new(alloc));
         match self.begun.take() {
             None => self.direct = needs,
@@ -93,7 +93,7 @@ impl Read {
     }
 
     /// One line more.
-    pub fn line(&mut self, alloc: Global, line: &str) -> Mem<()> {
+    pub(crate) fn line(&mut self, alloc: Global, line: &str) -> Mem<()> {
         let words = words(alloc, line)?;
         match words.as_slice() {
             ["pom", group, artifact, version] => {

@@ -43,7 +43,7 @@ pub struct Declared<'a> {
 }
 
 /// The dependency that they declare.
-pub fn dependency(alloc: Global, declared: &Declared) -> Mem<Shared<Dependency>> {
+pub(crate) fn dependency(alloc: Global, declared: &Declared) -> Mem<Shared<Dependency>> {
     let group = Text::from_str(alloc, declared.group)?;
     let artifact = Text::from_str(alloc, declared.artifact)?;
     let version = stated(alloc, declared.version)?;
@@ -68,7 +68,7 @@ pub fn dependency(alloc: Global, declared: &Declared) -> Mem<Shared<Dependency>>
 }
 
 /// A coordinate.
-pub fn gav(alloc: Global, group: &str, artifact: &str, version: &str) -> Mem<Gav> {
+pub(crate) fn gav(alloc: Global, group: &str, artifact: &str, version: &str) -> Mem<Gav> {
     let group = Text::from_str(alloc, group)?;
     let artifact = Text::from_str(alloc, artifact)?;
     let version = Text::from_str(alloc, version)?;
@@ -109,7 +109,7 @@ fn sources(alloc: Global) -> Mem<Shared<Sources>> {
 }
 
 /// A build that says nothing.
-pub fn build(alloc: Global) -> Mem<Shared<Build>> {
+pub(crate) fn build(alloc: Global) -> Mem<Shared<Build>> {
     let outputs = outputs(alloc)?;
     let sources = sources(alloc)?;
     let base = build_base(alloc)?;
@@ -133,7 +133,7 @@ fn base(alloc: Global, dependencies: List<Shared<Dependency>>) -> Mem<Shared<Mod
 }
 
 /// A library's model, which has its dependencies alone.
-pub fn model(
+pub(crate) fn model(
     alloc: Global,
     gav: Gav,
     build: &Shared<Build>,

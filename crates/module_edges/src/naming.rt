@@ -45,7 +45,8 @@ fn is_named(
     version: Option<&Text>,
     gav: &Gav,
 ) -> Mem<bool>
-    ensures { IfOk result (λ named. named ≡ is_named group.now artifact.now (option_copied version.entry) gav.now) }
+    ensures { IfOk result (λ named.
+        named ≡ is_named group.now artifact.now (option_copied version.entry) gav.now) }
 {
     if gav.artifact.as_str() != artifact.as_str() || gav.group.as_str() != group.as_str() {
         return Ok(false);
@@ -63,7 +64,8 @@ fn is_named_at(
     version: Option<&Text>,
 ) -> Mem<bool>
     ensures { IfOk result (λ named. named
-        ≡ passes_at modules.now (is_named group.now artifact.now (option_copied version.entry)) number) }
+        ≡ passes_at modules.now
+        (is_named group.now artifact.now (option_copied version.entry)) number) }
 {
     match modules.get(number as usize) {
         Some(m) => is_named(alloc, group, artifact, version, &m.gav),
@@ -83,7 +85,8 @@ fn push_kept(
     edges: &mut Vec<(u32, u32)>,
 ) -> Mem<()>
     ensures { OnOk result (edges.new.items ≡ edges.old.items ++ edges_to from
-        (filter (passes_at modules.now (is_named group.now artifact.now (option_copied version.entry))) numbers.now)) }
+        (filter (passes_at modules.now
+        (is_named group.now artifact.now (option_copied version.entry))) numbers.now)) }
 {
     for number in numbers {
         if is_named_at(alloc, modules, *number, group, artifact, version)? {

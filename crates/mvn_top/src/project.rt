@@ -36,8 +36,16 @@ pub fn plan_phase<T: Tree, S: Shelf, R: Remote>(
     ensures shelf { S.told shelf.new ≡ S.told shelf.old }
     ensures remote { R.files remote.new ≡ R.files remote.old }
     ensures counted { Counted None result.failed
-        (record { tree = T.faults tree.old; shelf = S.faults shelf.old; remote = R.faults remote.old })
-        (record { tree = T.faults tree.new; shelf = S.faults shelf.new; remote = R.faults remote.new }) }
+        (record {
+          tree = T.faults tree.old;
+          shelf = S.faults shelf.old;
+          remote = R.faults remote.old;
+        })
+        (record {
+          tree = T.faults tree.new;
+          shelf = S.faults shelf.new;
+          remote = R.faults remote.new;
+        }) }
 {
     let planned = plan_project(alloc, tree, shelf, remote, phase, given);
     let failed = planned.failed;

@@ -33,19 +33,23 @@ fn build<T: Tree, R: Remote, S: Shelf, G: Gate>(
     requires given { given.now ≡ given_of given.now.machine }
     ensures outcome { IfBoth (T.files tree.old) (R.files hand.old.remote) (λ files there.
         IfOk result.outcome (λ answer. answer.status < 3
-        → LeavesFiles (S.told shelf.old) (S.told shelf.new) (is_some (S.Area.contents hand.old.area)) (IsOutcome words.now files there given.now.machine result.answers answer))) }
+        → LeavesFiles (S.told shelf.old) (S.told shelf.new)
+        (is_some (S.Area.contents hand.old.area))
+        (IsOutcome words.now files there given.now.machine result.answers answer))) }
     ensures bound { IfOk result.outcome (λ answer. answer.status ≤ 3) }
     ensures comes { IfOk result.outcome (λ answer. answer.status < 3 →
         ComesFrom words.now (G.answers hand.old.gate) result.answers answer) }
     ensures count { IfTold (T.files tree.old) (S.told shelf.old) (R.files hand.old.remote)
         (λ files start there. IfOk result.outcome (λ answer. answer.status < 3 → (plan : Plan) →
-        plan_of words.now files start there given.now.machine ≡ Ok plan → CountFits plan result.answers)) }
+        plan_of words.now files start there given.now.machine ≡ Ok plan →
+        CountFits plan result.answers)) }
     ensures once { PublishesOnce (S.told shelf.old) (S.told shelf.new) }
     ensures settled { IfOk result.outcome (λ answer. answer.status < 2 →
         IfSome (S.told shelf.new) IsSettled) }
     ensures answers { IfTold (T.files tree.old) (S.told shelf.old) (R.files hand.old.remote)
         (λ files start there. IfSome (G.answers hand.old.gate) (λ test. (plan : Plan) →
-        plan_of words.now files start there given.now.machine ≡ Ok plan → AnswersFit test plan result.answers)) }
+        plan_of words.now files start there given.now.machine ≡ Ok plan →
+        AnswersFit test plan result.answers)) }
     ensures quiet { IfOk result.outcome (λ answer. answer.status < 3 →
         (T.faults tree.new ≡ T.faults tree.old) × (S.faults shelf.new ≡ S.faults shelf.old) ×
         (R.faults hand.new.remote ≡ R.faults hand.old.remote) ×
@@ -134,19 +138,26 @@ fn call_hand<T: Tree, R: Remote, S: Shelf, G: Gate, O: Sink>(
     out: &mut O,
 ) -> Ended<S>
     requires given { given.now ≡ given_of given.now.machine }
-    ensures outcome { IfBoth (T.files tree.old) (R.files hand.old.remote) (λ files there. result.status < 3
-        → LeavesFiles (S.told shelf) (S.told result.shelf) (is_some (S.Area.contents hand.old.area)) (IsCall words.now files there given.now.machine result.answers result.status (O.written out.old) (O.written out.new))) }
+    ensures outcome { IfBoth (T.files tree.old) (R.files hand.old.remote) (λ files there.
+        result.status < 3
+        → LeavesFiles (S.told shelf) (S.told result.shelf) (is_some (S.Area.contents hand.old.area))
+        (IsCall words.now files there given.now.machine result.answers result.status
+        (O.written out.old) (O.written out.new))) }
     ensures ends { (wanted : Outcome) ×
-        (result.status < 3 → ComesFrom words.now (G.answers hand.old.gate) (kept_answers result.answers) wanted)
-        × Ends wanted result.status (O.written out.old) (O.written out.new) (O.faults out.old) (O.faults out.new) }
+        (result.status < 3 →
+        ComesFrom words.now (G.answers hand.old.gate) (kept_answers result.answers) wanted)
+        × Ends wanted result.status (O.written out.old) (O.written out.new) (O.faults out.old)
+        (O.faults out.new) }
     ensures count { IfTold (T.files tree.old) (S.told shelf) (R.files hand.old.remote)
         (λ files start there. result.status < 3 → (plan : Plan) →
-        plan_of words.now files start there given.now.machine ≡ Ok plan → CountFits plan (kept_answers result.answers)) }
+        plan_of words.now files start there given.now.machine ≡ Ok plan →
+        CountFits plan (kept_answers result.answers)) }
     ensures once { PublishesOnce (S.told shelf) (S.told result.shelf) }
     ensures settled { result.status < 2 → IfSome (S.told result.shelf) IsSettled }
     ensures answers { IfTold (T.files tree.old) (S.told shelf) (R.files hand.old.remote)
         (λ files start there. IfSome (G.answers hand.old.gate) (λ test. (plan : Plan) →
-        plan_of words.now files start there given.now.machine ≡ Ok plan → AnswersFit test plan (kept_answers result.answers))) }
+        plan_of words.now files start there given.now.machine ≡ Ok plan →
+        AnswersFit test plan (kept_answers result.answers))) }
     ensures quiet { result.status < 3 → (T.faults tree.new ≡ T.faults tree.old) ×
         (S.faults result.shelf ≡ S.faults shelf) ×
         (R.faults hand.new.remote ≡ R.faults hand.old.remote) ×
@@ -222,24 +233,31 @@ pub fn mvn<T: Tree, R: Remote, S: Shelf, G: Gate, O: Sink>(
     // those of the build by one hand, of the files that they told, the machine and the answers that are kept.
     ensures outcome { OfFirst hands.old (λ hand.
         IfBoth (T.files tree.old) (R.files hand.remote) (λ files there. result.status < 3
-        → LeavesFiles (S.told shelf) (S.told result.shelf) (is_some (S.Area.contents hand.area)) (IsCall words.now files there machine result.answers result.status (O.written out.old) (O.written out.new)))) }
+        → LeavesFiles (S.told shelf) (S.told result.shelf) (is_some (S.Area.contents hand.area))
+        (IsCall words.now files there machine result.answers result.status (O.written out.old)
+        (O.written out.new)))) }
 
     // Over any objects the answer comes from the words, or from a plan of one lawful model built by one hand, or it is a refusal.
     // What is written is a part of its text from its front: the whole, unless the sink failed or memory ran out.
     ensures ends { OfFirst hands.old (λ hand. (wanted : Outcome) ×
-        (result.status < 3 → ComesFrom words.now (G.answers hand.gate) (kept_answers result.answers) wanted)
-        × Ends wanted result.status (O.written out.old) (O.written out.new) (O.faults out.old) (O.faults out.new)) }
+        (result.status < 3 →
+        ComesFrom words.now (G.answers hand.gate) (kept_answers result.answers) wanted)
+        × Ends wanted result.status (O.written out.old) (O.written out.new) (O.faults out.old)
+        (O.faults out.new)) }
 
     // The answers that are kept are the gate's, to the requests that the definition names.
     ensures answers { OfFirst hands.old (λ hand.
         IfTold (T.files tree.old) (S.told shelf) (R.files hand.remote) (λ files start there.
-        IfSome (G.answers hand.gate) (λ test. (plan : Plan) → plan_of words.now files start there machine ≡ Ok plan →
+        IfSome (G.answers hand.gate) (λ test. (plan : Plan) →
+        plan_of words.now files start there machine ≡ Ok plan →
         AnswersFit test plan (kept_answers result.answers)))) }
 
     // Below 3 there is one answer for each goal that the definition reaches.
     ensures count { OfFirst hands.old (λ hand.
-        IfTold (T.files tree.old) (S.told shelf) (R.files hand.remote) (λ files start there. result.status < 3 → (plan : Plan) →
-        plan_of words.now files start there machine ≡ Ok plan → CountFits plan (kept_answers result.answers))) }
+        IfTold (T.files tree.old) (S.told shelf) (R.files hand.remote) (λ files start there.
+        result.status < 3 → (plan : Plan) →
+        plan_of words.now files start there machine ≡ Ok plan →
+        CountFits plan (kept_answers result.answers))) }
 
     // Each name is published at most once, and the settled number never falls; so at every moment, and after a stop, a name has
     // its old value or its new one.
@@ -252,11 +270,17 @@ pub fn mvn<T: Tree, R: Remote, S: Shelf, G: Gate, O: Sink>(
     // Below 3 no device failed, and at 3 one did.
     ensures quiet { result.status < 3 → (T.faults tree.new ≡ T.faults tree.old) ×
         (S.faults result.shelf ≡ S.faults shelf) × (O.faults out.new ≡ O.faults out.old)
-        × OfFirsts hands.old hands.new (λ before now. (R.faults now.remote ≡ R.faults before.remote) × (S.Area.faults now.area ≡ S.Area.faults before.area) × (G.faults now.gate ≡ G.faults before.gate)) }
+        × OfFirsts hands.old hands.new (λ before now.
+        (R.faults now.remote ≡ R.faults before.remote) ×
+        (S.Area.faults now.area ≡ S.Area.faults before.area) ×
+        (G.faults now.gate ≡ G.faults before.gate)) }
     ensures fault { OfFirsts hands.old hands.new (λ before now. result.status ≡ 3 →
         HasRisen (O.faults out.old) (O.faults out.new) ⊎
         (HasRisen (T.faults tree.old) (T.faults tree.new)
-        ⊎ (HasRisen (S.faults shelf) (S.faults result.shelf) ⊎ (HasRisen (R.faults before.remote) (R.faults now.remote) ⊎ (HasRisen (S.Area.faults before.area) (S.Area.faults now.area) ⊎ HasRisen (G.faults before.gate) (G.faults now.gate)))))) }
+        ⊎ (HasRisen (S.faults shelf) (S.faults result.shelf) ⊎
+        (HasRisen (R.faults before.remote) (R.faults now.remote) ⊎
+        (HasRisen (S.Area.faults before.area) (S.Area.faults now.area) ⊎
+        HasRisen (G.faults before.gate) (G.faults now.gate)))))) }
     ensures bound { result.status ≤ 4 }
 
     // The other hands are as they were, and no events are kept.

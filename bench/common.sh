@@ -2,6 +2,7 @@
 # the end, and functions that take and print the time of a run. A script says by a function `once` what one run is, and by `prepare`
 # what is done before it and isn't timed.
 set -eu
+[ -z "${EFFECTIVE_MODEL-}" ] || EFFECTIVE_MODEL=$(realpath -m -- "$EFFECTIVE_MODEL")
 . "$(dirname "$0")/../tests/program.sh"
 work=$(mktemp -d)
 trap 'rm -rf "$work"' EXIT
@@ -18,6 +19,17 @@ want_mvn() {
   find_program
   program=$mvn
   cd "$work"
+}
+
+# The same with effective_model: the program that EFFECTIVE_MODEL names, or the built one
+want_effective_model() {
+  if [ -n "${EFFECTIVE_MODEL-}" ]; then
+    program=$EFFECTIVE_MODEL
+    [ -x "$program" ] || stop "there is no program $program"
+    cd "$work"
+  else
+    want crates/effective_model/out/effective_model '(cd crates/effective_model && rt run)'
+  fi
 }
 
 prepare() { :; }

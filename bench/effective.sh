@@ -3,15 +3,8 @@
 # names or the built one: modules of ten dependencies each, over one parent that manages 200 dependencies and 40 plugins. A run reads the
 # POMs and builds each model, on one processor. A ratio that is that of the numbers is a constant time a module, which is printed too. The
 # empty case is a project of the parent alone. usage: bench/effective.sh [NUMBER OF MODULES ..]
-[ -z "${EFFECTIVE_MODEL-}" ] || EFFECTIVE_MODEL=$(realpath -m -- "$EFFECTIVE_MODEL")
 . "$(dirname "$0")/common.sh"
-if [ -n "${EFFECTIVE_MODEL-}" ]; then
-  program=$EFFECTIVE_MODEL
-  [ -x "$program" ] || stop "there is no program $program"
-  cd "$work"
-else
-  want crates/effective_model/out/effective_model '(cd crates/effective_model && rt run)'
-fi
+want_effective_model
 once() { "$program" < in > out; }
 
 # NUMBER: ends the script where not each of as many modules and their parent has a model, so that no refusal passes as speed

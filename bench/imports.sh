@@ -4,15 +4,8 @@
 # the time and what more entries cost; built anew for each importer they would take twice the time with each level. `imports`: one POM that
 # imports so many others. A run reads the POMs of a repository and builds the model of one module. The empty case is a module without
 # imports. usage: bench/imports.sh
-[ -z "${EFFECTIVE_MODEL-}" ] || EFFECTIVE_MODEL=$(realpath -m -- "$EFFECTIVE_MODEL")
 . "$(dirname "$0")/common.sh"
-if [ -n "${EFFECTIVE_MODEL-}" ]; then
-  program=$EFFECTIVE_MODEL
-  [ -x "$program" ] || stop "there is no program $program"
-  cd "$work"
-else
-  want crates/effective_model/out/effective_model '(cd crates/effective_model && rt run)'
-fi
+want_effective_model
 once() { "$program" < in > out; }
 
 # ends the script where the module has no model, so that no refusal passes as speed

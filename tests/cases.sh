@@ -19,6 +19,21 @@ fail() {
   echo "FAILED  $1: $2"
 }
 
+# NAME, WANTED STATUS, WANTED TEXT; the words follow: what the program answers to them where the script stands
+want() {
+  local name=$1 status=$2 text=$3
+  shift 3
+  local got code
+  got=$("$mvn" "$@"; echo "status $?")
+  code=${got##*status }
+  got=${got%status *}
+  if [ "$code" = "$status" ] && [ "$got" = "$text" ]; then
+    pass "$name"
+  else
+    fail "$name" "$(printf 'wanted %s %q, got %s %q' "$status" "$text" "$code" "$got")"
+  fi
+}
+
 # The last line of a script, and its status
 tell() {
   echo "$(basename "$0" .sh): $passed passed, $failed failed"

@@ -4,21 +4,6 @@
 find_program
 cd "$work" || exit 1
 
-# NAME, WANTED STATUS, WANTED TEXT; the words follow
-want() {
-  local name=$1 status=$2 text=$3
-  shift 3
-  local got code
-  got=$("$mvn" "$@"; echo "status $?")
-  code=${got##*status }
-  got=${got%status *}
-  if [ "$code" = "$status" ] && [ "$got" = "$text" ]; then
-    pass "$name"
-  else
-    fail "$name" "$(printf 'wanted %s %q, got %s %q' "$status" "$text" "$code" "$got")"
-  fi
-}
-
 pom='<project><modelVersion>4.0.0</modelVersion><groupId>demo</groupId><artifactId>app</artifactId><version>1.0</version></project>'
 report=$'built demo:app:1.0\ntotal 1 built 1 failed 0 skipped 0\n'
 

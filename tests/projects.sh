@@ -18,21 +18,6 @@ other() {
   printf '<project><modelVersion>4.0.0</modelVersion>%s</project>' "$2" > "$1"
 }
 
-# NAME, WANTED STATUS, WANTED TEXT; the words follow
-want() {
-  local name=$1 status=$2 text=$3
-  shift 3
-  local got code
-  got=$("$mvn" "$@"; echo "status $?")
-  code=${got##*status }
-  got=${got%status *}
-  if [ "$code" = "$status" ] && [ "$got" = "$text" ]; then
-    pass "$name"
-  else
-    fail "$name" "$(printf 'wanted %s %q, got %s %q' "$status" "$text" "$code" "$got")"
-  fi
-}
-
 built=$'\ntotal 1 built 1 failed 0 skipped 0\n'
 unbuilt=$'\ntotal 1 built 0 failed 1 skipped 0\n'
 app='<groupId>demo</groupId><artifactId>app</artifactId><version>1</version>'

@@ -5,13 +5,15 @@ use Rattle.std.specs.Str.{bytes_eq}
 use Rattle.std.proofs.lemmas.Slice.Eq.{bytes_eq-Decides}
 use Rattle.mvn_base.specs.declared.gav.Gav.{Gav}
 use Rattle.mvn_base.specs.declared.refusal.PomId.{PomId}
+use Rattle.mvn_base.specs.declared.refusal.PomId.TheVariants as ids
 use Rattle.model_types.specs.declared.model.RawModel.{RawModel}
 use Rattle.pom_source.specs.Chains.{ok_is}
 use Rattle.pom_source.specs.Worlds.{World}
 use Rattle.pom_source.specs.declared.found.Given.{Given}
 use Rattle.pom_lineage.specs.Beside.{gav_eq, of_gav, raw_gav, read_at}
 use Rattle.pom_lineage.specs.Lineage.{joined_from}
-use Rattle.pom_lineage.specs.Stores.{Holds, HoldsLines, HoldsRead, IsAt, IsKept, line_in, meets, read_in}
+use Rattle.pom_lineage.specs.Reading.{read_file}
+use Rattle.pom_lineage.specs.Stores.{AgreesOnPaths, Holds, HoldsLines, HoldsRead, IsAt, IsKept, line_in, meets, read_in}
 use Rattle.pom_lineage.specs.declared.joined.Joined.{Joined}
 use Rattle.pom_lineage.specs.declared.origin.Origin.{Origin}
 use Rattle.pom_lineage.specs.declared.origin.Origin.TheVariants.{Beside, Elsewhere}
@@ -45,17 +47,34 @@ more_or_kept : {A K : Type 0} (P : K → A → Type 0) (key other : K) (same : B
 more_or_kept P key other true there new x is e here rest = subst (λ o. IfSome o (λ y. P other y)) (sym e) (subst (λ k. P k x) (is refl) here)
 more_or_kept P key other false there new x is e here rest = subst (λ o. IfSome o (λ y. P other y)) (sym e) rest
 
+-- no lineage is kept
+lines_none : (world : World) (given : Given) (store : Store) → ((path : List ℕ) → get bytes_eq store.beside path ≡ None) → ((gav : Gav) → get gav_eq store.elsewhere gav ≡ None) → HoldsLines world given store
+unfolding HoldsLines
+lines_none world given store b e (Beside path raw) at = subst (λ o. IfSome o (λ kept. IsKept world given (Beside path raw) kept)) (sym (b path)) (record {})
+lines_none world given store b e (Elsewhere gav) at = subst (λ o. IfSome o (λ kept. IsKept world given (Elsewhere gav) kept)) (sym (e gav)) (record {})
+
+-- what was read in a world was read in each that has the same POMs at their paths
+read_other : (world other : World) (store : Store) → AgreesOnPaths world other → HoldsRead world store → HoldsRead other store
+unfolding HoldsRead
+read_other world other store same holds path =
+    subst (λ (bytes : Option (List ℕ)). IfSome (read_in store path) (λ found. read_file (ids.Path path) bytes ≡ Ok found)) (sym (same path)) (holds path)
+
+-- what was read, without the lineages
+pub read_alone : (world other : World) (given : Given) (old new : Store) → new.read ≡ old.read → ((path : List ℕ) → get bytes_eq new.beside path ≡ None) → ((gav : Gav) → get gav_eq new.elsewhere gav ≡ None)
+    → Holds world given old → AgreesOnPaths world other → Holds other given new
+unfolding HoldsRead
+read_alone world other given old new r b e holds same = record {
+  read = λ path. subst (λ o. IfSome o (λ found. read_at other path ≡ Ok found)) (sym (ap (λ m. get bytes_eq m path) r)) (read_other world other old same holds.read path);
+  lines = lines_none other given new b e;
+}
+
 module _ (world : World) (given : Given) where
   pub nothing_held : (store : Store) → ((path : List ℕ) → get bytes_eq store.read path ≡ None) → ((path : List ℕ) → get bytes_eq store.beside path ≡ None) → ((gav : Gav) → get gav_eq store.elsewhere gav ≡ None) → Holds world given store
-  unfolding HoldsRead HoldsLines
+  unfolding HoldsRead
   nothing_held store r b e = record {
     read = λ path. subst (λ o. IfSome o (λ found. read_at world path ≡ Ok found)) (sym (r path)) (record {});
-    lines = λ origin. none_at origin;
+    lines = lines_none world given store b e;
   }
-    where
-      none_at : (origin : Origin) → IsAt world origin → IfSome (line_in store origin) (λ kept. IsKept world given origin kept)
-      none_at (Beside path raw) at = subst (λ o. IfSome o (λ kept. IsKept world given (Beside path raw) kept)) (sym (b path)) (record {})
-      none_at (Elsewhere gav) at = subst (λ o. IfSome o (λ kept. IsKept world given (Elsewhere gav) kept)) (sym (e gav)) (record {})
 
   pub read_serves : (store : Store) (path : List ℕ) (kept : Option (Option RawModel)) → Holds world given store → kept ≡ read_in store path → IfSome kept (λ found. read_at world path ≡ Ok found)
   unfolding HoldsRead

@@ -45,6 +45,10 @@ abbrev pub if_serves : ℕ → List PomId → Option Joined → Option Joined
 if_serves left seen None = None
 if_serves left seen (Some kept) = if serves left seen kept then Some kept else None
 
+-- two worlds have the same POMs at their paths
+abbrev pub AgreesOnPaths : World → World → Type 0
+AgreesOnPaths world other = (path : List ℕ) → other.by_path path ≡ world.by_path path
+
 module _ (world : World) where
   -- what an origin says of the POM at its path is so
   abbrev pub IsAt : Origin → Type 0

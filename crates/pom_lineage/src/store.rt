@@ -7,7 +7,7 @@ ghost use Rattle.pom_source.specs.Worlds.{World};
 ghost use Rattle.pom_source.specs.declared.found.Given as givens;
 ghost use Rattle.pom_lineage.specs.Beside.{gav_eq, read_at};
 ghost use Rattle.pom_lineage.specs.Lineage.{joined_from};
-ghost use Rattle.pom_lineage.specs.Stores.{Holds, IsAt, IsKept, KeepsLines, KeepsRead, if_serves, line_in, meets, read_in, serves};
+ghost use Rattle.pom_lineage.specs.Stores.{AgreesOnPaths, Holds, IsAt, IsKept, KeepsLines, KeepsRead, if_serves, line_in, meets, read_in, serves};
 
 use crate::joined::Joined;
 use crate::origin::Origin;
@@ -104,6 +104,20 @@ impl Store {
     {
         Store {
             read: HashMap::new(alloc),
+            beside: HashMap::new(alloc),
+            elsewhere: HashMap::new(alloc),
+        }
+    }
+
+    /// What was read, without the lineages: for a source that finds the same POMs by path, and others by coordinates. Takes no memory.
+    /// Project rule.
+    pub fn only_read(self, alloc: Global) -> Store
+        ensures { (world other : World) (given : givens.Given) → Holds world given self
+            → AgreesOnPaths world other → Holds other given result }
+    {
+        let Store { read, .. } = self;
+        Store {
+            read,
             beside: HashMap::new(alloc),
             elsewhere: HashMap::new(alloc),
         }

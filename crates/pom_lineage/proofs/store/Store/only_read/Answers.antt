@@ -1,0 +1,10 @@
+use Rattle.std.proofs.Common.{refl, ap}
+use Rattle.std.specs.Map.{lookup}
+use Rattle.std.specs.Str.{bytes_eq}
+use Rattle.pom_lineage.specs.Beside.{gav_eq}
+use Rattle.pom_lineage.proofs.Holding.{read_alone}
+use Rattle.pom_lineage.proofs.store.Store.only_read.Goals as goal
+
+pub returns : goal.returns
+returns c = λ world other given holds same.
+    read_alone world other given c.args.self _ refl (λ path. ap (lookup (bytes_eq path)) c.new.ensures.empty) (λ gav. ap (lookup (gav_eq gav)) c.new-2.ensures.empty) holds same

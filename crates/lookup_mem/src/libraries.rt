@@ -80,6 +80,8 @@ impl Lookup for MemLibraries {
 
     ghost faults = { λ _. 0 };
 
+    ghost tells_same = { λ before now. now ≡ before };
+
     fn model(&mut self, gav: &Gav) -> Result<Known, LookupFault> {
         Ok(known(self.models.get(gav))?)
     }

@@ -6,3 +6,4 @@ pub mod Places
 pub mod Greatest
 pub mod Within
 pub mod Nearest
+pub mod Telling

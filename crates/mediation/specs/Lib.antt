@@ -2,3 +2,4 @@ pub mod Faults
 pub mod Libraries
 pub mod Rows
 pub mod Counting
+pub mod Telling

@@ -2,6 +2,7 @@ ghost use Rattle.std.specs.Prelude.{◌≡◌, ◌≤◌, ℕ, Ok, length, IfOk,
 ghost use Rattle.mvn_shared.specs.Cause.{HasCause};
 ghost use Rattle.mediation.specs.Faults.{Says, is_faulty, lookup_failed};
 ghost use Rattle.mediation.specs.Libraries.{Libraries};
+ghost use Rattle.mediation.specs.Telling.{TellsOn};
 
 use crate::fault::MediationFault;
 use model_types::Model;
@@ -41,11 +42,15 @@ pub trait Lookup {
     /// The faults so far. The count never falls.
     ghost faults: { Self → ℕ };
 
+    /// Before a call and after it: what is asked is the same, and tells what it told.
+    ghost tells_same: { Self → Self → Type 0 };
+
     /// What is known of a coordinate's POM.
     fn model(&mut self, gav: &Gav) -> Result<Known, LookupFault>
         ensures tells { (libraries : Libraries) → fits self.old libraries
             → IfOk result (λ known. known ≡ libraries.at gav.now) }
         ensures same { (libraries : Libraries) → fits self.old libraries → fits self.new libraries }
+        ensures alike { tells_same self.old self.new }
         ensures cause { HasCause (faults self.old) (faults self.new) (lookup_failed result) };
 
     /// The available versions of an artifact, each once, ascending by bytes; `None` where there are more than 4,096.
@@ -54,15 +59,18 @@ pub trait Lookup {
             → IfOk result (λ list. list ≡ libraries.versions group.now artifact.now) }
         ensures few { IfOk result (λ list. IfSome list (λ all. length all ≤ 4096)) }
         ensures same { (libraries : Libraries) → fits self.old libraries → fits self.new libraries }
+        ensures alike { tells_same self.old self.new }
         ensures cause { HasCause (faults self.old) (faults self.new) (lookup_failed result) };
 }
 
 // What is known of a coordinate's POM, or the fault.
+#[tactic(auto, using(crate::proofs::Telling::told_once))]
 pub fn ask_model<L: Lookup>(lookup: &mut L, gav: &Gav) -> Result<Known, MediationFault>
     ensures tells { (libraries : Libraries) → L.fits lookup.old libraries
         → Says (Ok (libraries.at gav.now)) result }
     ensures same { (libraries : Libraries) → L.fits lookup.old libraries
         → L.fits lookup.new libraries }
+    ensures alike { TellsOn L.tells_same lookup.old lookup.new }
     ensures cause { HasCause (L.faults lookup.old) (L.faults lookup.new) (is_faulty result) }
 {
     match lookup.model(gav) {
@@ -73,6 +81,7 @@ pub fn ask_model<L: Lookup>(lookup: &mut L, gav: &Gav) -> Result<Known, Mediatio
 }
 
 // The available versions of an artifact, or the fault.
+#[tactic(auto, using(crate::proofs::Telling::told_once))]
 pub fn ask_versions<L: Lookup>(
     lookup: &mut L,
     group: &Text,
@@ -83,6 +92,7 @@ pub fn ask_versions<L: Lookup>(
     ensures few { IfOk result (λ list. IfSome list (λ all. length all ≤ 4096)) }
     ensures same { (libraries : Libraries) → L.fits lookup.old libraries
         → L.fits lookup.new libraries }
+    ensures alike { TellsOn L.tells_same lookup.old lookup.new }
     ensures cause { HasCause (L.faults lookup.old) (L.faults lookup.new) (is_faulty result) }
 {
     match lookup.versions(group, artifact) {

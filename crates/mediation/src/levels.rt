@@ -5,6 +5,7 @@ ghost use Rattle.mvn_shared.specs.Cause.{HasCause};
 ghost use Rattle.model_types.specs.declared.dependency.Dependency as dependencies;
 ghost use Rattle.mediation.specs.Faults.{Says, is_faulty};
 ghost use Rattle.collector.specs.Edges.{transitive_edges};
+ghost use Rattle.mediation.specs.Telling.{TellsOn};
 ghost use Rattle.mediation.specs.Libraries.{Libraries, declarations, gav_of, graph_of};
 ghost use Rattle.mediation.specs.Rows.{Adds, IsPicked, Leads, Resolves, edges_below, paths_of, row_of, won_by};
 ghost use Rattle.winner_law.specs.Winners.{Path, longer};
@@ -35,6 +36,7 @@ fn add_winner<L: Lookup>(
     ensures says { (libraries : Libraries) → L.fits lookup.old libraries → Says (Ok tt) result }
     ensures same { (libraries : Libraries) → L.fits lookup.old libraries
         → L.fits lookup.new libraries }
+    ensures alike { TellsOn L.tells_same lookup.old lookup.new }
     ensures cause { HasCause (L.faults lookup.old) (L.faults lookup.new) (is_faulty result) }
 {
     match known_at(lookup, &edge.key, &version) {
@@ -52,6 +54,7 @@ fn add_winner<L: Lookup>(
 }
 
 // One declaration, which wins where its key has no winner yet.
+#[tactic(auto, using(crate::proofs::Telling::untold, crate::proofs::Telling::told_both))]
 fn decide<L: Lookup>(
     alloc: Global,
     lookup: &mut L,
@@ -64,6 +67,7 @@ fn decide<L: Lookup>(
         → Adds libraries winners.old winners.new ((edge ∷ front) ∷ []) result }
     ensures same { (libraries : Libraries) → L.fits lookup.old libraries
         → L.fits lookup.new libraries }
+    ensures alike { TellsOn L.tells_same lookup.old lookup.new }
     ensures cause { HasCause (L.faults lookup.old) (L.faults lookup.new) (is_faulty result) }
 {
     if winners.has(&edge.key) {
@@ -76,6 +80,7 @@ fn decide<L: Lookup>(
 }
 
 // The declarations of one end.
+#[tactic(auto, using(crate::proofs::Telling::untold, crate::proofs::Telling::told_both))]
 fn add_edges<L: Lookup>(
     alloc: Global,
     lookup: &mut L,
@@ -88,6 +93,7 @@ fn add_edges<L: Lookup>(
         → Adds libraries winners.old winners.new (map (λ e. e ∷ front) edges) result }
     ensures same { (libraries : Libraries) → L.fits lookup.old libraries
         → L.fits lookup.new libraries }
+    ensures alike { TellsOn L.tells_same lookup.old lookup.new }
     ensures cause { HasCause (L.faults lookup.old) (L.faults lookup.new) (is_faulty result) }
 {
     for edge in edges.into_vec() {
@@ -100,11 +106,13 @@ fn add_edges<L: Lookup>(
 }
 
 // What is known of the POM of a version.
+#[tactic(auto, using(crate::proofs::Telling::untold))]
 fn known_at<L: Lookup>(lookup: &mut L, key: &Key, version: &Text) -> Result<Known, MediationFault>
     ensures says { (libraries : Libraries) → L.fits lookup.old libraries
         → Says (Ok (libraries.at (gav_of key.now version.now))) result }
     ensures same { (libraries : Libraries) → L.fits lookup.old libraries
         → L.fits lookup.new libraries }
+    ensures alike { TellsOn L.tells_same lookup.old lookup.new }
     ensures cause { HasCause (L.faults lookup.old) (L.faults lookup.new) (is_faulty result) }
 {
     let gav = coordinate(key, version)?;
@@ -151,6 +159,7 @@ pub fn edges_below(alloc: Global, managed: &ManagedSet, winner: &Winner) -> Mem<
 }
 
 // The paths one edge longer than a winner's.
+#[tactic(auto, using(crate::proofs::Telling::untold))]
 fn expand<L: Lookup>(
     alloc: Global,
     lookup: &mut L,
@@ -166,6 +175,7 @@ fn expand<L: Lookup>(
         (option_to_list (slice_get (paths_of winners.old) place))) result }
     ensures same { (libraries : Libraries) → L.fits lookup.old libraries
         → L.fits lookup.new libraries }
+    ensures alike { TellsOn L.tells_same lookup.old lookup.new }
     ensures cause { HasCause (L.faults lookup.old) (L.faults lookup.new) (is_faulty result) }
 {
     let Some(winner) = winners.get(place) else {
@@ -176,6 +186,7 @@ fn expand<L: Lookup>(
 }
 
 // The paths one edge longer than those of the winners from a place on, before another.
+#[tactic(auto, using(crate::proofs::Telling::untold, crate::proofs::Telling::told_both))]
 fn add_level<L: Lookup>(
     alloc: Global,
     lookup: &mut L,
@@ -193,6 +204,7 @@ fn add_level<L: Lookup>(
         (drop from (paths_of winners.old))) result }
     ensures same { (libraries : Libraries) → L.fits lookup.old libraries
         → L.fits lookup.new libraries }
+    ensures alike { TellsOn L.tells_same lookup.old lookup.new }
     ensures cause { HasCause (L.faults lookup.old) (L.faults lookup.new) (is_faulty result) }
 {
     for place in from..to {
@@ -212,6 +224,7 @@ fn add_level<L: Lookup>(
 /// only where the look-up failed. Costs a look-up for each winner, and the texts of each declaration on the average; for
 /// each winner with a range one look-up more, and each available version is parsed once. Introduction to the Dependency
 /// Mechanism, "Dependency mediation".
+#[tactic(auto, using(crate::proofs::Telling::untold, crate::proofs::Telling::told_both))]
 pub fn find_winners<L: Lookup>(
     alloc: Global,
     direct: &[Shared<Dependency>],
@@ -222,6 +235,7 @@ pub fn find_winners<L: Lookup>(
         → Resolves libraries (graph_of libraries managed.now direct.now) result }
     ensures same { (libraries : Libraries) → L.fits lookup.old libraries
         → L.fits lookup.new libraries }
+    ensures alike { TellsOn L.tells_same lookup.old lookup.new }
     ensures cause { HasCause (L.faults lookup.old) (L.faults lookup.new) (is_faulty result) }
 {
     let mut winners = Winners::new(alloc);

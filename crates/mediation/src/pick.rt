@@ -3,6 +3,7 @@ ghost use Rattle.mvn_base.specs.Key.{key_text};
 ghost use Rattle.mvn_base.specs.declared.rule.Rule.TheVariants.{EmptyRange, GraphTooLarge};
 ghost use Rattle.mvn_shared.specs.Cause.{HasCause};
 ghost use Rattle.mediation.specs.Faults.{Says, is_faulty};
+ghost use Rattle.mediation.specs.Telling.{TellsOn};
 ghost use Rattle.mediation.specs.Libraries.{Libraries, among, chosen, found, highest, picked};
 
 use crate::fault::MediationFault;
@@ -129,6 +130,7 @@ fn ranged<L: Lookup>(
         (libraries.versions key.now.group key.now.artifact)) result }
     ensures same { (libraries : Libraries) → L.fits lookup.old libraries
         → L.fits lookup.new libraries }
+    ensures alike { TellsOn L.tells_same lookup.old lookup.new }
     ensures cause { HasCause (L.faults lookup.old) (L.faults lookup.new) (is_faulty result) }
 {
     match ask_versions(lookup, &key.group, &key.artifact) {
@@ -138,12 +140,13 @@ fn ranged<L: Lookup>(
 }
 
 // The version that an edge's requirement takes.
-#[tactic(auto, unfolding(crate::specs::Libraries::picked))]
+#[tactic(auto, unfolding(crate::specs::Libraries::picked), using(crate::proofs::Telling::untold))]
 fn picked<L: Lookup>(alloc: Global, lookup: &mut L, edge: &Edge) -> Result<Text, MediationFault>
     ensures says { (libraries : Libraries) → L.fits lookup.old libraries
         → Says (picked libraries edge.now) result }
     ensures same { (libraries : Libraries) → L.fits lookup.old libraries
         → L.fits lookup.new libraries }
+    ensures alike { TellsOn L.tells_same lookup.old lookup.new }
     ensures cause { HasCause (L.faults lookup.old) (L.faults lookup.new) (is_faulty result) }
 {
     match Requirement::parse(alloc, &edge.requirement) {
@@ -157,7 +160,7 @@ fn picked<L: Lookup>(alloc: Global, lookup: &mut L, edge: &Edge) -> Result<Text,
 }
 
 // The version of the winner at a place, where there is room for it.
-#[tactic(auto, unfolding(crate::specs::Libraries::chosen))]
+#[tactic(auto, unfolding(crate::specs::Libraries::chosen), using(crate::proofs::Telling::untold))]
 pub fn chosen<L: Lookup>(
     alloc: Global,
     lookup: &mut L,
@@ -168,6 +171,7 @@ pub fn chosen<L: Lookup>(
         → Says (chosen libraries place edge.now) result }
     ensures same { (libraries : Libraries) → L.fits lookup.old libraries
         → L.fits lookup.new libraries }
+    ensures alike { TellsOn L.tells_same lookup.old lookup.new }
     ensures cause { HasCause (L.faults lookup.old) (L.faults lookup.new) (is_faulty result) }
     ensures room { OnOk result (place < 16384) }
 {

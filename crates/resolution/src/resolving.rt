@@ -3,6 +3,7 @@ ghost use Rattle.mvn_base.specs.Key.{key_text};
 ghost use Rattle.mvn_base.specs.declared.rule.Rule.TheVariants.{RangeConflict};
 ghost use Rattle.mvn_shared.specs.Cause.{HasCause};
 ghost use Rattle.mediation.specs.Faults.{Says, is_faulty};
+ghost use Rattle.mediation.specs.Telling.{TellsOn};
 ghost use Rattle.mediation.specs.Libraries.{Libraries, graph_of};
 ghost use Rattle.mediation.specs.Rows.{IsWhole};
 ghost use Rattle.resolution.specs.Resolved.{IsMade, Mediates};
@@ -86,6 +87,7 @@ pub fn mediate<L: Lookup>(
         → Mediates libraries managed.now direct.now result }
     ensures same { (libraries : Libraries) → L.fits lookup.old libraries
         → L.fits lookup.new libraries }
+    ensures alike { TellsOn L.tells_same lookup.old lookup.new }
     ensures cause { HasCause (L.faults lookup.old) (L.faults lookup.new) (is_faulty result) }
 {
     match find_winners(alloc, direct, managed, lookup) {

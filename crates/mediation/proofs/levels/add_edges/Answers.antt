@@ -5,6 +5,7 @@ use Rattle.mediation.specs.Rows.{Adds, Grows, Leads, paths_of}
 use Rattle.winner_law.specs.Winners.{Path, firsts}
 use Rattle.mediation.proofs.Growing.{add_more, refused_early, same_rows}
 use Rattle.mediation.proofs.Paths.{leads_more, no_items}
+use Rattle.mediation.proofs.Telling.{told_both}
 use Rattle.mediation.proofs.levels.add_edges.Goals as goal
 
 pub loop-edge-preserved : goal.loop-edge-preserved
@@ -23,6 +24,7 @@ loop-edge-preserved g c =
           subst (λ p. Leads p c.args.above front) (sym (grown libraries front fits leads).wins)
           (leads_more (paths_of c.loop-edge.winners) (firsts (paths_of c.loop-edge.winners) ((c.in-Some.edge ∷ front) ∷ [])) c.args.above front (kept.leads libraries front fits leads));
       fit = λ libraries fits. c.in-Ok.ensures.same libraries (kept.fit libraries fits);
+      alike = told_both kept.alike c.in-Ok.ensures.alike;
       faults = c.in-Ok.ensures.cause ∙ kept.faults;
     }
 

@@ -5,6 +5,7 @@ use Rattle.mediation.specs.declared.winner.Winner.{Winner}
 use Rattle.mediation.specs.Libraries.{Libraries}
 use Rattle.mediation.specs.Rows.{Adds, Leads, paths_of}
 use Rattle.winner_law.specs.Winners.{Path}
+use Rattle.mediation.specs.Telling.{TellsOn}
 use Rattle.mediation.proofs.levels.add_edges.Given as goal
 
 -- what the rest adds, all of it adds
@@ -17,5 +18,6 @@ invariant-loop-edge g l = record {
   leads : (libraries : Libraries) (front : Path) → g.L.Lookup.fits l.initial.lookup libraries → Leads (paths_of l.initial.winners) l.above front
       → Leads (paths_of l.winners) l.above front;
   fit : (libraries : Libraries) → g.L.Lookup.fits l.initial.lookup libraries → g.L.Lookup.fits l.lookup libraries;
+  alike : TellsOn g.L.Lookup.tells_same l.initial.lookup l.lookup;
   faults : g.L.Lookup.faults l.lookup ≡ g.L.Lookup.faults l.initial.lookup;
 }

@@ -4,6 +4,7 @@ use Rattle.mediation.specs.Libraries.{graph_of}
 use Rattle.mediation.specs.Rows.{paths_of}
 use Rattle.winner_law.specs.Winners.{longer}
 use Rattle.mediation.proofs.Places.{level_done, level_step, level_stopped, stands_more}
+use Rattle.mediation.proofs.Telling.{told_both}
 use Rattle.mediation.proofs.levels.add_level.Goals as goal
 
 pub returns-in-Err-clause-adds : goal.returns-in-Err-clause-adds
@@ -31,6 +32,7 @@ loop-place-preserved g c =
           (flat_map (longer (graph_of libraries c.args.managed.now [])) (option_to_list (slice_get (paths_of c.loop-place.winners) c.loop-place.place)))
           (inv.before libraries fits picks) (c.in-Ok.ensures.adds libraries [] (inv.fit libraries fits) (inv.versions libraries fits picks));
       fit = λ libraries fits. c.in-Ok.ensures.same libraries (inv.fit libraries fits);
+      alike = told_both inv.alike c.in-Ok.ensures.alike;
       faults = c.in-Ok.ensures.cause ∙ inv.faults;
     }
 

@@ -6,6 +6,7 @@ use Rattle.mediation.specs.Libraries.{Libraries, graph_of}
 use Rattle.mediation.specs.Rows.{Adds, IsPicked, paths_of}
 use Rattle.winner_law.specs.Winners.{longer}
 use Rattle.mediation.proofs.Places.{Stands}
+use Rattle.mediation.specs.Telling.{TellsOn}
 use Rattle.mediation.proofs.levels.add_level.Given as goal
 
 -- what the rest of the level adds, the level adds
@@ -18,5 +19,6 @@ invariant-loop-place g l = record {
   versions : (libraries : Libraries) → g.L.Lookup.fits l.initial.lookup libraries → All (IsPicked libraries) l.initial.winners → All (IsPicked libraries) l.winners;
   before : (libraries : Libraries) → g.L.Lookup.fits l.initial.lookup libraries → All (IsPicked libraries) l.initial.winners → Stands l.initial.winners l.winners;
   fit : (libraries : Libraries) → g.L.Lookup.fits l.initial.lookup libraries → g.L.Lookup.fits l.lookup libraries;
+  alike : TellsOn g.L.Lookup.tells_same l.initial.lookup l.lookup;
   faults : g.L.Lookup.faults l.lookup ≡ g.L.Lookup.faults l.initial.lookup;
 }

@@ -1,6 +1,7 @@
 use Rattle.std.proofs.Common.{◌≤◌, [], length, refl, sym, subst, arith, ◌∙◌}
 use Rattle.mediation.specs.Libraries.{graph_of}
 use Rattle.mediation.proofs.Lengths.{IsUpTo, begun, ended, not_begun, not_turned, turned}
+use Rattle.mediation.proofs.Telling.{told_both}
 use Rattle.mediation.proofs.levels.find_winners.Goals as goal
 
 pub returns-in-Err-clause-resolves : goal.returns-in-Err-clause-resolves
@@ -14,6 +15,7 @@ loop-from-init g c = record {
       begun libraries (graph_of libraries c.args.managed.now c.args.direct.now) c.new-winners.result c.add_edges.new.winners c.in_ok-edges.edges c.new-winners.ensures c.in_ok-edges.ensures
       (c.in-Ok.ensures.adds libraries [] fits refl);
   fit = λ libraries fits. c.in-Ok.ensures.same libraries fits;
+  alike = c.in-Ok.ensures.alike;
   faults = c.in-Ok.ensures.cause;
 }
 
@@ -34,6 +36,7 @@ loop-from-preserved g c =
           (turned libraries (graph_of libraries c.args.managed.now c.args.direct.now) c.loop-from.winners c.add_level.new.winners c.loop-from.from stands
           (c.in-Ok-add_level.ensures.adds libraries c.args.direct.now (inv.fit libraries fits) stands.versions));
       fit = λ libraries fits. c.in-Ok-add_level.ensures.same libraries (inv.fit libraries fits);
+      alike = told_both inv.alike c.in-Ok-add_level.ensures.alike;
       faults = c.in-Ok-add_level.ensures.cause ∙ inv.faults;
     }
 

@@ -1,6 +1,7 @@
 use Rattle.std.proofs.Common.{◌≡◌, ◌-◌}
 use Rattle.mediation.specs.Libraries.{Libraries, graph_of}
 use Rattle.mediation.proofs.Lengths.{IsUpTo}
+use Rattle.mediation.specs.Telling.{TellsOn}
 use Rattle.mediation.proofs.levels.find_winners.Given as goal
 
 -- the winners up to some length stand, and those from a place on are of that length
@@ -9,6 +10,7 @@ invariant-loop-from g l = record {
   stand : (libraries : Libraries) → g.L.Lookup.fits l.fn.lookup libraries
       → IsUpTo libraries (graph_of libraries l.managed l.direct) l.winners l.from;
   fit : (libraries : Libraries) → g.L.Lookup.fits l.fn.lookup libraries → g.L.Lookup.fits l.lookup libraries;
+  alike : TellsOn g.L.Lookup.tells_same l.fn.lookup l.lookup;
   faults : g.L.Lookup.faults l.lookup ≡ g.L.Lookup.faults l.fn.lookup;
 }
 

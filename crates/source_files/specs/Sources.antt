@@ -1,6 +1,6 @@
 -- The sources of a project: the files below its folders, ascending by path, each once. Maven's Standard Directory Layout; POM Reference,
 -- "Directories" and "Resources"; the limits are project rules.
-use Rattle.std.specs.Prelude.{◌≡◌, ℕ, ◌+◌, ◌<◌, ◌≤◌, Bool, true, false, ◌||◌, nat_lt, List, [], ◌∷◌, ◌++◌, length, fold, Option, Some, None, option_map, Result, Ok, Err, if◌then◌else◌}
+use Rattle.std.specs.Prelude.{◌≡◌, ℕ, ◌+◌, ◌<◌, ◌≤◌, Bool, true, false, ◌||◌, nat_lt, List, [], ◌∷◌, ◌++◌, length, fold, map as map_list, Option, Some, None, option_map, Result, Ok, Err, if◌then◌else◌}
 use Rattle.std.specs.List.{filter_map, list_any}
 use Rattle.std.specs.FinMap as map
 use Rattle.mvn_shared.specs.Files.{Files, file_at, names_below}
@@ -50,6 +50,25 @@ are_long files folders = list_any (is_long files) folders || nat_lt most_files (
 unfoldable pub sources_of : Files → List (List ℕ) → Option (List SourceFile)
 sources_of files folders = if are_long files folders || nat_lt most_sources (sources_len (all_sources files folders)) then None else Some (all_sources files folders)
 
+-- ---- the sources of several modules, of each by its folders
+
+-- how many files and bytes they have together; a file of two modules counts twice
+abbrev pub files_count : Files → List (List (List ℕ)) → ℕ
+files_count files [] = 0
+files_count files (folders ∷ modules) = length (source_names files folders) + files_count files modules
+
+abbrev pub bytes_count : Files → List (List (List ℕ)) → ℕ
+bytes_count files [] = 0
+bytes_count files (folders ∷ modules) = sources_len (all_sources files folders) + bytes_count files modules
+
+abbrev pub are_many : Files → List (List (List ℕ)) → Bool
+are_many files modules =
+    list_any (are_long files) modules || (nat_lt most_files (files_count files modules) || nat_lt most_sources (bytes_count files modules))
+
+-- the sources of each; nothing where they are too many, or have too many bytes
+unfoldable pub sources_of_all : Files → List (List (List ℕ)) → Option (List (List SourceFile))
+sources_of_all files modules = if are_many files modules then None else Some (map_list (all_sources files) modules)
+
 -- ---- what calls give
 
 -- the tree failed
@@ -87,14 +106,46 @@ ReadsOne room before one now (Ok left) = now ≡ before ++ one
 ReadsOne room before one now (Err TooMany) = room < sources_len one
 ReadsOne room before one now (Err other) = Unit {0}
 
--- what reading the files gives: all of them, or too many bytes
-abbrev pub ReadsSources : List SourceFile → Result (List SourceFile) SourcesFault → Type 0
-ReadsSources all (Ok sources) = (sources ≡ all) × (sources_len sources ≤ most_sources)
-ReadsSources all (Err TooMany) = most_sources < sources_len all
-ReadsSources all (Err other) = Unit {0}
+-- what reading the files gives, of so much room: all of them, or too many bytes
+abbrev pub ReadsSources : (room : ℕ) → List SourceFile → Result (List SourceFile) SourcesFault → Type 0
+ReadsSources room all (Ok sources) = (sources ≡ all) × (sources_len sources ≤ room)
+ReadsSources room all (Err TooMany) = room < sources_len all
+ReadsSources room all (Err other) = Unit {0}
+
+-- the first of what a call gives
+abbrev pub first_of : {A B : Type 0} → Result (A × B) SourcesFault → Result A SourcesFault
+first_of (Ok both) = Ok both.0
+first_of (Err fault) = Err fault
 
 -- what reading the sources gives
 abbrev pub GivesSources : Files → List (List ℕ) → Result (List SourceFile) SourcesFault → Type 0
 GivesSources files folders (Ok sources) = sources_of files folders ≡ Some sources
 GivesSources files folders (Err TooMany) = sources_of files folders ≡ None
 GivesSources files folders (Err other) = Unit {0}
+
+-- too many for the room that is left
+abbrev pub exceed : Files → List (List ℕ) → (count room : ℕ) → Bool
+exceed files folders count room =
+    are_long files folders || (nat_lt count (length (source_names files folders)) || nat_lt room (sources_len (all_sources files folders)))
+
+-- what reading the sources of one more module gives, by the room for files and bytes before and after
+abbrev pub TakesRoom : Files → List (List ℕ) → (count room left_count left_room : ℕ) → Result (List SourceFile) SourcesFault → Type 0
+TakesRoom files folders count room left_count left_room (Ok sources) =
+    (sources ≡ all_sources files folders) × (are_long files folders ≡ false)
+    × (left_count + length (source_names files folders) ≡ count) × (left_room + sources_len sources ≡ room)
+TakesRoom files folders count room left_count left_room (Err TooMany) = exceed files folders count room ≡ true
+TakesRoom files folders count room left_count left_room (Err other) = Unit {0}
+
+-- so put to those of the modules before
+abbrev pub PutsSources : Files → List (List ℕ) → (count room left_count left_room : ℕ) → (before now : List (List SourceFile)) → Result (Unit {0}) SourcesFault → Type 0
+PutsSources files folders count room left_count left_room before now (Ok done) =
+    (now ≡ before ++ all_sources files folders ∷ []) × (are_long files folders ≡ false)
+    × (left_count + length (source_names files folders) ≡ count) × (left_room + sources_len (all_sources files folders) ≡ room)
+PutsSources files folders count room left_count left_room before now (Err TooMany) = exceed files folders count room ≡ true
+PutsSources files folders count room left_count left_room before now (Err other) = Unit {0}
+
+-- what reading the sources of all modules gives
+abbrev pub GivesAll : Files → List (List (List ℕ)) → Result (List (List SourceFile)) SourcesFault → Type 0
+GivesAll files modules (Ok sources) = sources_of_all files modules ≡ Some sources
+GivesAll files modules (Err TooMany) = sources_of_all files modules ≡ None
+GivesAll files modules (Err other) = Unit {0}

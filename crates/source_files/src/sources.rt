@@ -1,7 +1,7 @@
 // The sources of a project, read.
 ghost use Rattle.std.specs.Prelude.{◌≡◌, ◌+◌, [], ◌∷◌, IfSome, IfOk};
 ghost use Rattle.mvn_shared.specs.Cause.{HasCause};
-ghost use Rattle.source_files.specs.Sources.{GivesSources, ReadsOne, ReadsSources, sources_at, sources_failed, sources_len};
+ghost use Rattle.source_files.specs.Sources.{first_of, GivesSources, ReadsOne, ReadsSources, sources_at, sources_failed, sources_len};
 
 use crate::names::source_names;
 use goal_types::SourceFile;
@@ -57,26 +57,40 @@ fn push_source<T: Tree>(
     }
 }
 
-// The files of these names, with their bytes.
-fn read_sources<T: Tree>(
+/// The files of these names, with their bytes, and the room that they leave. Costs the files.
+pub(crate) fn read_sources<T: Tree>(
     alloc: Global,
     tree: &mut T,
     names: &[Text],
-) -> Result<List<SourceFile>, SourcesFault>
+    room: u64,
+) -> Result<(List<SourceFile>, u64), SourcesFault>
     ensures reads { IfSome (T.files tree.old) (λ files.
-        ReadsSources (sources_at files names.now) result) }
+        ReadsSources room (sources_at files names.now) (first_of result)) }
+    ensures left { IfOk result (λ read. read.1 + sources_len read.0 ≡ room) }
     ensures same { T.files tree.new ≡ T.files tree.old }
     ensures cause { HasCause (T.faults tree.old) (T.faults tree.new) (sources_failed result) }
 {
     let mut sources = List::new(alloc);
-    let mut room = MOST_SOURCES;
+    let mut left = room;
     for name in names {
-        match push_source(tree, name, room, &mut sources) {
-            Ok(left) => room = left,
+        match push_source(tree, name, left, &mut sources) {
+            Ok(rest) => left = rest,
             Err(fault) => return Err(fault),
         }
     }
-    Ok(sources)
+    Ok((sources, left))
+}
+
+// The files alone.
+fn sources_alone(
+    read: Result<(List<SourceFile>, u64), SourcesFault>,
+) -> Result<List<SourceFile>, SourcesFault>
+    ensures { result ≡ first_of read }
+{
+    match read {
+        Ok((sources, _)) => Ok(sources),
+        Err(fault) => Err(fault),
+    }
 }
 
 /// The files below the folders, each with its path and bytes, ascending by path, each once. At most 65,536 files of at most 256 MiB
@@ -92,7 +106,9 @@ pub fn project_sources<T: Tree>(
     ensures cause { HasCause (T.faults tree.old) (T.faults tree.new) (sources_failed result) }
 {
     match source_names(alloc, tree, folders) {
-        Ok(names) => read_sources(alloc, tree, names.as_slice()),
+        Ok(names) => {
+            sources_alone(read_sources(alloc, tree, names.as_slice(), MOST_SOURCES))
+        }
         Err(fault) => Err(fault),
     }
 }

@@ -13,9 +13,9 @@ returns-in-Err-clause-reads g c =
     let name = c.name-item.result in
     let now = c.push_source.new.sources in
     let told = g.T.Tree.files c.args.tree.now in
-    let one = subst (λ (t : Option Files). IfSome t (λ files. ReadsOne c.loop-name.room c.loop-name.sources (sources_at files (name ∷ [])) now (Err c.in-Err.fault))) inv.same c.in-Err.ensures.reads in
-    if_some_both (λ files. c.loop-name.sources ≡ sources_at files (take i names)) (λ files. ReadsOne c.loop-name.room c.loop-name.sources (sources_at files (name ∷ [])) now (Err c.in-Err.fault)) (λ files. ReadsSources (sources_at files names) (Err c.in-Err.fault)) told
-    (λ files so_far h. one_too_many files names i name c.loop-name.room c.loop-name.sources now c.in-Err.fault c.loop-name-test.true c.name-item.is so_far inv.left h)
+    let one = subst (λ (t : Option Files). IfSome t (λ files. ReadsOne c.loop-name.left c.loop-name.sources (sources_at files (name ∷ [])) now (Err c.in-Err.fault))) inv.same c.in-Err.ensures.reads in
+    if_some_both (λ files. c.loop-name.sources ≡ sources_at files (take i names)) (λ files. ReadsOne c.loop-name.left c.loop-name.sources (sources_at files (name ∷ [])) now (Err c.in-Err.fault)) (λ files. ReadsSources c.args.room (sources_at files names) (Err c.in-Err.fault)) told
+    (λ files so_far h. one_too_many files names i name c.loop-name.left c.loop-name.sources now c.in-Err.fault c.loop-name-test.true c.name-item.is c.args.room so_far inv.left h)
     inv.so_far one
 
 pub loop-name-preserved : goal.loop-name-preserved

@@ -1,0 +1,8 @@
+use Rattle.std.proofs.Common.{◌≡◌, drop, flat_map}
+use Rattle.std.specs.FinMap as finite
+use Rattle.plan_numbers.specs.Numbers.{with_texts}
+use Rattle.plan_numbers.specs.Ready.{ready_locks}
+use Rattle.plan_numbers.proofs.tables.all_locks.Given as goal
+
+abbrev pub invariant-loop-ready : goal.invariant-loop-ready
+invariant-loop-ready l = with_texts l.set (flat_map ready_locks (drop l.ready-index l.modules)) ≡ with_texts finite.empty (flat_map ready_locks l.modules)

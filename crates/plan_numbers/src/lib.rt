@@ -1,0 +1,17 @@
+//! The plan of the modules that are built: its names, files and entries by number.
+#![tactic(auto)]
+
+mod entries;
+mod files;
+mod numbers;
+mod outputs;
+mod places;
+mod ready;
+mod selected;
+mod tables;
+mod uses;
+mod winners;
+
+pub use numbers::Part;
+pub use ready::Ready;
+pub use selected::{Output, Planned, SelectedModule};

@@ -1,0 +1,48 @@
+// A module with what its numbers are made from.
+ghost use Rattle.std.specs.Prelude.{◌≡◌, map, IfOk};
+ghost use Rattle.mvn_base.specs.FileName.{IsValid};
+ghost use Rattle.plan_numbers.specs.Ready.{ready};
+
+use crate::outputs::outputs;
+use crate::places::Places;
+use crate::selected::{Output, SelectedModule};
+use crate::uses::{fetched_files, fetched_locks};
+use lifecycle::{GoalList, goals};
+use mvn_base::{FileName, Gav, Phase};
+use mvn_shared::{List, Mem, Text};
+use std::alloc::Global;
+
+/// A module, its goals, the files that are fetched for it with the locks that cover them, and its outputs.
+#[derive(Drop)]
+pub struct Ready {
+    pub selected: SelectedModule,
+    pub goals: GoalList,
+    pub fetch: List<FileName>,
+    pub locks: List<Text>,
+    pub outputs: List<Output>,
+}
+
+/// A module made ready. Costs its goals, and the names of its dependencies.
+pub(crate) fn made_ready(
+    alloc: Global,
+    phase: Phase,
+    built: &Places<Gav>,
+    selected: SelectedModule,
+) -> Mem<Ready>
+    requires names { IsValid selected.model.gav }
+    ensures { IfOk result (λ r. r ≡ ready phase built.now selected) }
+{
+    let goals = goals(alloc, &selected.model, phase)?;
+    let calls = goals.calls.as_slice();
+    let winners = selected.resolution.winners.as_slice();
+    let fetch = fetched_files(alloc, built, calls, winners)?;
+    let locks = fetched_locks(alloc, built, calls, winners)?;
+    let outputs = outputs(alloc, &selected.model)?;
+    Ok(Ready {
+        selected,
+        goals,
+        fetch,
+        locks,
+        outputs,
+    })
+}

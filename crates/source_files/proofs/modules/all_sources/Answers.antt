@@ -1,0 +1,41 @@
+use Rattle.std.proofs.Common.{◌+◌, List, ℕ, take, Option, Ok, Err, IfSome, subst, ◌∙◌}
+use Rattle.std.proofs.lemmas.List.{take_all}
+use Rattle.mvn_shared.specs.Files.{Files}
+use Rattle.source_files.specs.Sources.{GivesAll, PutsSources}
+use Rattle.source_files.proofs.SourcesRead.{IsSoFar, all_so_far, if_some_both, if_some_map, one_exceeds, one_so_far}
+use Rattle.source_files.proofs.modules.all_sources.Goals as goal
+
+pub returns-in-Err-clause-gives : goal.returns-in-Err-clause-gives
+returns-in-Err-clause-gives g c =
+    let inv = c.loop-folders.invariant in
+    let modules = c.args.modules.now in
+    let i = c.loop-folders.folders-index in
+    let folders = c.folders-item.result in
+    let puts = λ (l : List (List ℕ)) (files : Files). PutsSources files l c.loop-folders.count c.loop-folders.room c.push_sources.new.count c.push_sources.new.room c.loop-folders.list c.push_sources.new.list (Err c.in-Err.fault) in
+    let one = subst (λ (t : Option Files). IfSome t (puts folders)) inv.same (subst (λ (l : List (List ℕ)). IfSome (g.T.Tree.files c.loop-folders.tree) (puts l)) c.as_slice.ensures c.in-Err.ensures.puts) in
+    if_some_both (λ files. IsSoFar files (take i modules) c.loop-folders.list c.loop-folders.count c.loop-folders.room) (puts folders) (λ files. GivesAll files modules (Err c.in-Err.fault)) (g.T.Tree.files c.args.tree.now)
+    (λ files so h. one_exceeds files modules i folders c.loop-folders.list c.loop-folders.count c.loop-folders.room c.push_sources.new.count c.push_sources.new.room c.in-Err.fault c.loop-folders-test.true c.folders-item.is so c.push_sources.new.list h)
+    inv.so_far one
+
+pub loop-folders-preserved : goal.loop-folders-preserved
+loop-folders-preserved g c =
+    let inv = c.loop-folders.invariant in
+    let modules = c.args.modules.now in
+    let i = c.loop-folders.folders-index in
+    let folders = c.folders-item.result in
+    let puts = λ (l : List (List ℕ)) (files : Files). PutsSources files l c.loop-folders.count c.loop-folders.room c.push_sources.new.count c.push_sources.new.room c.loop-folders.list c.push_sources.new.list (Ok tt) in
+    let one = subst (λ (t : Option Files). IfSome t (puts folders)) inv.same (subst (λ (l : List (List ℕ)). IfSome (g.T.Tree.files c.loop-folders.tree) (puts l)) c.as_slice.ensures c.in-Ok.ensures.puts) in
+    record {
+      so_far = if_some_both (λ files. IsSoFar files (take i modules) c.loop-folders.list c.loop-folders.count c.loop-folders.room) (puts folders) (λ files. IsSoFar files (take (i + 1) modules) c.push_sources.new.list c.push_sources.new.count c.push_sources.new.room) (g.T.Tree.files c.args.tree.now)
+          (λ files so h. one_so_far files modules i folders c.loop-folders.list c.push_sources.new.list c.loop-folders.count c.loop-folders.room c.push_sources.new.count c.push_sources.new.room c.loop-folders-test.true c.folders-item.is so h)
+          inv.so_far one;
+      same = c.in-Ok.ensures.same ∙ inv.same;
+      quiet = c.in-Ok.ensures.cause ∙ inv.quiet;
+    }
+
+pub returns-clause-gives : goal.returns-clause-gives
+returns-clause-gives g c =
+    let all = take_all c.loop-folders.folders-index c.args.modules.now c.loop-folders-test.false in
+    if_some_map (λ files. IsSoFar files (take c.loop-folders.folders-index c.args.modules.now) c.loop-folders.list c.loop-folders.count c.loop-folders.room) (λ files. GivesAll files c.args.modules.now (Ok c.loop-folders.list)) (g.T.Tree.files c.args.tree.now)
+    (λ files so. all_so_far files c.args.modules.now c.loop-folders.list c.loop-folders.count c.loop-folders.room (subst (λ (l : List (List (List ℕ))). IsSoFar files l c.loop-folders.list c.loop-folders.count c.loop-folders.room) all so))
+    c.loop-folders.invariant.so_far

@@ -1,0 +1,2 @@
+pub use Rattle.reactor_order.specs.Keep
+pub use Rattle.reactor_order.specs.Select

@@ -1,0 +1,5 @@
+pub mod Joining
+pub mod Keeping
+pub mod Listed
+pub mod Modules
+pub mod Running

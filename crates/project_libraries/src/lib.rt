@@ -1,0 +1,14 @@
+//! What the modules of a project are built with: the libraries that a run knows, and the resolution of each module's dependencies
+//! among them.
+#![tactic(auto)]
+
+mod known;
+mod listing;
+mod memo;
+mod resolving;
+mod run_lookup;
+mod versions;
+mod winners;
+
+pub use resolving::resolve_modules;
+pub use winners::winner_gavs;

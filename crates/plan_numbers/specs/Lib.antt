@@ -7,3 +7,4 @@ pub mod Uses
 pub mod Numbers
 pub mod Plans
 pub mod Ready
+pub mod Parts

@@ -5,6 +5,7 @@ mod entries;
 mod files;
 mod numbers;
 mod outputs;
+mod parts;
 mod places;
 mod ready;
 mod selected;
@@ -13,5 +14,6 @@ mod uses;
 mod winners;
 
 pub use numbers::Part;
+pub use parts::Parts;
 pub use ready::Ready;
 pub use selected::{Output, Planned, SelectedModule};

@@ -8,3 +8,4 @@ pub mod Numbers
 pub mod Plans
 pub mod Ready
 pub mod Parts
+pub mod Whole

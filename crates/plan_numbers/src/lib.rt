@@ -11,9 +11,11 @@ mod ready;
 mod selected;
 mod tables;
 mod uses;
+mod whole;
 mod winners;
 
 pub use numbers::Part;
 pub use parts::Parts;
 pub use ready::Ready;
 pub use selected::{Output, Planned, SelectedModule};
+pub use whole::{Numbered, number_modules};

@@ -1,22 +1,20 @@
 -- Whose a file is: what is fetched for a module, and what it is installed as.
-use Rattle.std.proofs.Common.{◌≡◌, ◌⊎◌, inl, inr, ℕ, Bool, true, false, not, ◌&&◌, ◌||◌, ◌==◌, List, [], ◌∷◌, ◌++◌, codes, map, filter, flat_map, refl, sym, ap, subst, ◌∙◌, append_assoc, if◌then◌else◌}
-use Rattle.std.specs.Cmp.Lexicographic.{pointwise}
+use Rattle.std.proofs.Common.{◌≡◌, ◌⊎◌, inl, inr, ℕ, Bool, true, false, not, ◌&&◌, List, [], ◌∷◌, ◌++◌, codes, map, filter, flat_map, refl, sym, ap, subst, ◌∙◌, append_assoc, if◌then◌else◌}
 use Rattle.std.specs.Str.{bytes_eq}
 use Rattle.std.proofs.lemmas.Bool.{false≢true}
 use Rattle.std.proofs.lemmas.List.{append_cancel_left}
 use Rattle.std.proofs.lemmas.Slice.Eq.{bytes_eq-Decides}
 use Rattle.mvn_base.specs.FileName.{IsValid, artifact_folder, classifier_part, file_name, is_classifier}
 use Rattle.mvn_base.specs.Gav.{lock_name}
-use Rattle.mvn_base.specs.Names.{is_filled, is_group, is_name, is_name_byte, is_version}
+use Rattle.mvn_base.specs.Names.{is_group, is_name, is_name_byte, is_version}
 use Rattle.mvn_base.specs.Types.{is_jar, type_rule}
 use Rattle.mvn_base.specs.declared.gav.Gav.{Gav}
 use Rattle.coordinate_laws.specs.Apart.{IsFileOf}
-use Rattle.classpaths.specs.Classpaths.{HasNames, artifact_file, classifier_of, files_of, pom_file, with_name}
+use Rattle.classpaths.specs.Classpaths.{HasNames, artifact_file, classifier_of, files_of, pom_file}
 use Rattle.classpaths.specs.declared.resolution.Resolved.{Resolved}
 use Rattle.classpaths.proofs.Valid.{classifier_named, extension_named}
 use Rattle.model_types.specs.declared.model.Model.{Model}
-use Rattle.goal_types.specs.declared.goal.Slot.TheVariants as slots
-use Rattle.plan_numbers.specs.Outputs.{attached, has_main, is_pom, main_extension, main_output, output, outputs}
+use Rattle.plan_numbers.specs.Outputs.{attached, has_main, is_pom, main_extension, main_output, outputs}
 use Rattle.plan_numbers.specs.Uses.{fetched_files, fetched_locks, has_names, is_selected, used_by, needs_path}
 use Rattle.plan_numbers.specs.declared.selected.Output.{Output}
 use Rattle.goal_types.specs.declared.goal.GoalCall.{GoalCall}

@@ -1,11 +1,9 @@
 -- A module of a plan is sound.
-use Rattle.std.proofs.Common.{◌≡◌, ◌⊎◌, inl, inr, ◌<◌, ℕ, Bool, true, false, not, ◌==◌, List, [], ◌∷◌, ◌++◌, filter, filter_map, flat_map, fold, length, map, nat_eq, nat_lt, slice_get, Option, Some, None, is_some, unwrap_or, refl, sym, ap, subst, ◌∙◌, lt-ltb, if◌then◌else◌}
-use Rattle.std.specs.List.{IsDistinct, list_all}
+use Rattle.std.proofs.Common.{◌≡◌, ◌⊎◌, inl, inr, ◌<◌, ℕ, Bool, true, false, List, [], ◌∷◌, ◌++◌, filter, fold, length, map, nat_eq, nat_lt, Option, Some, None, is_some, unwrap_or, refl, sym, ap, subst, if◌then◌else◌}
+use Rattle.std.specs.List.{IsDistinct}
 use Rattle.std.proofs.lemmas.Bool.{false≢true}
 use Rattle.mvn_base.specs.Gav.{lock_name}
-use Rattle.mvn_base.specs.declared.gav.Gav.{Gav}
 use Rattle.mvn_base.specs.declared.phase.Phase.{Phase}
-use Rattle.goal_types.specs.declared.goal.GoalCall.{GoalCall}
 use Rattle.goal_types.specs.declared.goal.Slot.{Slot}
 use Rattle.goal_types.specs.declared.goal.Slot.TheVariants as slots
 use Rattle.model_types.specs.declared.model.Model.{Model}
@@ -34,7 +32,7 @@ use Rattle.plan_law.proofs.FileNames.{artifact_in, in_fetched, name_of, outputs_
 use Rattle.plan_law.proofs.Gavs.{gav_decides}
 use Rattle.plan_law.proofs.Goals.{goals_are_calls}
 use Rattle.plan_law.proofs.Keys.{places_climb}
-use Rattle.plan_law.proofs.Members.{Apart, IsIn, all_pass, apart_map, at_map, each_passes, from_filter, from_filter_map, from_map, in_either, in_to, listed_in, numbers_apart, passing}
+use Rattle.plan_law.proofs.Members.{IsIn, all_pass, apart_map, at_map, each_passes, from_filter, from_filter_map, from_map, in_either, in_to, listed_in, numbers_apart, passing}
 use Rattle.plan_law.proofs.Numbered.{all_below, fetch_apart, fetch_file, fetch_lock, name_listed, names_climb, number_below, own_lock, own_name, same_number}
 use Rattle.plan_law.proofs.Places.{place_at}
 use Rattle.plan_law.proofs.Texts.{ascending_climb}

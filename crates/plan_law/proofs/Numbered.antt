@@ -1,6 +1,5 @@
 -- The numbers of a plan: what they are of, and that they are in range.
-use Rattle.std.proofs.Common.{◌≡◌, ◌⊎◌, inl, inr, ◌<◌, ℕ, Bool, true, false, List, [], ◌∷◌, ◌++◌, flat_map, length, map, nat_lt, slice_get, Some, refl, sym, ap, subst, ◌∙◌, lt-ltb}
-use Rattle.std.specs.List.{list_any}
+use Rattle.std.proofs.Common.{◌≡◌, inl, inr, ◌<◌, ℕ, true, false, List, [], flat_map, length, map, nat_lt, refl, ap, subst, ◌∙◌, lt-ltb}
 use Rattle.std.specs.Str.{bytes_eq}
 use Rattle.std.proofs.lemmas.Slice.Eq.{bytes_eq-Decides}
 use Rattle.mvn_base.specs.Gav.{lock_name}
@@ -8,7 +7,7 @@ use Rattle.mvn_base.specs.FileName.{IsValid}
 use Rattle.mvn_base.specs.declared.gav.Gav.{Gav}
 use Rattle.mvn_base.specs.declared.phase.Phase.{Phase}
 use Rattle.coordinate_laws.specs.Apart.{IsFileOf}
-use Rattle.classpaths.specs.Classpaths.{HasNames, gav_eq}
+use Rattle.classpaths.specs.Classpaths.{gav_eq}
 use Rattle.classpaths.specs.Classpaths.{files_of as winner_files}
 use Rattle.classpaths.specs.declared.resolution.Resolved.{Resolved}
 use Rattle.build_core.specs.declared.plan.OwnFile.{OwnFile}
@@ -19,11 +18,10 @@ use Rattle.plan_numbers.specs.Numbers.{fetch_locks, fetch_names, files_of, locks
 use Rattle.plan_numbers.specs.Outputs.{outputs}
 use Rattle.plan_numbers.specs.Plans.{own_file}
 use Rattle.plan_numbers.specs.Uses.{calls, gavs, is_selected, used}
-use Rattle.plan_numbers.specs.declared.selected.Output.{Output}
 use Rattle.plan_numbers.specs.declared.selected.SelectedModule.{SelectedModule}
 use Rattle.plan_law.proofs.FileNames.{fetched_from, file_of_winner, name_of, output_of, used_in}
 use Rattle.plan_law.proofs.Gavs.{gav_decides}
-use Rattle.plan_law.proofs.Members.{Apart, IsIn, all_pass, at_in, from_map, in_flat, in_left, in_listed, in_map, in_right, listed_in, some_passes}
+use Rattle.plan_law.proofs.Members.{Apart, IsIn, all_pass, from_map, in_flat, in_left, in_listed, in_map, in_right, listed_in, some_passes}
 use Rattle.plan_law.proofs.Places.{one_place, place_below}
 use Rattle.plan_law.proofs.Texts.{ascending_climb, fold_apart, in_ascending, in_fold}
 

@@ -1,5 +1,5 @@
 -- The place at which an item stands first.
-use Rattle.std.proofs.Common.{◌≡◌, ◌≢◌, ◌⊎◌, inl, inr, ◌<◌, ◌+◌, ℕ, zero, suc, Bool, true, false, not, List, [], ◌∷◌, Option, Some, None, is_some, unwrap_or, map, length, slice_get, refl, sym, ap, subst, ◌∙◌, arith, if◌then◌else◌, Decides}
+use Rattle.std.proofs.Common.{◌≡◌, ◌⊎◌, inl, inr, ◌<◌, ◌+◌, ℕ, zero, suc, Bool, true, false, not, List, [], ◌∷◌, Some, is_some, unwrap_or, length, slice_get, refl, sym, ap, subst, ◌∙◌, arith, if◌then◌else◌, Decides}
 use Rattle.std.specs.List.{position_or_len}
 use Rattle.std.proofs.lemmas.Bool.{false≢true}
 use Rattle.plan_law.proofs.Members.{Apart, IsIn, at_in}

@@ -1,5 +1,5 @@
 -- Texts in ascending order, and files by their first mention: the members of both.
-use Rattle.std.proofs.Common.{◌≡◌, ◌⊎◌, inl, inr, ℕ, Bool, true, false, List, [], ◌∷◌, ◌++◌, is_some, Some, None, cond, fold, refl, sym, ap, subst, ◌∙◌, if◌then◌else◌}
+use Rattle.std.proofs.Common.{◌≡◌, ◌⊎◌, inl, inr, ℕ, Bool, true, false, List, [], ◌∷◌, ◌++◌, is_some, Some, cond, fold, refl, sym, ap, subst, ◌∙◌, if◌then◌else◌}
 use Rattle.std.specs.List.{list_any}
 use Rattle.std.specs.Ordering.{nat_cmp, eq_by_cmp}
 use Rattle.std.specs.Str.{bytes_eq}
@@ -15,7 +15,7 @@ use Rattle.plan_numbers.specs.Numbers.{ascending, with_text, with_texts}
 use Rattle.plan_law.proofs.Gavs.{left_of, right_of}
 use Rattle.plan_law.proofs.Keys.{key_in, keys_climb, tied, tied_self}
 use Rattle.plan_law.proofs.Members.{Apart, IsIn, apart_push, in_either, in_left, in_right, passing, some_passes}
-use Rattle.std.proofs.Common.{nat_eq, ◌&&◌, eqb-true}
+use Rattle.std.proofs.Common.{nat_eq, eqb-true}
 
 abbrev has_key : Files → List ℕ → Bool
 has_key texts x = is_some (finite.get texts x)

@@ -1,6 +1,5 @@
 -- The plan of modules in the order of the build is sound.
-use Rattle.std.proofs.Common.{◌≡◌, ◌⊎◌, inl, inr, ◌<◌, ◌≤◌, ◌+◌, ℕ, zero, suc, Bool, true, false, List, [], ◌∷◌, find, flat_map, get_or, length, map, slice_get, Option, Some, None, Result, Ok, Err, is_some, is_ok, codes, nat_lt, ltb-false, if◌then◌else◌, refl, sym, ap, subst, ◌∙◌, arith, le_of_eq}
-use Rattle.std.specs.List.{IsDistinct}
+use Rattle.std.proofs.Common.{◌≡◌, ◌<◌, ◌≤◌, ◌+◌, ℕ, zero, suc, Bool, true, false, List, [], ◌∷◌, find, flat_map, get_or, length, map, slice_get, Option, Some, None, Ok, Err, is_ok, codes, nat_lt, ltb-false, if◌then◌else◌, refl, sym, ap, subst, ◌∙◌, arith, le_of_eq}
 use Rattle.std.proofs.lemmas.Bool.{false≢true, true≢false}
 use Rattle.mvn_shared.specs.Files.{Files}
 use Rattle.mvn_base.specs.Gav.{lock_name}
@@ -10,14 +9,12 @@ use Rattle.coordinate_laws.specs.Apart.{IsFileOf}
 use Rattle.coordinate_laws.proofs.Coordinates.{one_of_a_file}
 use Rattle.classpaths.specs.Classpaths.{files_of as winner_files}
 use Rattle.classpaths.specs.declared.resolution.Resolved.{Resolved}
-use Rattle.build_core.specs.declared.plan.Plan.{Plan}
 use Rattle.build_core.specs.declared.plan.PlanModule.{PlanModule}
 use Rattle.event_core.specs.Bounds.{total}
 use Rattle.event_core.specs.Outlines.{is_listed, module_outline, outline_of}
 use Rattle.event_core.specs.Sound.{IsSound, IsSoundModule}
 use Rattle.event_core.specs.SoundPlans.{IsSoundPlan, IsSoundPlanModule, greatest_events, is_own, same_text}
-use Rattle.event_core.specs.declared.outline.ModuleOutline.{ModuleOutline}
-use Rattle.plan_numbers.specs.Numbers.{fetch_locks, fetch_names, number_of, numbers_of, plan_files, plan_names}
+use Rattle.plan_numbers.specs.Numbers.{fetch_locks, number_of, numbers_of, plan_files, plan_names}
 use Rattle.plan_numbers.specs.Plans.{IsNumbered, all_events, events_of, is_present, module_of, most_events, numbered, plan_modules, plan_with, planned_with, present_in, root_id}
 use Rattle.plan_numbers.specs.Uses.{calls, fetched_locks, gavs, is_selected, used}
 use Rattle.plan_numbers.specs.declared.selected.SelectedModule.{SelectedModule}
@@ -26,7 +23,7 @@ use Rattle.pom_source.specs.Answers.{Built}
 use Rattle.pom_source.specs.Refusals.{text_refused}
 use Rattle.mvn_base.specs.declared.rule.Rule.TheVariants.{GraphTooLarge}
 use Rattle.run_law.specs.Given.{IsPresent}
-use Rattle.plan_law.specs.Ready.{AreOrdered, IsPlaced}
+use Rattle.plan_law.specs.Ready.{AreOrdered}
 use Rattle.plan_law.proofs.FileNames.{file_of_winner, in_fetched, lock_in, used_in}
 use Rattle.plan_law.proofs.Members.{IsIn, at_in, at_map, distinct_of, find_in, finds, from_flat, in_flat}
 use Rattle.plan_law.proofs.Modules.{batch_below, batch_climbs, fetch_below, own_below, own_lock_below, planned, reads_below, sound_module}

@@ -1,10 +1,10 @@
 -- The example: `app` depends on its sister `lib` and on `web`.
-use Rattle.std.proofs.Common.{◌≡◌, ◌⊎◌, inl, inr, ◌≤◌, ℕ, zero, suc, true, false, List, [], ◌∷◌, ◌++◌, codes, flat_map, map, slice_get, Contains, Option, Some, None, is_some, unwrap_or, refl, sym, ap, subst, ◌∙◌, arith}
+use Rattle.std.proofs.Common.{◌≡◌, inl, inr, ℕ, zero, suc, true, false, List, [], ◌∷◌, ◌++◌, codes, flat_map, slice_get, Option, Some, None, is_some, unwrap_or, refl, sym, ap, subst, ◌∙◌, arith}
 use Rattle.std.specs.Str.{bytes_eq}
 use Rattle.std.proofs.lemmas.Bool.{false≢true}
 use Rattle.std.proofs.lemmas.Slice.Eq.{bytes_eq-Decides}
-use Rattle.mvn_base.specs.FileName.{IsValid, file_name}
-use Rattle.mvn_base.specs.Gav.{gav_text, lock_name}
+use Rattle.mvn_base.specs.FileName.{IsValid}
+use Rattle.mvn_base.specs.Gav.{gav_text}
 use Rattle.mvn_base.specs.Names.{is_group, is_name, is_name_byte, is_version, is_version_byte}
 use Rattle.mvn_base.specs.declared.gav.Gav.{Gav}
 use Rattle.mvn_base.specs.declared.phase.Phase.TheVariants.{Compile}
@@ -14,15 +14,8 @@ use Rattle.lifecycle.specs.Bindings.{bindings_of}
 use Rattle.lifecycle.specs.Goals.{calls_through}
 use Rattle.mvn_base.specs.Phase.{phase_number}
 use Rattle.event_core.specs.Outlines.{is_listed}
-use Rattle.plan_numbers.specs.Numbers.{ascending, fetch_names, locks_of, numbers_of, plan_files, plan_names}
-use Rattle.plan_numbers.specs.Outputs.{outputs}
-use Rattle.plan_numbers.specs.Plans.{entries_of}
-use Rattle.build_core.specs.declared.plan.Entry.{Entry}
-use Rattle.build_core.specs.declared.plan.Origin.{Origin}
-use Rattle.build_core.specs.declared.plan.Origin.TheVariants as origin
-use Rattle.goal_types.specs.declared.goal.Slot.TheVariants as slots
-use Rattle.mvn_base.specs.Types.{type_rule}
-use Rattle.plan_numbers.specs.Uses.{gavs, used}
+use Rattle.plan_numbers.specs.Numbers.{ascending, locks_of, plan_names}
+use Rattle.plan_numbers.specs.Uses.{gavs}
 use Rattle.plan_numbers.specs.declared.selected.SelectedModule.{SelectedModule}
 use Rattle.plan_law.specs.Example.{app, lib, named, winner}
 use Rattle.plan_law.specs.Ready.{AreOrdered, IsPlaced}

@@ -1,5 +1,5 @@
 -- One answer each.
-use Rattle.std.proofs.Common.{◌≡◌, ◌⊎◌, ◌↔◌, inl, inr, ℕ, Bool, true, false, List, [], ◌∷◌, ◌++◌, filter, Option, refl, sym, ap, ◌∙◌, if◌then◌else◌}
+use Rattle.std.proofs.Common.{◌≡◌, ◌⊎◌, inl, inr, ℕ, Bool, true, false, List, [], ◌∷◌, ◌++◌, filter, Option, refl, sym, ap, ◌∙◌, if◌then◌else◌}
 use Rattle.reactor_order.specs.Graph.{Edges}
 use Rattle.reactor_order.specs.Keep.{Closes, Keeps}
 use Rattle.reactor_order.specs.Select.{Selects, from_on}

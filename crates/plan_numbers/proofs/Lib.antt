@@ -1,5 +1,6 @@
 pub mod Filed
 pub mod FirstPlaces
+pub mod Joined
 pub mod Lists
 pub mod Naming
 pub mod Walks

@@ -7,3 +7,5 @@ pub mod Uses
 pub mod Numbers
 pub mod Plans
 pub mod Ready
+pub mod Parts
+pub mod Whole

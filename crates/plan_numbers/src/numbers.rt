@@ -156,8 +156,8 @@ fn assembled(gav: Gav, numbers: Numbers, ready: Ready, count: usize) -> Part
     }
 }
 
-// A copy of coordinates.
-fn copy_of(gav: &Gav) -> Mem<Gav>
+/// A copy of coordinates. Costs their length.
+pub(crate) fn copy_of(gav: &Gav) -> Mem<Gav>
     ensures { IfOk result (λ copy. copy ≡ gav.now) }
 {
     Ok(gav.clone()?)

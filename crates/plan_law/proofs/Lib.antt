@@ -1,0 +1,12 @@
+pub mod FileNames
+pub mod Gavs
+pub mod Goals
+pub mod Keys
+pub mod Members
+pub mod Modules
+pub mod Numbered
+pub mod Ones
+pub mod Places
+pub mod Texts
+pub mod Whole
+pub mod Worked

@@ -1,0 +1,49 @@
+ghost use Rattle.std.specs.Prelude.{◌≡◌, ℕ, [], ◌∷◌, Ok, codes, Contains};
+ghost use Rattle.std.specs.Prelude.{List as Items};
+ghost use Rattle.mvn_shared.specs.Files.{Files};
+ghost use Rattle.mvn_base.specs.declared.phase.Phase as phases;
+ghost use Rattle.event_core.specs.Bounds.{total};
+ghost use Rattle.event_core.specs.SoundPlans.{IsSoundPlan, greatest_events};
+ghost use Rattle.plan_numbers.specs.declared.selected.SelectedModule as selected;
+ghost use Rattle.plan_numbers.specs.declared.selected.Planned as planned;
+ghost use Rattle.run_law.specs.Given.{IsPresent};
+ghost use Rattle.mvn_base.specs.declared.phase.Phase.TheVariants.{Compile};
+ghost use Rattle.event_core.specs.SoundPlans.{TextsClimb};
+ghost use Rattle.plan_numbers.specs.Numbers.{ascending, plan_names};
+ghost use Rattle.plan_numbers.specs.Plans.{IsNumbered, numbered};
+ghost use Rattle.plan_law.specs.Ready.{AreOrdered};
+ghost use Rattle.plan_law.specs.Example.{app, lib};
+
+/// A law of plans: what is numbered of modules in the order of the build is a sound plan; its list of what is there says so of the local
+/// repository at the start; and its bound of events is the sum over its modules. Does nothing. Project rule.
+pub fn planned_is_sound()
+    ensures numbered { (phase : phases.Phase) (workers : ℕ) (local : Files)
+        (modules : Items selected.SelectedModule) (p : planned.Planned)
+        → numbered phase workers local modules ≡ Ok p → IsNumbered phase workers modules p }
+    ensures sound { (phase : phases.Phase) (workers : ℕ)
+        (modules : Items selected.SelectedModule) (p : planned.Planned)
+        → IsNumbered phase workers modules p → AreOrdered workers modules → IsSoundPlan p.plan }
+    ensures present { (phase : phases.Phase) (workers : ℕ) (local : Files)
+        (modules : Items selected.SelectedModule) (p : planned.Planned)
+        → numbered phase workers local modules ≡ Ok p → IsPresent p.plan local }
+    ensures events { (phase : phases.Phase) (workers : ℕ)
+        (modules : Items selected.SelectedModule) (p : planned.Planned)
+        → IsNumbered phase workers modules p
+        → p.plan.events ≡ total greatest_events p.plan.modules }
+{}
+
+/// The names of a plan are the one list that ascends and has these texts. Does nothing. Resolver, "Named Locks".
+pub fn one_ascending()
+    ensures ascends { (texts : Items (Items ℕ)) → TextsClimb (ascending texts) }
+    ensures one { (texts list : Items (Items ℕ)) → TextsClimb list
+        → ((x : Items ℕ) → Contains list x → Contains texts x)
+        → ((x : Items ℕ) → Contains texts x → Contains list x) → ascending texts ≡ list }
+{}
+
+/// An example: `app` depends on its sister `lib`, which is built before it, and on `web`, which is fetched. They are in the order of the
+/// build, and their plan locks the names of all three. Does nothing.
+pub fn two_modules()
+    ensures ordered { AreOrdered 2 (lib ∷ app ∷ []) }
+    ensures names { plan_names Compile (lib ∷ app ∷ [])
+        ≡ codes "artifact:g:app:1" ∷ codes "artifact:g:lib:1" ∷ codes "artifact:g:web:1" ∷ [] }
+{}

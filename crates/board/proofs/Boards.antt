@@ -13,7 +13,7 @@ use Rattle.event_core.specs.declared.entry.Carried.TheVariants as carried
 use Rattle.event_core.specs.declared.entry.RunEntry.{RunEntry}
 use Rattle.event_core.specs.declared.outline.Outline.{Outline}
 use Rattle.board.specs.Builds.{AreCaused}
-use Rattle.board.specs.Keeping.{IsBoard, is_plain, log_by, publish_count}
+use Rattle.board.specs.Keeping.{IsBoard, Room, is_plain, log_by, publish_count}
 use Rattle.board.specs.Logs.{is_shelf_end, marked, published_since, shelf_endings, told_after}
 use Rattle.board.proofs.Logs.{answers_append, answers_same, endings_one, entry, none_counted, one_of, plain_more, publishes_append, told_same}
 
@@ -37,7 +37,7 @@ not_empty xs x e = let n = ap length e in let m = length-append xs (x ∷ []) in
 
 -- ---- an event that carries nothing
 
-module _ {S : Type 0} (told : S → Option ShelfTold) (faults : S → ℕ) (plan : Plan) (core : Outline × List Event) (opening shelf : S) (answers : List Answered) (marks : List Bool) (room : ℕ)
+module _ {S : Type 0} (told : S → Option ShelfTold) (faults : S → ℕ) (plan : Plan) (core : Outline × List Event) (opening shelf : S) (answers : List Answered) (marks : List Bool) (room : Room)
     (board : IsBoard told faults plan core opening shelf answers marks room) (e : Event) (plain : is_plain e ≡ true) where
   abbrev log : List RunEntry
   log = log_by (told opening) (told shelf) answers core.1
@@ -61,6 +61,9 @@ module _ {S : Type 0} (told : S → Option ShelfTold) (faults : S → ℕ) (plan
     kept = board.kept ∙ sym (answers_same plan log e) ∙ ap (answers_in plan) (sym log_more);
     workers = long ∙ board.workers;
     roomy = board.roomy;
+    goals = board.goals;
+    states = board.states;
+    present = board.present;
     caused = subst (λ t. AreCaused (told opening) (faults opening) (faults shelf) t then_marks) (sym log_more)
         (caused_less (told opening) (faults opening) (faults shelf) log (log ++ entry e carried.Nothing ∷ []) marks then_marks (omega (arith, endings_one log e carried.Nothing, less)) board.caused);
     untouched = λ none. absurd (not_empty core.1 e none);

@@ -1,4 +1,10 @@
+mod AnswerMore
 mod Boards
+mod Carries
+mod DueReads
 mod Logs
 mod Shelves
+mod StateLists
 mod Steps
+mod Telling
+mod Theres

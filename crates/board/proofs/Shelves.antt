@@ -1,13 +1,16 @@
 -- A board whose repository was asked.
-use Rattle.std.proofs.Common.{◌≡◌, ℕ, suc, ◌+◌, ◌<◌, Bool, true, List, [], ◌∷◌, ◌++◌, length, drop, set, Option, Some, None, IfSome, is_some, Err, refl, arith, sym, ap, subst, ◌∙◌}
+use Rattle.std.proofs.Common.{◌≡◌, ℕ, suc, ◌+◌, ◌<◌, ◌⊎◌, inl, inr, Bool, true, false, List, [], ◌∷◌, ◌++◌, length, drop, set, Option, Some, None, IfSome, is_some, Ok, Err, refl, arith, sym, ap, subst, ◌∙◌}
 use Rattle.std.proofs.lemmas.Bool.{false≢true}
 use Rattle.std.proofs.lemmas.List.{append-nil, append_assoc, length-append, length-set}
 use Rattle.mvn_shared.specs.Cause.{HasCause, HasRisen}
-use Rattle.mvn_outside.specs.Faults.{device_failed}
+use Rattle.mvn_outside.specs.Faults.{device_failed, read_failed}
+use Rattle.mvn_outside.specs.declared.fault.ReadFault.{ReadFault}
+use Rattle.mvn_outside.specs.declared.fault.ReadFault.TheVariants as fault
 use Rattle.mvn_outside.specs.declared.fault.DeviceFault.{DeviceFault}
 use Rattle.mvn_outside.specs.declared.fault.DeviceFault.TheVariants as device
 use Rattle.mvn_outside.specs.Pieces.{Contents}
-use Rattle.mvn_outside.specs.Shelf.{Publishes as ShelfPublishes}
+use Rattle.mvn_shared.specs.Files.{file_at}
+use Rattle.mvn_outside.specs.Shelf.{Publishes as ShelfPublishes, files_now}
 use Rattle.mvn_outside.specs.declared.shelf.Published.{Published}
 use Rattle.mvn_outside.specs.declared.shelf.ShelfTold.{ShelfTold}
 use Rattle.build_core.specs.OneThread.{name_of}
@@ -26,10 +29,10 @@ use Rattle.event_core.specs.declared.entry.RunEntry.{RunEntry}
 use Rattle.event_core.specs.declared.outline.Outline.{Outline}
 use Rattle.event_core.proofs.Ties.{any_idle}
 use Rattle.run_law.proofs.Kept.{answers_more}
-use Rattle.board.specs.Builds.{AreCaused, Build, Publishes}
-use Rattle.board.specs.Keeping.{IsBoard, log_by, publish_count}
+use Rattle.board.specs.Builds.{AreCaused, Build, Publishes, has_failed}
+use Rattle.board.specs.Keeping.{IsBoard, Room, log_by, publish_count}
 use Rattle.board.specs.Logs.{log_of, marked, published_since, publishes_in, shelf_endings, told_after}
-use Rattle.board.proofs.Boards.{caused_less, marked_set, not_empty, rose_less, rose_more}
+use Rattle.board.proofs.Boards.{caused_less, event_board, log_more, marked_set, not_empty, rose_less, rose_more}
 use Rattle.board.proofs.Logs.{answers_append, endings_one, entry, publish_more, publishes_append, publishes_one, untold_more}
 
 -- ---- lists
@@ -44,7 +47,7 @@ caused_more None before now later w log marks caused risen = tt
 caused_more (Some t) before now later w log marks caused risen =
     rose_less (suc (shelf_endings log + marked marks)) (shelf_endings log + marked (set marks w true)) before later (omega (arith, marked_set marks w)) (rose_more (shelf_endings log + marked marks) before now later caused risen)
 
-module _ {S : Type 0} (told : S → Option ShelfTold) (faults : S → ℕ) (plan : Plan) (core : Outline × List Event) (opening shelf : S) (answers : List Answered) (marks : List Bool) (room : ℕ)
+module _ {S : Type 0} (told : S → Option ShelfTold) (faults : S → ℕ) (plan : Plan) (core : Outline × List Event) (opening shelf : S) (answers : List Answered) (marks : List Bool) (room : Room)
     (board : IsBoard told faults plan core opening shelf answers marks room) where
   abbrev log : List RunEntry
   log = log_by (told opening) (told shelf) answers core.1
@@ -63,6 +66,9 @@ module _ {S : Type 0} (told : S → Option ShelfTold) (faults : S → ℕ) (plan
     kept = subst (λ t. answers ≡ answers_in plan (log_by (told opening) t answers core.1)) (sym same) board.kept;
     workers = long ∙ board.workers;
     roomy = board.roomy;
+    goals = board.goals;
+    states = board.states;
+    present = board.present;
     caused = subst (λ t. AreCaused (told opening) (faults opening) (faults later) (log_by (told opening) t answers core.1) then_marks) (sym same) caused;
     untouched = λ none. absurd (begun none);
   }
@@ -146,6 +152,9 @@ module _ {S : Type 0} (told : S → Option ShelfTold) (faults : S → ℕ) (plan
       kept = board.kept ∙ sym grown.nothing ∙ ap (answers_in plan) (sym grown.log_is);
       workers = board.workers;
       roomy = board.roomy;
+      goals = board.goals;
+      states = board.states;
+      present = board.present;
       caused = subst (λ l. AreCaused (told opening) (faults opening) (faults later) l marks) (sym grown.log_is)
           (subst (λ n. AreCaused (told opening) (faults opening) n (log ++ entry (event.Publish w f) grown.what ∷ []) marks) (sym still)
           (caused_less (told opening) (faults opening) (faults shelf) log (log ++ entry (event.Publish w f) grown.what ∷ []) marks marks (omega (arith, endings_one log (event.Publish w f) grown.what)) board.caused));
@@ -164,15 +173,37 @@ risen_by before now d is cause = subst (λ x. HasCause before now (device_failed
 pub still_by : (before now : ℕ) (d : DeviceFault) → d ≡ device.Memory → HasCause before now (device_failed {T = Unit {0}} (Err d)) → now ≡ before
 still_by before now d is cause = subst (λ x. HasCause before now (device_failed {T = Unit {0}} (Err x))) is cause
 
+-- a read that isn't refused as a fault leaves the count
+pub still_ok : (told : Option ShelfTold) (before now : ℕ) (bytes : List ℕ) → HasCause before now (read_failed {T = List ℕ} (Ok bytes)) ⊎ ((told ≡ None) × (now ≡ before)) → now ≡ before
+still_ok told before now bytes (inl cause) = cause
+still_ok told before now bytes (inr none) = none.1
+
+pub still_read : (told : Option ShelfTold) (before now : ℕ) (d e : ReadFault) → has_failed e ≡ false → d ≡ e → HasCause before now (read_failed {T = List ℕ} (Err d)) ⊎ ((told ≡ None) × (now ≡ before)) → now ≡ before
+still_read told before now d e quiet is (inr none) = none.1
+still_read told before now d e quiet is (inl cause) = by e quiet (subst (λ x. HasCause before now (read_failed {T = List ℕ} (Err x))) is cause)
+  where
+    by : (e : ReadFault) → has_failed e ≡ false → HasCause before now (read_failed {T = List ℕ} (Err e)) → now ≡ before
+    by fault.Failed quiet cause = absurd (false≢true (sym quiet))
+    by fault.TooLarge quiet cause = cause
+    by fault.Memory quiet cause = cause
+
 pub begun_publish : (o : Outline) (events : List Event) (w f : ℕ) → Enabled o events (event.Publish w f) → events ≡ [] → ⊥
 unfolding Enabled
 begun_publish o events w f is none = begun_by o events w (deed.Publish f) is.2 none
+
+pub begun_read : (o : Outline) (events : List Event) (w f : ℕ) → Enabled o events (event.Read w f) → events ≡ [] → ⊥
+unfolding Enabled
+begun_read o events w f is none = begun_by o events w (deed.Read f) is.2 none
+
+pub read_low : (o : Outline) (events : List Event) (w f : ℕ) → Enabled o events (event.Read w f) → f < length o.present
+unfolding Enabled
+read_low o events w f is = is.1
 
 pub publish_low : (o : Outline) (events : List Event) (w f : ℕ) → Enabled o events (event.Publish w f) → f < length o.present
 unfolding Enabled
 publish_low o events w f is = is.1
 
-module _ {S : Type 0} (told : S → Option ShelfTold) (faults : S → ℕ) (plan : Plan) (core : Outline × List Event) (opening shelf : S) (answers : List Answered) (marks : List Bool) (room : ℕ)
+module _ {S : Type 0} (told : S → Option ShelfTold) (faults : S → ℕ) (plan : Plan) (core : Outline × List Event) (opening shelf : S) (answers : List Answered) (marks : List Bool) (room : Room)
     (board : IsBoard told faults plan core opening shelf answers marks room) (later : S) where
   -- the repository failed, and the worker is marked
   pub failed_board : {then_marks : List Bool} (w : ℕ) → told later ≡ told shelf → (core.1 ≡ [] → ⊥) → then_marks ≡ set marks w true → HasRisen (faults shelf) (faults later) → IsBoard told faults plan core opening later answers then_marks room
@@ -192,3 +223,31 @@ module _ {S : Type 0} (told : S → Option ShelfTold) (faults : S → ℕ) (plan
   published_build w f area piece gives is =
       let it = grown told faults plan core opening shelf answers marks room board w f later area piece gives in
       (it.what, it.tells, ap (λ l. record { plan = plan; opening = opening; shelf = later; log = l; marks = marks }) (ap (λ t. log_by (told opening) (told later) answers t.1) is ∙ it.log_is))
+
+  -- one event more that carries nothing, of a repository that tells the same
+  pub read_board : (w f : ℕ) {next_core : Outline × List Event} → told later ≡ told shelf → faults later ≡ faults shelf → (core.1 ≡ [] → ⊥) → next_core ≡ (core.0, core.1 ++ event.Read w f ∷ []) → IsBoard told faults plan next_core opening later answers marks room
+  read_board w f {next_core} same still begun is = subst (λ t. IsBoard told faults plan t opening later answers marks room) (sym is)
+      (event_board told faults plan core opening later answers marks room (same_board same begun still) (event.Read w f) refl marks refl (omega arith))
+
+  pub read_build : (w f : ℕ) {next_core : Outline × List Event} → told later ≡ told shelf → next_core ≡ (core.0, core.1 ++ event.Read w f ∷ [])
+      → ◌≡◌ {A = Build S} (record { plan = plan; opening = opening; shelf = later; log = log_by (told opening) (told later) answers next_core.1; marks = marks }) (record { plan = plan; opening = opening; shelf = later; log = log_by (told opening) (told shelf) answers core.1 ++ entry (event.Read w f) carried.Nothing ∷ []; marks = marks })
+  read_build w f {next_core} same is =
+      ap (λ l. record { plan = plan; opening = opening; shelf = later; log = l; marks = marks })
+      (ap (λ t. log_by (told opening) t answers next_core.1) same ∙ ap (λ t. log_by (told opening) (told shelf) answers t.1) is ∙ log_more told faults plan core opening shelf answers marks room board (event.Read w f) refl)
+
+  -- absent where nothing is told: nothing has to be caused
+  pub absent_board : {then_marks : List Bool} (w : ℕ) → told later ≡ told shelf → told shelf ≡ None → (core.1 ≡ [] → ⊥) → then_marks ≡ set marks w true → IsBoard told faults plan core opening later answers then_marks room
+  absent_board {then_marks} w same none begun set_so = subst (λ ms. IsBoard told faults plan core opening later answers ms room) (sym set_so)
+      (asked_board told faults plan core opening shelf answers marks room board later (set marks w true) same begun (length-set marks w true)
+      (subst (λ t. AreCaused t (faults opening) (faults later) (log_by (told opening) (told shelf) answers core.1) (set marks w true)) (sym (tells_at_first told faults plan core opening shelf answers marks room board none)) tt))
+
+  -- a read that failed, or found nothing where nothing is told
+  pub failed_read : {then_marks : List Bool} (w : ℕ) (d : ReadFault) → told later ≡ told shelf → (core.1 ≡ [] → ⊥) → then_marks ≡ set marks w true → d ≡ fault.Failed
+      → HasCause (faults shelf) (faults later) (read_failed {T = List ℕ} (Err d)) ⊎ ((told shelf ≡ None) × (faults later ≡ faults shelf)) → IsBoard told faults plan core opening later answers then_marks room
+  failed_read {then_marks} w d same begun set_so is (inl cause) = failed_board w same begun set_so (subst (λ x. HasCause (faults shelf) (faults later) (read_failed {T = List ℕ} (Err x))) is cause)
+  failed_read {then_marks} w d same begun set_so is (inr none) = absent_board w same none.0 begun set_so
+
+-- a file that is told to be there isn't absent
+pub untold_where_absent : (t : Option ShelfTold) (name : List ℕ) → IfSome t (λ told. is_some (file_at (files_now told) name) ≡ true) → IfSome t (λ told. None ≡ file_at (files_now told) name) → t ≡ None
+untold_where_absent None name there absent = refl
+untold_where_absent (Some told) name there absent = absurd (false≢true (ap is_some absent ∙ there))

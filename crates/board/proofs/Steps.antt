@@ -29,11 +29,14 @@ use Rattle.event_core.specs.declared.refused.NotEnabled.TheVariants.{Lock}
 use Rattle.event_core.proofs.Climbs.{both}
 use Rattle.event_core.proofs.Law.{cause_none, none_above}
 use Rattle.event_core.proofs.Weights.{nothing_is}
+use Rattle.goal_answers.specs.Tables.{goal_counts}
+use Rattle.mvn_outside.specs.Shelf.{files_now}
+use Rattle.run_law.specs.Given.{IsPresent}
 use Rattle.run_law.proofs.Complete.{at_work}
 use Rattle.board.specs.Builds.{AreCaused, Build, MayCome, next_in, next_of, standing_at, with_event, with_mark}
 use Rattle.board.specs.declared.next.Next.{Next}
 use Rattle.board.specs.declared.next.Next.TheVariants as next
-use Rattle.board.specs.Keeping.{IsBoard, is_plain, log_by}
+use Rattle.board.specs.Keeping.{IsBoard, Room, is_plain, log_by}
 use Rattle.board.specs.Logs.{is_shelf_end, marked, published_since, told_after}
 use Rattle.board.proofs.Boards.{event_board, log_more, marked_one, marked_unset}
 use Rattle.board.proofs.Logs.{events_are, one_of}
@@ -181,7 +184,7 @@ module _ (o : Outline) (events : List Event) where
 
 -- ---- a board by its parts
 
-module _ {S : Type 0} (told : S → Option ShelfTold) (faults : S → ℕ) (plan : Plan) (core : Outline × List Event) (opening shelf : S) (answers : List Answered) (marks : List Bool) (room : ℕ)
+module _ {S : Type 0} (told : S → Option ShelfTold) (faults : S → ℕ) (plan : Plan) (core : Outline × List Event) (opening shelf : S) (answers : List Answered) (marks : List Bool) (room : Room)
     (board : IsBoard told faults plan core opening shelf answers marks room) where
   abbrev pub build : (Outline × List Event) → List Bool → Build S
   build at m = record { plan = plan; opening = opening; shelf = shelf; log = log_by (told opening) (told shelf) answers at.1; marks = m }
@@ -238,7 +241,7 @@ nothing_caused (Some t) count workers = record { no_fall = omega arith; rise = (
 
 -- ---- ends
 
-module _ {S : Type 0} (told : S → Option ShelfTold) (faults : S → ℕ) (plan : Plan) (core : Outline × List Event) (opening shelf : S) (answers : List Answered) (marks : List Bool) (room : ℕ)
+module _ {S : Type 0} (told : S → Option ShelfTold) (faults : S → ℕ) (plan : Plan) (core : Outline × List Event) (opening shelf : S) (answers : List Answered) (marks : List Bool) (room : Room)
     (board : IsBoard told faults plan core opening shelf answers marks room) (w : ℕ) (x : Ending) where
   fewer : (b : Bool) → (b ≡ true → get_or marks w false ≡ true) → one_of b + marked (set marks w false) ≤ marked marks
   fewer true is = omega (arith, marked_one marks w (is refl))
@@ -259,10 +262,11 @@ module _ {S : Type 0} (told : S → Option ShelfTold) (faults : S → ℕ) (plan
 
 -- ---- a board of nothing
 
-pub new_board : {S : Type 0} (told : S → Option ShelfTold) (faults : S → ℕ) (plan : Plan) {core : Outline × List Event} {opening shelf : S} {answers : List Answered} {marks : List Bool} (room : ℕ)
-    → core ≡ (outline_of plan, []) → opening ≡ shelf → answers ≡ [] → marks ≡ replicate plan.workers false → IsSoundPlan plan → plan.events < 2 ^ 62 → length plan.modules < 2 ^ 32 → plan.events ≤ room
+pub new_board : {S : Type 0} (told : S → Option ShelfTold) (faults : S → ℕ) (plan : Plan) {core : Outline × List Event} {opening shelf : S} {answers : List Answered} {marks : List Bool} (room : Room)
+    → core ≡ (outline_of plan, []) → opening ≡ shelf → answers ≡ [] → marks ≡ replicate plan.workers false → IsSoundPlan plan → plan.events < 2 ^ 62 → length plan.modules < 2 ^ 32 → plan.events ≤ room.answers
+    → room.goals ≡ goal_counts plan.modules → length plan.modules ≤ room.states → IfSome (told shelf) (λ t. IsPresent plan (files_now t))
     → IsBoard told faults plan core opening shelf answers marks room
-new_board told faults plan {core} {opening} {shelf} {answers} {marks} room core_is opening_is none marks_are sound short few roomy =
+new_board told faults plan {core} {opening} {shelf} {answers} {marks} room core_is opening_is none marks_are sound short few roomy goals states present =
     subst (λ t. IsBoard told faults plan t opening shelf answers marks room) (sym core_is)
     (subst (λ t. IsBoard told faults plan (outline_of plan, []) t shelf answers marks room) (sym opening_is)
     (subst (λ t. IsBoard told faults plan (outline_of plan, []) shelf shelf t marks room) (sym none)
@@ -280,6 +284,9 @@ new_board told faults plan {core} {opening} {shelf} {answers} {marks} room core_
       kept = refl;
       workers = length-replicate plan.workers false;
       roomy = roomy;
+      goals = goals;
+      states = states;
+      present = present;
       caused = nothing_caused (told shelf) (faults shelf) plan.workers;
       untouched = λ none. refl;
     }

@@ -1,13 +1,16 @@
 -- A build under way, as its workers share it, and what each call leaves of it. Project rule.
-use Rattle.std.specs.Prelude.{◌≡◌, ℕ, ◌+◌, ◌<◌, Bool, true, false, List, [], ◌∷◌, ◌++◌, length, find, replicate, slice_set, Option, Some, None, IfSome}
+use Rattle.std.specs.Prelude.{◌≡◌, ℕ, ◌+◌, ◌<◌, Bool, true, false, nat_eq, List, [], ◌∷◌, ◌++◌, length, find, replicate, slice_get, slice_set, Option, Some, None, is_some, IfSome, if◌then◌else◌}
 use Rattle.std.specs.List.{slice_index_or}
 use Rattle.std.specs.FinMap as map
+use Rattle.std.specs.Option.{option_map_or}
 use Rattle.mvn_shared.specs.Cause.{RoseBy}
 use Rattle.mvn_outside.specs.Pieces.{Contents}
-use Rattle.mvn_outside.specs.Shelf.{published}
+use Rattle.mvn_shared.specs.Files.{file_at}
+use Rattle.mvn_outside.specs.Shelf.{files_now, published}
 use Rattle.mvn_outside.specs.declared.fault.ReadFault.{ReadFault}
 use Rattle.mvn_outside.specs.declared.fault.ReadFault.TheVariants as read
 use Rattle.mvn_outside.specs.declared.shelf.ShelfTold.{ShelfTold}
+use Rattle.goal_types.specs.declared.goal.Slot.{Slot}
 use Rattle.name_locks.specs.Locks.{below, blocker}
 use Rattle.name_locks.specs.declared.mode.Mode.{Mode}
 use Rattle.name_locks.specs.declared.table.Tried.{Tried}
@@ -15,16 +18,25 @@ use Rattle.name_locks.specs.declared.table.Tried.TheVariants.{Taken, Busy}
 use Rattle.build_core.specs.declared.event.Event.{Event}
 use Rattle.build_core.specs.declared.event.Event.TheVariants as event
 use Rattle.build_core.specs.declared.plan.Plan.{Plan}
+use Rattle.build_core.specs.OneThread.{name_of}
+use Rattle.build_core.specs.Slots.{GoalsEnd, slot_bytes}
 use Rattle.event_core.specs.Enabled.{Enabled}
 use Rattle.event_core.specs.Going.{AreOn, GoesOn}
 use Rattle.event_core.specs.Outlines.{outline_of}
-use Rattle.event_core.specs.Runs.{events_of, module_by, standing_of_run}
+use Rattle.event_core.specs.Runs.{answers_in, events_of, goals_in, module_by, standing_of_run}
+use Rattle.event_core.specs.Scripts.{is_there}
 use Rattle.event_core.specs.Standing.{Standing, is_complete, is_ready, is_skippable}
 use Rattle.event_core.specs.declared.entry.Carried.{Carried}
 use Rattle.event_core.specs.declared.entry.Carried.TheVariants as carried
 use Rattle.event_core.specs.declared.entry.RunEntry.{RunEntry}
 use Rattle.event_core.specs.declared.outline.Outline.{Outline}
+use Rattle.event_core.specs.Worlds.{is_too_large_at}
+use Rattle.goal_answers.specs.declared.walk.GoalsStand.{GoalsStand}
+use Rattle.goal_answers.specs.declared.walk.GoalsStand.TheVariants as stand
+use Rattle.run_law.specs.Given.{outputs_after}
 use Rattle.board.specs.Logs.{marked, shelf_endings}
+use Rattle.board.specs.declared.next.AnswerKept.{AnswerKept}
+use Rattle.board.specs.declared.next.AnswerKept.TheVariants.{Held, TooLarge}
 use Rattle.board.specs.declared.next.Next.{Next}
 use Rattle.board.specs.declared.next.Next.TheVariants as next
 
@@ -44,6 +56,15 @@ next_in o now = next_of (find (is_skippable o now.progress) (below (length o.mod
 abbrev pub tried_by : Option ℕ → Tried
 tried_by None = Taken
 tried_by (Some h) = Busy h
+
+-- whether an answer was kept within the budget, by how the goals of its module stand with it
+abbrev pub answer_kept : (goal : ℕ) → GoalsEnd → AnswerKept
+answer_kept goal end = if is_too_large_at goal end then TooLarge else Held
+
+-- as they stand
+abbrev pub kept_so : (goal : ℕ) → GoalsStand → AnswerKept
+kept_so goal (stand.TooLarge at) = if nat_eq at goal then TooLarge else Held
+kept_so goal other = Held
 
 -- ---- the build
 
@@ -79,6 +100,10 @@ module _ {S : Type 0} where
   -- no worker has left its script: of a free that wasn't due nothing is said
   abbrev pub NoneLeft : Build S → Type 0
   NoneLeft b = AreOn (outline_of b.plan) (standing_at b)
+
+  -- the files that are there are those that the repository tells
+  abbrev pub HasFiles : Build S → ShelfTold → Type 0
+  HasFiles b told = (f : ℕ) → f < length b.plan.files → is_there (standing_at b).there f ≡ is_some (file_at (files_now told) (name_of b.plan f))
 
   -- ---- an entry more
 
@@ -116,6 +141,16 @@ module _ {S : Type 0} where
   after_next b w (next.Module m) = with_event b (event.Start w m)
   after_next b w next.Wait = b
   after_next b w next.Done = b
+
+  -- ---- answers
+
+  -- an answer to a goal of a module, as its goals stand now
+  abbrev pub kept_in : Build S → (number goal : ℕ) → AnswerKept
+  kept_in b number goal = option_map_or (λ m. answer_kept goal (goals_in (answers_in b.plan b.log) number m)) (slice_get b.plan.modules number) Held
+
+  -- the bytes that a module keeps in a slot
+  abbrev pub output_at : Build S → (number : ℕ) → Slot → Option (List ℕ)
+  output_at b number slot = slot_bytes (outputs_after b.plan b.log number) slot
 
   -- ---- names
 

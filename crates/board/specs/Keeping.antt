@@ -10,6 +10,9 @@ use Rattle.event_core.specs.Runs.{answers_in}
 use Rattle.event_core.specs.SoundPlans.{IsSoundPlan}
 use Rattle.event_core.specs.declared.entry.RunEntry.{RunEntry}
 use Rattle.event_core.specs.declared.outline.Outline.{Outline}
+use Rattle.goal_answers.specs.Tables.{KeptAnswers, goal_counts}
+use Rattle.mvn_outside.specs.Shelf.{files_now}
+use Rattle.run_law.specs.Given.{IsPresent}
 use Rattle.board.specs.Builds.{AreCaused}
 use Rattle.board.specs.Logs.{log_of, published_since, told_after}
 
@@ -34,9 +37,18 @@ is_plain e = true
 abbrev pub log_by : (opening now : Option ShelfTold) → List Answered → List Event → List RunEntry
 log_by opening now answers events = log_of (published_since opening now) answers events
 
--- a board's parts belong together: its events are the core's, each publish and each answer of them is told, faults are counted, and there is room
--- for more answers; `told` and `faults` are what a repository tells, and its count
-pub record IsBoard {S : Type 0} (told : S → Option ShelfTold) (faults : S → ℕ) (plan : Plan) (core : Outline × List Event) (opening shelf : S) (answers : List Answered) (marks : List Bool) (room : ℕ) : Type 0 where
+-- what is reserved: room for answers, of each module the number of its goals, and room for states
+pub record Room : Type 0 where
+  pub answers : ℕ
+  pub goals : List ℕ
+  pub states : ℕ
+
+abbrev pub room_of : KeptAnswers → (states : ℕ) → Room
+room_of answers states = record { answers = answers.room; goals = answers.goals; states = states }
+
+-- a board's parts belong together: its events are the core's, each publish and each answer of them is told, faults are counted, `present` says
+-- which files there were at the start, and there is room for more answers and for all states; `told` and `faults` are what a repository tells, and its count
+pub record IsBoard {S : Type 0} (told : S → Option ShelfTold) (faults : S → ℕ) (plan : Plan) (core : Outline × List Event) (opening shelf : S) (answers : List Answered) (marks : List Bool) (room : Room) : Type 0 where
   pub outline : core.0 ≡ outline_of plan
   pub sound : IsSoundPlan plan
   pub short : plan.events < 2 ^ 62
@@ -46,6 +58,9 @@ pub record IsBoard {S : Type 0} (told : S → Option ShelfTold) (faults : S → 
   pub answered : answer_count core.1 ≡ length answers
   pub kept : answers ≡ answers_in plan (log_by (told opening) (told shelf) answers core.1)
   pub workers : length marks ≡ plan.workers
-  pub roomy : plan.events ≤ room
+  pub roomy : plan.events ≤ room.answers
+  pub goals : room.goals ≡ goal_counts plan.modules
+  pub states : length plan.modules ≤ room.states
+  pub present : IfSome (told opening) (λ t. IsPresent plan (files_now t))
   pub caused : AreCaused (told opening) (faults opening) (faults shelf) (log_by (told opening) (told shelf) answers core.1) marks
   pub untouched : core.1 ≡ [] → shelf ≡ opening

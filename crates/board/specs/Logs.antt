@@ -1,5 +1,6 @@
 -- The log of a build: its events, each with what it carries, and whose each of them is. Project rule.
-use Rattle.std.specs.Prelude.{ℕ, Bool, true, false, List, [], ◌∷◌, ◌++◌, length, drop, filter, filter_map, Option, Some, None, option_map}
+use Rattle.std.specs.Prelude.{◌≡◌, ℕ, Bool, true, false, List, [], ◌∷◌, ◌++◌, length, drop, filter, filter_map, Option, Some, None, option_map}
+use Rattle.std.specs.List.{list_all}
 use Rattle.mvn_outside.specs.declared.shelf.Published.{Published}
 use Rattle.mvn_outside.specs.declared.shelf.ShelfTold.{ShelfTold}
 use Rattle.build_core.specs.declared.ending.Device.TheVariants as device
@@ -12,6 +13,7 @@ use Rattle.event_core.specs.Runs.{writes_of}
 use Rattle.event_core.specs.declared.entry.Carried.{Carried}
 use Rattle.event_core.specs.declared.entry.Carried.TheVariants as carried
 use Rattle.event_core.specs.declared.entry.RunEntry.{RunEntry}
+use Rattle.event_core.specs.Worlds.{is_told}
 use Rattle.turn_lock.specs.declared.kept.Role.{Role}
 use Rattle.turn_lock.specs.declared.kept.Role.TheVariants.{Nobody, Opens, GoesOn, Closes}
 
@@ -38,6 +40,10 @@ log_of told kept [] = []
 log_of told kept (event.Publish w file ∷ events) = (record { event = event.Publish w file; carried = next_bytes told }) ∷ log_of (option_map behind told) kept events
 log_of told kept (event.Answer w goal ∷ events) = (record { event = event.Answer w goal; carried = next_answer kept }) ∷ log_of told (behind kept) events
 log_of told kept (e ∷ events) = (record { event = e; carried = carried.Nothing }) ∷ log_of told kept events
+
+-- each entry carries what it has to, where the repository tells, or doesn't: an answer always, published bytes where it tells, and else nothing
+abbrev pub AreCarried : (told : Bool) → List RunEntry → Type 0
+AreCarried told log = list_all (λ (e : RunEntry). is_told told e.event e.carried) log ≡ true
 
 -- what a repository tells that it didn't tell at first
 abbrev pub published_since : (opening now : Option ShelfTold) → Option (List Published)

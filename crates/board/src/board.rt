@@ -1,5 +1,5 @@
 // The board and its calls that leave the repository alone.
-ghost use Rattle.std.specs.Prelude.{◌≡◌, ℕ, ◌<◌, ◌≤◌, ◌^◌, [], ◌∷◌, ◌++◌, true, false, None, Some, length, replicate, slice_set, vec_capacity, IfErr, IfOk, IfSome, OnOk};
+ghost use Rattle.std.specs.Prelude.{◌≡◌, ℕ, ◌<◌, ◌≤◌, ◌^◌, [], ◌∷◌, ◌++◌, true, false, None, Some, is_some, length, replicate, slice_set, IfErr, IfOk, IfSome, OnOk};
 ghost use Rattle.mvn_outside.specs.Shelf.{files_now};
 ghost use Rattle.name_locks.specs.declared.table.Tried.TheVariants.{Busy};
 ghost use Rattle.build_core.specs.declared.event.Event.TheVariants as event;
@@ -7,24 +7,27 @@ ghost use Rattle.event_core.specs.Bounds.{most_events};
 ghost use Rattle.event_core.specs.Causes.{cause_now};
 ghost use Rattle.event_core.specs.Enabled.{Enabled, is_due};
 ghost use Rattle.event_core.specs.Outlines.{outline_of};
-ghost use Rattle.event_core.specs.Runs.{IsRunOf};
+ghost use Rattle.event_core.specs.Runs.{IsRunOf, answers_in, contents, events_of};
 ghost use Rattle.event_core.specs.Scripts.{is_there};
 ghost use Rattle.event_core.specs.SoundPlans.{IsSoundPlan};
-ghost use Rattle.event_core.specs.Standing.{course_of, standing_of};
+ghost use Rattle.event_core.specs.Standing.{course_of, is_complete, standing_of};
 ghost use Rattle.event_core.specs.declared.deed.Deed.TheVariants.{Take};
 ghost use Rattle.event_core.specs.declared.refused.NotEnabled.TheVariants.{Lock};
-ghost use Rattle.run_law.specs.Given.{IsPresent};
-ghost use Rattle.board.specs.Builds.{AnotherGoesOn, AreCaused, MayCome, NoneLeft, after_next, after_try, is_marked, module_at, next_at, next_in, opened, standing_at, tried_at, with_event, with_mark};
+ghost use Rattle.goal_answers.specs.Tables.{goal_counts};
+ghost use Rattle.run_law.specs.Given.{IsPresent, states_after};
+ghost use Rattle.board.specs.Builds.{AnotherGoesOn, AreCaused, HasFiles, MayCome, NoneLeft, after_next, after_try, is_marked, module_at, next_at, next_in, opened, standing_at, tried_at, with_event, with_mark};
 ghost use Rattle.board.specs.Keeping.{is_plain};
-ghost use Rattle.board.specs.Logs.{is_shelf_end, told_after};
+ghost use Rattle.board.specs.Logs.{AreCarried, is_shelf_end, told_after};
 ghost use Rattle.board.specs.declared.board.BoardError.TheVariants.{Memory};
 ghost use Rattle.board.specs.declared.next.Next.TheVariants as next;
 
 use crate::next::Next;
-use build_core::{Answered, Ending, Event, Plan};
+use crate::states::StateRoom;
+use build_core::{Answered, Ending, Event, Plan, State};
 use event_core::{Core, NotEnabled};
+use goal_answers::AnswerTable;
 use mvn_outside::Shelf;
-use mvn_shared::{Mem, OutOfMemory};
+use mvn_shared::{List, Mem, OutOfMemory};
 use name_locks::{Mode, Tried};
 use run_law::bound::runs_fit_in;
 use std::alloc::Global;
@@ -40,12 +43,12 @@ pub struct Board<'a, S: Shelf> {
     pub(crate) core: Core,
     pub(crate) shelf: S,
     pub(crate) opening: Snapshot<S>,
-    pub(crate) answers: Vec<Answered>,
+    pub(crate) answers: AnswerTable,
     pub(crate) marks: Vec<bool>,
+    pub(crate) states: StateRoom,
 }
 
 impl<'a, S: Shelf> Model for Board<'a, S> {
-    ghost use Rattle.std.specs.Prelude.{vec_capacity};
     ghost use Rattle.board.specs.Builds.{Build};
 
     ghost Value = { Build S };
@@ -55,17 +58,27 @@ impl<'a, S: Shelf> Model for Board<'a, S> {
 
     ghost coded = { Prim.hlevel (codes, setting.the_row.coded) };
 
-    ghost use Rattle.board.specs.Keeping.{IsBoard, log_by};
+    ghost use Rattle.board.specs.Keeping.{IsBoard, log_by, room_of};
 
-    ghost view = { λ b. record { plan = b.plan.now; opening = b.opening.value; shelf = b.shelf; log = log_by (S.told b.opening.value) (S.told b.shelf) b.answers.items b.core.1; marks = b.marks.items } };
+    ghost view = { λ b. record { plan = b.plan.now; opening = b.opening.value; shelf = b.shelf; log = log_by (S.told b.opening.value) (S.told b.shelf) b.answers.kept b.core.1; marks = b.marks.items } };
 
-    ghost invariant = { λ b. IsBoard S.told S.faults b.plan.now b.core b.opening.value b.shelf b.answers.items b.marks.items (vec_capacity b.answers) };
+    ghost invariant = { λ b. IsBoard S.told S.faults b.plan.now b.core b.opening.value b.shelf b.answers.kept b.marks.items (room_of b.answers b.states) };
 }
 
 /// There was no memory; the repository comes back. Project rule.
 #[derive(Drop)]
 pub enum BoardError<S> {
     Memory(S),
+}
+
+/// What a whole build leaves: the repository, the events in order, the answers in the order in which they were kept, and how each
+/// module ended. Project rule.
+#[derive(Drop)]
+pub struct Finished<S> {
+    pub shelf: S,
+    pub trace: List<Event>,
+    pub answers: List<Answered>,
+    pub states: List<State>,
 }
 
 // An event that may come.
@@ -112,23 +125,26 @@ pub(crate) fn set_mark(marks: &mut Vec<bool>, worker: u32, mark: bool)
     }
 }
 
-// A core without events, and room for answers and marks.
-fn parts(alloc: Global, plan: &Plan) -> Mem<(Core, Vec<Answered>, Vec<bool>)>
+// What a board is made of: a core without events, and room for answers, marks and states.
+fn make_parts(alloc: Global, plan: &Plan) -> Mem<(Core, AnswerTable, Vec<bool>, StateRoom)>
     requires { most_events (outline_of plan.now) ≤ plan.now.events }
     ensures core { IfOk result (λ r. r.0 ≡ (outline_of plan.now, [])) }
-    ensures answers { IfOk result (λ r. (r.1.items ≡ [])
-        × (plan.now.events ≤ vec_capacity r.1)) }
+    ensures answers { IfOk result (λ r. (r.1.kept ≡ [])
+        × (r.1.goals ≡ goal_counts plan.now.modules)
+        × (plan.now.events ≤ r.1.room)) }
     ensures marks { IfOk result (λ r. r.2.items ≡ replicate plan.now.workers false) }
+    ensures states { IfOk result (λ r. length plan.now.modules ≤ r.3) }
     ensures small { IfOk result (λ r. (plan.now.events < 2 ^ 62)
         × (length plan.now.modules < 2 ^ 32)) }
 {
     if plan.events >= 1 << 62 || plan.modules.len() >= 1 << 32 {
         return Err(OutOfMemory);
     }
-    let answers = Vec::with_capacity(alloc, plan.events as usize)?;
+    let answers = AnswerTable::new(alloc, plan)?;
     let marks = vec![in alloc; false; plan.workers as usize]?;
+    let states = StateRoom::new(alloc, plan.modules.len())?;
     let core = Core::new(alloc, plan)?;
-    Ok((core, answers, marks))
+    Ok((core, answers, marks, states))
 }
 
 impl<'a, S: Shelf> Board<'a, S> {
@@ -141,8 +157,8 @@ impl<'a, S: Shelf> Board<'a, S> {
         ensures err { IfErr result (λ error. error ≡ Memory shelf) }
     {
         runs_fit_in();
-        match parts(alloc, plan) {
-            Ok((core, answers, marks)) => {
+        match make_parts(alloc, plan) {
+            Ok((core, answers, marks, states)) => {
                 let opening = Snapshot::of(&shelf);
                 Ok(Board {
                     plan,
@@ -151,6 +167,7 @@ impl<'a, S: Shelf> Board<'a, S> {
                     opening,
                     answers,
                     marks,
+                    states,
                 })
             }
             Err(_) => Err(BoardError::Memory(shelf)),
@@ -264,9 +281,35 @@ impl<'a, S: Shelf> Board<'a, S> {
         shelf
     }
 
-    /// A law: what a board keeps. Its log is a run of its plan, no longer than the plan's events; what the repository tells is what it told
-    /// at the start with the log's publishes behind; and where it tells, its faults are at least as many as the modules that ended by
-    /// them and the workers that are marked. Does nothing. Project rule.
+    /// What the build leaves, where each module has ended or was skipped. Takes no memory; costs a look at each module.
+    pub fn finish(self) -> Finished<S>
+        requires complete { is_complete (standing_at self) ≡ true }
+        ensures shelf { result.shelf ≡ self.entry.shelf }
+        ensures trace { result.trace ≡ events_of self.entry.log }
+        ensures answers { result.answers ≡ answers_in self.entry.plan self.entry.log }
+        ensures states { result.states ≡ states_after self.entry.plan self.entry.log }
+    {
+        let Board {
+            plan,
+            core,
+            shelf,
+            answers,
+            states,
+            ..
+        } = self;
+        let all = states.states(&core, plan);
+        Finished {
+            shelf,
+            trace: core.into_events(),
+            answers: answers.into_answers(),
+            states: all,
+        }
+    }
+
+    /// A law: what a board keeps. Its log is a run of its plan, no longer than the plan's events, and each entry carries what it has to;
+    /// what the repository tells is what it told at the start with the log's publishes behind; `present` says which of the plan's files
+    /// it had then, and `has` which it has now, as the log puts them; and where it tells, its faults are at least as many as the modules that ended by them and the workers that are
+    /// marked. Does nothing. Project rule.
     pub fn keeps(&self)
         ensures run { IsRunOf self.now.plan self.now.log }
         ensures bound { length self.now.log ≤ self.now.plan.events }
@@ -276,6 +319,13 @@ impl<'a, S: Shelf> Board<'a, S> {
             (S.faults self.now.shelf) self.now.log self.now.marks }
         ensures marks { length self.now.marks ≡ self.now.plan.workers }
         ensures sound { IsSoundPlan self.now.plan }
+        ensures present { IfSome (S.told self.now.opening)
+            (λ told. IsPresent self.now.plan (files_now told)) }
+        ensures carried { AreCarried (is_some (S.told self.now.opening)) self.now.log }
+        ensures there { IfSome (S.told self.now.shelf) (HasFiles self.now) }
+        ensures contents { IfSome (S.told self.now.opening) (λ first.
+            IfSome (S.told self.now.shelf) (λ told.
+            files_now told ≡ contents self.now.plan (files_now first) self.now.log)) }
     {
         self.core.runs_within_bound();
     }

@@ -12,3 +12,11 @@ pub enum Next {
     /// Each module has ended or was skipped.
     Done,
 }
+
+/// Whether an answer's output is kept within its module's budget.
+#[derive(Clone, Copy, Debug, PartialEq, Eq)]
+pub enum AnswerKept {
+    Held,
+    /// With it the kept outputs would have more bytes than the budget: it stands among the answers alone.
+    TooLarge,
+}

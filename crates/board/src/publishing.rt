@@ -16,7 +16,7 @@ use mvn_base::FileName;
 use mvn_outside::{DeviceFault, Shelf};
 
 // The name of a file.
-fn name_at(plan: &Plan, file: u32) -> &FileName
+pub(crate) fn name_at(plan: &Plan, file: u32) -> &FileName
     requires { file < length plan.now.files }
     ensures { result.now ≡ name_of plan.now file }
 {

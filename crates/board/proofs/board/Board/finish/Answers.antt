@@ -1,0 +1,27 @@
+use Rattle.std.proofs.Common.{◌≡◌, length, map, ap, subst, sym, ◌∙◌}
+use Rattle.name_locks.specs.Locks.{below}
+use Rattle.event_core.specs.Runs.{answers_in, events_of}
+use Rattle.event_core.specs.Standing.{standing_of, state_of}
+use Rattle.run_law.specs.Given.{states_after}
+use Rattle.board.specs.Keeping.{room_of}
+use Rattle.board.proofs.Steps.{at_build, events_same}
+use Rattle.board.proofs.board.Board.finish.Goals as goal
+
+pub states-all-requires-clause-room : goal.states-all-requires-clause-room
+states-all-requires-clause-room g c = c.self.invariant.states
+
+pub states-all-requires-clause-few : goal.states-all-requires-clause-few
+states-all-requires-clause-few g c = c.self.invariant.few
+
+pub returns-clause-shelf : goal.returns-clause-shelf
+returns-clause-shelf g c = ap (λ v. v.shelf) c.self.view_is
+
+pub returns-clause-trace : goal.returns-clause-trace
+returns-clause-trace g c = c.into_events.ensures ∙ sym (events_same g.S.Shelf.told g.S.Shelf.faults c.self.inside.plan.now c.self.inside.core c.self.inside.opening.value c.self.inside.shelf c.self.inside.answers.kept c.self.inside.marks.items (room_of c.self.inside.answers c.self.inside.states) c.self.invariant) ∙ ap (λ v. events_of v.log) c.self.view_is
+
+pub returns-clause-answers : goal.returns-clause-answers
+returns-clause-answers g c = c.into_answers.ensures ∙ c.self.invariant.kept ∙ ap (λ v. answers_in v.plan v.log) c.self.view_is
+
+pub returns-clause-states : goal.returns-clause-states
+returns-clause-states g c = subst (λ v. c.states-all.result ≡ states_after v.plan v.log) c.self.view_is
+    (at_build g.S.Shelf.told g.S.Shelf.faults c.self.inside.plan.now c.self.inside.core c.self.inside.opening.value c.self.inside.shelf c.self.inside.answers.kept c.self.inside.marks.items (room_of c.self.inside.answers c.self.inside.states) c.self.invariant (λ o es. c.states-all.result ≡ map (λ number. state_of o (standing_of o es).progress number) (below (length c.self.inside.plan.now.modules))) c.states-all.ensures)

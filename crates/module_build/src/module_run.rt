@@ -1,5 +1,5 @@
 // A module's build by one hand, with its upstreams' outputs. Introduction to the Build Lifecycle; own as a whole.
-ghost use Rattle.std.specs.Prelude.{◌≡◌, true, false, ℕ, is_some, take, map, nat_lt, IfSome};
+ghost use Rattle.std.specs.Prelude.{◌≡◌, ◌≤◌, true, false, ℕ, is_some, take, length, map, nat_lt, IfSome};
 ghost use Rattle.mvn_shared.specs.Cause.{HasCause};
 ghost use Rattle.mvn_shared.specs.Files.{Files};
 ghost use Rattle.build_core.specs.OneThread.{entries_len, most_classpath};
@@ -44,6 +44,7 @@ fn build_goals<R, S: Shelf, G: Gate>(
     ensures answers { IfSome (G.answers hand.old.gate) (λ test.
         AreAskedOf test plan.now outputs.now module.now result.answers) }
     ensures count { HasEndingsAnswers result.ending module.now result.answers }
+    ensures most { length result.answers ≤ length module.now.goals }
     ensures own { is_own_ending result.ending ≡ true }
     ensures remote { hand.new.remote ≡ hand.old.remote }
     ensures told { G.answers hand.new.gate ≡ G.answers hand.old.gate }
@@ -99,6 +100,7 @@ pub fn build_module<R, S: Shelf, G: Gate>(
     ensures answers { IfSome (G.answers hand.old.gate) (λ test.
         AreAskedOf test plan.now outputs.now module.now result.answers) }
     ensures count { HasEndingsAnswers result.ending module.now result.answers }
+    ensures most { length result.answers ≤ length module.now.goals }
     ensures own { is_own_ending result.ending ≡ true }
     ensures remote { hand.new.remote ≡ hand.old.remote }
     ensures told { G.answers hand.new.gate ≡ G.answers hand.old.gate }

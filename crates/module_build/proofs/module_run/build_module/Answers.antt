@@ -1,4 +1,5 @@
-use Rattle.std.proofs.Common.{◌≡◌, Bool, true, false, List, [], is_some, map, nat_lt, sym, ap, ◌∙◌}
+use Rattle.std.proofs.Common.{◌≡◌, Bool, true, false, List, [], is_some, length, map, nat_lt, sym, ap, ◌∙◌, arith}
+use Rattle.goal_types.specs.declared.goal.GoalAnswer.{GoalAnswer}
 use Rattle.build_core.specs.declared.plan.Entry.{Entry}
 use Rattle.build_core.specs.declared.ending.Ending.TheVariants as ending
 use Rattle.build_core.specs.OneThread.{entries_len, most_classpath}
@@ -27,3 +28,6 @@ returns-then-is_too_large-clause-adds g c = none_put c.args.plan.now c.args.modu
 
 pub returns-then-is_too_large-clause-answers : goal.returns-then-is_too_large-clause-answers
 returns-then-is_too_large-clause-answers g c = none_asked (g.G.Gate.answers c.args.hand.now.gate) c.args.plan.now c.args.outputs.now c.args.module.now c.new.result c.new.ensures
+
+pub returns-then-is_too_large-clause-most : goal.returns-then-is_too_large-clause-most
+returns-then-is_too_large-clause-most g c = let none = ap (λ (xs : List GoalAnswer). length xs) c.new.ensures in omega (arith, none)

@@ -40,13 +40,13 @@ next_of m goals i call same within here = record { within = subst (λ gs. i < le
 pub no_pom_at : (m : PlanModule) (i : ℕ) (call : GoalCall) → IsNext m i call → HasNoPom m.goals → is_no_pom call ≡ true
 no_pom_at m i call n h = ap is_no_pom n.here ∙ all_at is_no_pom m.goals i call n.within h
 
-at_goal : (m : PlanModule) (i : ℕ) (call : GoalCall) → IsNext m i call → slice_get m.goals i ≡ Some call
+pub at_goal : (m : PlanModule) (i : ℕ) (call : GoalCall) → IsNext m i call → slice_get m.goals i ≡ Some call
 at_goal m i call n = slice_get_read m.goals (length m.goals) i call refl n.within n.here
 
-one_goal_more : (m : PlanModule) (i : ℕ) (call : GoalCall) → IsNext m i call → take (i + 1) m.goals ≡ take i m.goals ++ call ∷ []
+pub one_goal_more : (m : PlanModule) (i : ℕ) (call : GoalCall) → IsNext m i call → take (i + 1) m.goals ≡ take i m.goals ++ call ∷ []
 one_goal_more m i call n = take_more m.goals i call n.within ∙ ap (λ x. take i m.goals ++ x ∷ []) (sym n.here)
 
-all_goals : (m : PlanModule) (i : ℕ) (call : GoalCall) → IsNext m i call → (take i m.goals ++ call ∷ []) ++ drop (i + 1) m.goals ≡ m.goals
+pub all_goals : (m : PlanModule) (i : ℕ) (call : GoalCall) → IsNext m i call → (take i m.goals ++ call ∷ []) ++ drop (i + 1) m.goals ≡ m.goals
 all_goals m i call n = ap (λ t. t ++ drop (i + 1) m.goals) (sym (one_goal_more m i call n)) ∙ take-append-drop (i + 1) m.goals
 
 same_request : (m : PlanModule) (i : ℕ) (answers : List GoalAnswer) (request : GoalRequest) (call : GoalCall) → Stands m i answers request → record request { call = call } ≡ bare_request m call request.own
@@ -59,7 +59,7 @@ if_some_map : {A : Type 0} (P Q : A → Type 0) (o : Option A) → ((a : A) → 
 if_some_map P Q None h p = tt
 if_some_map P Q (Some a) h p = h a p
 
-if_some_both : {A : Type 0} (P R Q : A → Type 0) (o : Option A) → ((a : A) → P a → R a → Q a) → IfSome o P → IfSome o R → IfSome o Q
+pub if_some_both : {A : Type 0} (P R Q : A → Type 0) (o : Option A) → ((a : A) → P a → R a → Q a) → IfSome o P → IfSome o R → IfSome o Q
 if_some_both P R Q None h p r = tt
 if_some_both P R Q (Some a) h p r = h a p r
 
@@ -143,7 +143,7 @@ too_large_there budget i j slot (Produced bytes) before own e = by (slot_number 
     by false true e = cc
     by false false e = ap number_in e
 
-counts_there : (m : PlanModule) (i : ℕ) (slot : Slot) (a : GoalAnswer) (before own : List OwnBytes) (now : List GoalAnswer) (stop : Ending) → length now ≡ suc i
+pub counts_there : (m : PlanModule) (i : ℕ) (slot : Slot) (a : GoalAnswer) (before own : List OwnBytes) (now : List GoalAnswer) (stop : Ending) → length now ≡ suc i
     → IfSome (goals_end (Some stop) own) (λ end. one_goal m.budget i slot a before all_answered ≡ end)
     → IfSome (goals_end (Some stop) own) (λ end. run_goals m.budget (nth_answer now) 0 m.goals [] ≡ end)
     → IfSome (goals_end (Some stop) own) (λ _. HasAllAnswers m now)

@@ -13,7 +13,7 @@ use Rattle.one_hand.specs.Running.{nth_answer, goals_end, bare_request, AreAnswe
 use Rattle.one_hand.proofs.Runs.{follow, run_append, run_same}
 
 -- an answer more changes none of those before
-nth_before : (answers more : List GoalAnswer) (n : ℕ) → n < length answers → nth_answer (answers ++ more) n ≡ nth_answer answers n
+pub nth_before : (answers more : List GoalAnswer) (n : ℕ) → n < length answers → nth_answer (answers ++ more) n ≡ nth_answer answers n
 nth_before [] more n lt = absurd (omega (arith, lt))
 nth_before (a ∷ answers) more zero lt = refl
 nth_before (a ∷ answers) more (suc n) lt = nth_before answers more n (omega (arith, lt))
@@ -61,14 +61,14 @@ one_stops budget answers a done call rest before own stop same runs one =
     if_some (Some end) h e = h end e
 
 -- what holds of all answers so far and of the new one holds of all
-with_last : (P : ℕ → GoalAnswer → Type 0) (answers : List GoalAnswer) (a : GoalAnswer) → ((i : ℕ) (x : GoalAnswer) → slice_get answers i ≡ Some x → P i x) → P (length answers) a
+pub with_last : (P : ℕ → GoalAnswer → Type 0) (answers : List GoalAnswer) (a : GoalAnswer) → ((i : ℕ) (x : GoalAnswer) → slice_get answers i ≡ Some x → P i x) → P (length answers) a
     → (i : ℕ) (x : GoalAnswer) → slice_get (answers ++ a ∷ []) i ≡ Some x → P i x
 with_last P [] a h last zero x e = subst (P 0) (ap (λ o. unwrap_or o a) e) last
 with_last P [] a h last (suc i) x e = cc
 with_last P (b ∷ answers) a h last zero x e = h zero x e
 with_last P (b ∷ answers) a h last (suc i) x e = with_last (λ j. P (suc j)) answers a (λ j. h (suc j)) last i x e
 
-slots_same : (m : PlanModule) (answers : List GoalAnswer) (a : GoalAnswer) (i : ℕ) → i ≤ length answers → slots_before m.budget (nth_answer (answers ++ a ∷ [])) i m.goals ≡ slots_before m.budget (nth_answer answers) i m.goals
+pub slots_same : (m : PlanModule) (answers : List GoalAnswer) (a : GoalAnswer) (i : ℕ) → i ≤ length answers → slots_before m.budget (nth_answer (answers ++ a ∷ [])) i m.goals ≡ slots_before m.budget (nth_answer answers) i m.goals
 slots_same m answers a i le = ap kept_of (run_same m.budget (nth_answer (answers ++ a ∷ [])) (nth_answer answers) 0 (take i m.goals) [] (λ n lt. nth_before answers (a ∷ []) n (omega (arith, lt, le, length-take i m.goals))))
 
 -- an answer more, to the request that the definition names

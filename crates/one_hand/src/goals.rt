@@ -90,8 +90,9 @@ fn copy_of_answer(answer: &GoalAnswer) -> Mem<GoalAnswer>
     }
 }
 
-// Asks a goal of what the request holds, and keeps its answer. Says what stops the goals, if anything does.
-fn answer_goal<G: Gate>(
+/// Asks a goal of what the request holds, with this call, and keeps its answer. Says what stops the goals, if anything does.
+/// Costs what the goal costs, and a copy of its answer. Introduction to the Build Lifecycle; own as a whole.
+pub fn answer_goal<G: Gate>(
     alloc: Global,
     gate: &mut G,
     number: u32,

@@ -108,6 +108,8 @@ pub fn install_files<S: Shelf>(
     ensures err { OnErr result ((count : ℕ) ×
         Adds (S.told shelf.old) (S.told shelf.new) (is_some (S.Area.contents area.old))
         (own_publishes plan.now module.now own.now (take count module.now.own))) }
+    ensures tells { OnOk result
+        (is_some (S.Area.contents area.new) ≡ is_some (S.Area.contents area.old)) }
     ensures never { (S.never_fails shelf.new ≡ S.never_fails shelf.old) ×
         (S.Area.never_fails area.new ≡ S.Area.never_fails area.old) }
     ensures area_cause { HasCause (S.Area.faults area.old) (S.Area.faults area.new)

@@ -6,7 +6,7 @@ pub mod install;
 pub mod module_run;
 pub mod outputs;
 
-pub use goals::{GoalsRun, run_goals};
+pub use goals::{GoalsRun, answer_goal, run_goals};
 pub use install::{InstallFault, install_files};
-pub use module_run::{ModuleRun, build_module};
+pub use module_run::{ModuleRun, build_module, end_module};
 pub use outputs::{bytes_in, fits, with_output};

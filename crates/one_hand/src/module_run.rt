@@ -31,8 +31,9 @@ fn lacks_artifact(module: &PlanModule, own: &[OwnBytes]) -> bool
     module.needs_artifact && bytes_in(own, Slot::Main).is_none()
 }
 
-// Installs the module, where it is to be, once its goals are answered.
-fn end_module<S: Shelf>(
+/// Installs the module, where it is to be, once its goals are answered, and says how it ends. Costs what staging and
+/// publishing cost. Maven's install plugin; own as a whole.
+pub fn end_module<S: Shelf>(
     shelf: &mut S,
     area: &mut S::Area,
     plan: &Plan,
@@ -48,6 +49,8 @@ fn end_module<S: Shelf>(
     ensures adds { (count : ℕ) ×
         Adds (S.told shelf.old) (S.told shelf.new) (is_some (S.Area.contents area.old))
         (own_publishes plan.now module.now own.now (take count module.now.own)) }
+    ensures tells { is_quiet result ≡ true →
+        is_some (S.Area.contents area.new) ≡ is_some (S.Area.contents area.old) }
     ensures never { (S.never_fails shelf.new ≡ S.never_fails shelf.old) ×
         (S.Area.never_fails area.new ≡ S.Area.never_fails area.old) }
     ensures area_cause { HasCause (S.Area.faults area.old) (S.Area.faults area.new)

@@ -1,0 +1,10 @@
+pub use Rattle.mvn_shared.specs.Cause
+pub use Rattle.goal_types.specs.Goals
+pub use Rattle.build_core.specs.Slots
+pub use Rattle.build_core.specs.OneThread
+pub use Rattle.one_hand.specs.Running
+pub use Rattle.one_hand.specs.Installing
+pub use Rattle.one_hand.specs.Built
+pub mod Upstreams
+pub mod Asked
+pub mod Ends

@@ -1,0 +1,5 @@
+pub mod Done
+pub mod Numbers
+pub mod Running
+pub mod Turns
+pub mod Whole

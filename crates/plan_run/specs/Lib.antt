@@ -1,0 +1,10 @@
+pub use Rattle.mvn_shared.specs.Cause
+pub use Rattle.one_hand.specs.Installing
+pub use Rattle.one_hand.specs.Built
+pub use Rattle.module_build.specs.Upstreams
+pub use Rattle.module_build.specs.Asked
+pub use Rattle.module_build.specs.Ends
+pub mod Numbered
+pub mod Steps
+pub mod Turns
+pub mod Runs

@@ -7,4 +7,5 @@ pub use Rattle.module_build.specs.Ends
 pub mod Numbered
 pub mod Steps
 pub mod Turns
+pub mod Once
 pub mod Runs

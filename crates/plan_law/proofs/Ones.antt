@@ -26,7 +26,7 @@ same_lists (x ∷ xs) [] p q f g = absurd (f x (inl refl))
 same_lists (x ∷ xs) (y ∷ ys) p q f g =
     let heads = one_head x y xs ys p q (f x (inl refl)) (g y (inl refl)) in
     let tails = same_lists xs ys (climb_tail x xs p) (climb_tail y ys q)
-        (λ z h. behind x y z xs ys p heads h (f z (inr h))) (λ z h. behind y x z ys xs q (sym heads) h (g z (inr h))) in
+    (λ z h. behind x y z xs ys p heads h (f z (inr h))) (λ z h. behind y x z ys xs q (sym heads) h (g z (inr h))) in
     λ i. heads i ∷ tails i
 
 pub one_list : (texts list : List (List ℕ)) → TextsClimb list → ((x : List ℕ) → Contains list x → Contains texts x) → ((x : List ℕ) → Contains texts x → Contains list x) → ascending texts ≡ list

@@ -133,11 +133,17 @@ module _ (phase : Phase) (workers : ℕ) (present : List Bool) (modules : List S
   covered file = by (find (covers file) all_used) refl
     where
       by : (o : Option Resolved) → find (covers file) all_used ≡ o → (name : ℕ) × IsCovered file name
-      by None none = (0, λ number p at is. let found = at_place number p at in
-          absurd (not_covered file none number found.0 found.1 (subst (λ (q : PlanModule). is_listed file q.fetch ≡ true) (sym found.2) is)))
-      by (Some w) some = (number_of (plan_names phase modules) (lock_name w.gav), λ number p at is. let found = at_place number p at in
-          subst (λ (q : PlanModule). is_listed (number_of (plan_names phase modules) (lock_name w.gav)) q.batch ≡ true) found.2
-          (is_covered file w some number found.0 found.1 (subst (λ (q : PlanModule). is_listed file q.fetch ≡ true) (sym found.2) is)))
+      by None none = (
+        0,
+        λ number p at is. let found = at_place number p at in
+            absurd (not_covered file none number found.0 found.1 (subst (λ (q : PlanModule). is_listed file q.fetch ≡ true) (sym found.2) is)),
+      )
+      by (Some w) some = (
+        number_of (plan_names phase modules) (lock_name w.gav),
+        λ number p at is. let found = at_place number p at in
+            subst (λ (q : PlanModule). is_listed (number_of (plan_names phase modules) (lock_name w.gav)) q.batch ≡ true) found.2
+            (is_covered file w some number found.0 found.1 (subst (λ (q : PlanModule). is_listed file q.fetch ≡ true) (sym found.2) is)),
+      )
 
   -- ---- an own file has one owner, and isn't fetched
 

@@ -1,9 +1,9 @@
 -- The example: `app` depends on its sister `lib` and on `web`.
-use Rattle.std.proofs.Common.{◌≡◌, inl, inr, ℕ, zero, suc, true, false, List, [], ◌∷◌, ◌++◌, codes, flat_map, slice_get, Option, Some, None, is_some, unwrap_or, refl, sym, ap, subst, ◌∙◌, arith}
+use Rattle.std.proofs.Common.{◌≡◌, inl, inr, ℕ, zero, suc, true, false, List, [], ◌∷◌, ◌++◌, codes, flat_map, map, slice_get, Option, Some, None, is_some, unwrap_or, refl, sym, ap, subst, ◌∙◌, arith}
 use Rattle.std.specs.Str.{bytes_eq}
 use Rattle.std.proofs.lemmas.Bool.{false≢true}
 use Rattle.std.proofs.lemmas.Slice.Eq.{bytes_eq-Decides}
-use Rattle.mvn_base.specs.FileName.{IsValid}
+use Rattle.mvn_base.specs.FileName.{IsValid, file_name}
 use Rattle.mvn_base.specs.Gav.{gav_text}
 use Rattle.mvn_base.specs.Names.{is_group, is_name, is_name_byte, is_version, is_version_byte}
 use Rattle.mvn_base.specs.declared.gav.Gav.{Gav}
@@ -14,8 +14,15 @@ use Rattle.lifecycle.specs.Bindings.{bindings_of}
 use Rattle.lifecycle.specs.Goals.{calls_through}
 use Rattle.mvn_base.specs.Phase.{phase_number}
 use Rattle.event_core.specs.Outlines.{is_listed}
-use Rattle.plan_numbers.specs.Numbers.{ascending, locks_of, plan_names}
-use Rattle.plan_numbers.specs.Uses.{gavs}
+use Rattle.plan_numbers.specs.Numbers.{ascending, fetch_names, locks_of, numbers_of, plan_files, plan_names}
+use Rattle.plan_numbers.specs.Outputs.{outputs}
+use Rattle.plan_numbers.specs.Plans.{entries_of}
+use Rattle.build_core.specs.declared.plan.Entry.{Entry}
+use Rattle.build_core.specs.declared.plan.Origin.{Origin}
+use Rattle.build_core.specs.declared.plan.Origin.TheVariants as origin
+use Rattle.goal_types.specs.declared.goal.Slot.TheVariants as slots
+use Rattle.mvn_base.specs.Types.{type_rule}
+use Rattle.plan_numbers.specs.Uses.{gavs, used}
 use Rattle.plan_numbers.specs.declared.selected.SelectedModule.{SelectedModule}
 use Rattle.plan_law.specs.Example.{app, lib, named, winner}
 use Rattle.plan_law.specs.Ready.{AreOrdered, IsPlaced}
@@ -129,3 +136,31 @@ pub names : plan_names Compile both ≡ sorted
 unfolding plan_names
 names = ap ascending met_are ∙ met_ascend
 
+-- ---- its files, and what `app` takes of them
+
+abbrev all_files : List (List ℕ)
+all_files =
+    codes "g/lib/1/lib-1.pom" ∷ codes "g/lib/1/lib-1.jar" ∷ codes "g/lib/1/lib-1-tests.jar" ∷ codes "g/lib/1/lib-1-sources.jar" ∷ codes "g/lib/1/lib-1-javadoc.jar"
+    ∷ codes "g/web/1/web-1.pom" ∷ codes "g/web/1/web-1.jar"
+    ∷ codes "g/app/1/app-1.pom" ∷ codes "g/app/1/app-1.jar" ∷ codes "g/app/1/app-1-tests.jar" ∷ codes "g/app/1/app-1-sources.jar" ∷ codes "g/app/1/app-1-javadoc.jar" ∷ []
+
+pub files : plan_files Compile both ≡ all_files
+unfolding plan_files outputs file_name type_rule is_group is_name is_name_byte is_version is_version_byte goal_rule maven_goals calls_through bindings_of phase_number
+files = refl
+
+app_fetches : numbers_of all_files (fetch_names Compile (gavs both) app) ≡ 5 ∷ 6 ∷ []
+unfolding file_name type_rule is_group is_name is_name_byte is_version is_version_byte goal_rule maven_goals calls_through bindings_of phase_number
+app_fetches = refl
+
+pub fetch : numbers_of (plan_files Compile both) (fetch_names Compile (gavs both) app) ≡ 5 ∷ 6 ∷ []
+fetch = ap (λ l. numbers_of l (fetch_names Compile (gavs both) app)) files ∙ app_fetches
+
+abbrev origins_in : List (List ℕ) → List Origin
+origins_in list = map (λ (e : Entry). e.origin) (entries_of (gavs both) list (used Compile app))
+
+app_entries : origins_in all_files ≡ origin.Module 0 slots.Main ∷ origin.File 6 ∷ []
+unfolding file_name type_rule is_group is_name is_name_byte is_version is_version_byte goal_rule maven_goals calls_through bindings_of phase_number
+app_entries = refl
+
+pub entries : origins_in (plan_files Compile both) ≡ origin.Module 0 slots.Main ∷ origin.File 6 ∷ []
+entries = ap origins_in files ∙ app_entries

@@ -122,9 +122,9 @@ module _ (plan : Plan) (sound : IsSoundPlan plan) (start : Files) (present : IsP
       let parts = both (is_told true e.event e.carried) (list_all (λ (x : RunEntry). is_told true x.event x.carried) rest) told in
       let next : standing_of_run plan (past ++ e ∷ []) ≡ after o (standing_of_run plan past) e.event = ap (standing_of o) (events_more past e) ∙ one_more o (events_of past) e.event in
       let one : Stands (standing_of_run plan (past ++ e ∷ [])) (contents plan start (past ++ e ∷ [])) =
-          subst (λ now. Stands now (contents plan start (past ++ e ∷ []))) (sym next)
-          (subst (Stands (after o (standing_of_run plan past) e.event)) (sym (fold_more (λ files (x : RunEntry). put_carried plan files x.event x.carried) past start e))
-          (stands_after (standing_of_run plan past) (contents plan start past) e.event e.carried s run.0 parts.0)) in
+      subst (λ now. Stands now (contents plan start (past ++ e ∷ []))) (sym next)
+      (subst (Stands (after o (standing_of_run plan past) e.event)) (sym (fold_more (λ files (x : RunEntry). put_carried plan files x.event x.carried) past start e))
+      (stands_after (standing_of_run plan past) (contents plan start past) e.event e.carried s run.0 parts.0)) in
       subst (λ es. Stands (standing_of_run plan es) (contents plan start es)) (append_assoc past (e ∷ []) rest)
       (stands_all (past ++ e ∷ []) rest one (subst (λ es. IsRun o es (events_of rest)) (sym (events_more past e)) run.1) parts.1)
 

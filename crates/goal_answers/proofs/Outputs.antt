@@ -328,7 +328,7 @@ module _ (budget : ℕ) (answers : ℕ → GoalAnswer) (wanted : Slot) where
     putting bytes e true nowhere = again held found none is
     putting bytes e false real =
         subst (λ n. Ends (walked (if nat_le (total_of (sizes_with (sizes_of held) call.slot (length bytes))) budget then Holds (sizes_with (sizes_of held) call.slot (length bytes)) else Exceeds) call.slot wanted i (sizes_of held) found (λ more held. walk_of budget answers wanted (suc i) goals more held))
-          (if nat_le n budget then run_goals budget answers (suc i) goals (put_slot call.slot bytes (pieces held all_slots)) else output_too_large i (pieces held all_slots)))
+        (if nat_le n budget then run_goals budget answers (suc i) goals (put_slot call.slot bytes (pieces held all_slots)) else output_too_large i (pieces held all_slots)))
         (sym (total_same held call.slot bytes real)) (fitting bytes e real (nat_le (total_of (sizes_with (sizes_of held) call.slot (length bytes))) budget))
 
     one_more : (a : GoalAnswer) → answers i ≡ a → Ends (walked (step_of a call.slot (sizes_of held) budget) call.slot wanted i (sizes_of held) found (λ more held. walk_of budget answers wanted (suc i) goals more held)) (one_goal budget i call.slot a (pieces held all_slots) (λ kept. run_goals budget answers (suc i) goals kept))

@@ -38,12 +38,24 @@ impl Sizes {
         match slot {
             Slot::Nowhere => self,
             Slot::Pom => Sizes { pom: len, ..self },
-            Slot::Classes => Sizes { classes: len, ..self },
-            Slot::TestClasses => Sizes { test_classes: len, ..self },
+            Slot::Classes => Sizes {
+                classes: len,
+                ..self
+            },
+            Slot::TestClasses => Sizes {
+                test_classes: len,
+                ..self
+            },
             Slot::Main => Sizes { main: len, ..self },
             Slot::Tests => Sizes { tests: len, ..self },
-            Slot::Sources => Sizes { sources: len, ..self },
-            Slot::Javadoc => Sizes { javadoc: len, ..self },
+            Slot::Sources => Sizes {
+                sources: len,
+                ..self
+            },
+            Slot::Javadoc => Sizes {
+                javadoc: len,
+                ..self
+            },
         }
     }
 

@@ -96,11 +96,7 @@ fn is_needed(need: Need, entry: &Entry) -> bool
 }
 
 // A copy of an entry's bytes, if there are any.
-fn copy_of_bytes(
-    alloc: Global,
-    outputs: &[List<OwnBytes>],
-    origin: Origin,
-) -> Mem<Option<Bytes>>
+fn copy_of_bytes(alloc: Global, outputs: &[List<OwnBytes>], origin: Origin) -> Mem<Option<Bytes>>
     ensures { IfOk result (λ copy. copy ≡ kept_bytes outputs.now origin) }
 {
     match kept_bytes(outputs, origin) {

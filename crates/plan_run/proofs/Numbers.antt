@@ -130,6 +130,7 @@ more_kept n answers given h =
       where
         from_start : (j : ℕ) → said_by (find (is_at n j) (numbered n 0 given)) ≡ nth_answer given j
         from_start j = let e : j ≡ 0 + j = omega arith in ap (λ i. said_by (find (is_at n i) (numbered n 0 given))) e ∙ at_itself n 0 j given
+
         here : (j : ℕ) → answer_at (answers ++ numbered n 0 given) n j ≡ nth_answer (answers_of n (answers ++ numbered n 0 given)) j
         here j = ap said_by (find_append (is_at n j) answers (numbered n 0 given) (none_without n j answers (h.none n (omega arith)))) ∙ from_start j ∙ ap (λ (xs : List GoalAnswer). nth_answer xs j) (sym (of_new n answers given h))
     by k j false e = ap said_by (find_before (is_at k j) answers (numbered n 0 given) (none_elsewhere n k j 0 given e)) ∙ h.said k j ∙ ap (λ (xs : List GoalAnswer). nth_answer xs j) (sym (of_others n k answers given e))

@@ -163,8 +163,10 @@ calm_more p (s ∷ states) state h =
   where
     first_of : (x : State) (xs : List State) → list_all p (x ∷ xs) ≡ true → p x ≡ true
     first_of x xs e = grind (arith, e)
+
     rest_of : (x : State) (xs : List State) → list_all p (x ∷ xs) ≡ true → list_all p xs ≡ true
     rest_of x xs e = grind (arith, e)
+
     put : (x : State) (xs : List State) → p x ≡ true → list_all p xs ≡ true → list_all p (x ∷ xs) ≡ true
     put x xs a b = grind (arith, a, b)
 
@@ -174,8 +176,10 @@ all_more p (s ∷ states) state h e = put s (states ++ state ∷ []) (first_of s
   where
     first_of : (x : State) (xs : List State) → list_all p (x ∷ xs) ≡ true → p x ≡ true
     first_of x xs e = grind (arith, e)
+
     rest_of : (x : State) (xs : List State) → list_all p (x ∷ xs) ≡ true → list_all p xs ≡ true
     rest_of x xs e = grind (arith, e)
+
     put : (x : State) (xs : List State) → p x ≡ true → list_all p xs ≡ true → list_all p (x ∷ xs) ≡ true
     put x xs a b = grind (arith, a, b)
 

@@ -50,11 +50,14 @@ fn keep_answers(kept: &mut Vec<Answered>, number: u32, answers: List<GoalAnswer>
 {
     let mut goal = 0;
     for answer in answers.into_vec() {
-        push_in(kept, Answered {
-            module: number,
-            goal,
-            answer,
-        });
+        push_in(
+            kept,
+            Answered {
+                module: number,
+                goal,
+                answer,
+            },
+        );
         goal += 1;
     }
 }
@@ -88,13 +91,12 @@ fn keep_turn(
     push_in(outputs, own);
 }
 
-fn run_of(
-    answers: Vec<Answered>,
-    states: Vec<State>,
-    outputs: Vec<List<OwnBytes>>,
-) -> PlanRun
+fn run_of(answers: Vec<Answered>, states: Vec<State>, outputs: Vec<List<OwnBytes>>) -> PlanRun
     ensures { result ≡ record {
-        answers = answers.items; states = states.items; outputs = outputs.items } }
+      answers = answers.items;
+      states = states.items;
+      outputs = outputs.items;
+    } }
 {
     PlanRun {
         answers: List::of(answers),
@@ -126,8 +128,7 @@ fn run_all<R, S: Shelf, G: Gate>(
     ensures numbered { AreNumbered plan.now result.answers }
     ensures count { HasAllCounts plan.now result }
     ensures answers { IfSome (G.answers hand.old.gate) (λ test. AreAsked test plan.now result) }
-    ensures adds {
-        AddsInOrder plan.now plan.now.modules result.outputs (S.told shelf.old) (S.told shelf.new) }
+    ensures adds { AddsInOrder plan.now plan.now.modules result.outputs (S.told shelf.old) (S.told shelf.new) }
     ensures own { list_all is_own_state result.states ≡ true }
     ensures remote { hand.new.remote ≡ hand.old.remote }
     ensures told { G.answers hand.new.gate ≡ G.answers hand.old.gate }
@@ -147,16 +148,7 @@ fn run_all<R, S: Shelf, G: Gate>(
     for module in plan.modules.as_slice() {
         let stand = states.as_slice();
         let kept = outputs.as_slice();
-        let turn = next_turn(
-            alloc,
-            plan,
-            module,
-            stand,
-            kept,
-            &mut answers,
-            shelf,
-            hand,
-        );
+        let turn = next_turn(alloc, plan, module, stand, kept, &mut answers, shelf, hand);
         keep_turn(&mut answers, &mut states, &mut outputs, number, turn);
         number += 1;
     }

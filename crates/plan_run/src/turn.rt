@@ -13,9 +13,9 @@ ghost use Rattle.module_build.specs.Asked.{AreAskedOf};
 ghost use Rattle.module_build.specs.Ends.{is_own_state, is_calm, is_area_state, is_shelf_state, is_gate_state, HasItsAnswers};
 ghost use Rattle.plan_run.specs.Turns.{TurnsSo};
 
-use module_build::build_module;
 use build_core::{Answered, Ending, Plan, PlanModule, State};
 use goal_types::{GoalAnswer, OwnBytes};
+use module_build::build_module;
 use mvn_outside::{Gate, Hand, Shelf};
 use mvn_shared::List;
 use one_hand::ModuleRun;

@@ -32,13 +32,20 @@ loop-module-preserved g c =
     let stand = c.as_slice-stand.result.now in
     let keep = c.as_slice-kept.result.now in
     let first : IsTurn plan test middle now stand keep m turn.answers turn.own turn.state = record {
-      leaves = t.leaves; always = t.always; adds = t.adds; tells = t.tells;
+      leaves = t.leaves;
+      always = t.always;
+      adds = t.adds;
+      tells = t.tells;
       answers = subst (λ told. IfSome told (λ x. AreAskedOf x plan keep m turn.answers)) inv.told t.answers;
-      count = t.count; is_own = t.own; area = t.area; shelf = t.shelf; gate = t.gate;
+      count = t.count;
+      is_own = t.own;
+      area = t.area;
+      shelf = t.shelf;
+      gate = t.gate;
     } in
     let one : IsTurn plan test middle now states outputs m turn.answers turn.own turn.state =
-        subst (λ (ss : List State). IsTurn plan test middle now ss outputs m turn.answers turn.own turn.state) c.as_slice-stand.ensures.value
-        (subst (λ (os : List (List OwnBytes)). IsTurn plan test middle now stand os m turn.answers turn.own turn.state) c.as_slice-kept.ensures.value first) in
+    subst (λ (ss : List State). IsTurn plan test middle now ss outputs m turn.answers turn.own turn.state) c.as_slice-stand.ensures.value
+    (subst (λ (os : List (List OwnBytes)). IsTurn plan test middle now stand os m turn.answers turn.own turn.state) c.as_slice-kept.ensures.value first) in
     let run = turned plan test before middle now (take i plan.modules) answers states outputs i m turn.answers turn.own turn.state (here_of plan items i m same lt is) inv.run one in
     let kept : c.keep_turn.new.answers.items ≡ answers ++ numbered i 0 turn.answers = c.keep_turn.ensures.answers ∙ ap (λ (xs : List Answered). xs ++ numbered c.loop-module.number 0 turn.answers) t.kept ∙ ap (λ n. answers ++ numbered n 0 turn.answers) inv.number_is in
     record {

@@ -18,8 +18,10 @@ name_at-name-requires g c =
     omega (arith, low, same, c.self.invariant.sound.present)
 
 pub read_file-requires : goal.read_file-requires
-read_file-requires g c = record { there = subst (λ n. IfSome (g.S.Shelf.told c.self.inside.shelf) (λ told. is_some (file_at (files_now told) n) ≡ true)) (sym c.name_at-name.ensures)
-    (due_told g.S.Shelf.told g.S.Shelf.faults c.self.inside.plan.now c.self.inside.core c.self.inside.opening.value c.self.inside.shelf c.self.inside.answers.kept c.self.inside.marks.items (room_of c.self.inside.answers c.self.inside.states) c.self.invariant c.runs_within_bound.ensures.run c.args.worker c.args.file (at_core g.S.Shelf.told g.S.Shelf.faults c.self.inside.plan.now c.self.inside.core c.self.inside.opening.value c.self.inside.shelf c.self.inside.answers.kept c.self.inside.marks.items (room_of c.self.inside.answers c.self.inside.states) c.self.invariant (λ o es. Enabled o es (event.Read c.args.worker c.args.file)) (subst (λ v. MayCome v (event.Read c.args.worker c.args.file)) (sym c.self.view_is) c.requires.may))) }
+read_file-requires g c = record {
+  there = subst (λ n. IfSome (g.S.Shelf.told c.self.inside.shelf) (λ told. is_some (file_at (files_now told) n) ≡ true)) (sym c.name_at-name.ensures)
+      (due_told g.S.Shelf.told g.S.Shelf.faults c.self.inside.plan.now c.self.inside.core c.self.inside.opening.value c.self.inside.shelf c.self.inside.answers.kept c.self.inside.marks.items (room_of c.self.inside.answers c.self.inside.states) c.self.invariant c.runs_within_bound.ensures.run c.args.worker c.args.file (at_core g.S.Shelf.told g.S.Shelf.faults c.self.inside.plan.now c.self.inside.core c.self.inside.opening.value c.self.inside.shelf c.self.inside.answers.kept c.self.inside.marks.items (room_of c.self.inside.answers c.self.inside.states) c.self.invariant (λ o es. Enabled o es (event.Read c.args.worker c.args.file)) (subst (λ v. MayCome v (event.Read c.args.worker c.args.file)) (sym c.self.view_is) c.requires.may)));
+}
 
 pub step-requires : goal.step-requires
 step-requires g c = (at_core g.S.Shelf.told g.S.Shelf.faults c.self.inside.plan.now c.self.inside.core c.self.inside.opening.value c.self.inside.shelf c.self.inside.answers.kept c.self.inside.marks.items (room_of c.self.inside.answers c.self.inside.states) c.self.invariant (λ o es. Enabled o es (event.Read c.args.worker c.args.file)) (subst (λ v. MayCome v (event.Read c.args.worker c.args.file)) (sym c.self.view_is) c.requires.may))

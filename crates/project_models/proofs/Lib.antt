@@ -1,0 +1,7 @@
+pub mod Apart
+pub mod Each
+pub mod Giving
+pub mod Holding
+pub mod Looking
+pub mod Paths
+pub mod Told

@@ -1,0 +1,62 @@
+-- The project's POMs have the texts of the files at their paths.
+use Rattle.std.proofs.Common.{◌≡◌, ℕ, Bool, true, false, List, [], ◌∷◌, map, find, unwrap_or, Option, Some, option_map, Ok, refl, sym, ap, subst, ◌∙◌}
+use Rattle.std.specs.Prelude.{cond}
+use Rattle.std.specs.List.{AllByRecursion}
+use Rattle.std.specs.Option.{option_or}
+use Rattle.std.specs.Str.{bytes_eq}
+use Rattle.mvn_shared.specs.Files.{Files}
+use Rattle.pom_source.specs.Chains.{bound, ok_is}
+use Rattle.pom_source.specs.Worlds.{World}
+use Rattle.pom_source.specs.declared.found.Given.{Given}
+use Rattle.pom_lineage.proofs.Holding.{same_path}
+use Rattle.project_models.specs.Models.{AgreesOnPaths}
+use Rattle.module_discovery.specs.Discovery.{discovered, path_of}
+use Rattle.module_discovery.specs.Listing.{AreListed, IsProject, IsRead}
+use Rattle.module_discovery.specs.Listing.AreListed.{no_module, one_module}
+use Rattle.module_discovery.specs.declared.pom.ModulePom.{ModulePom}
+use Rattle.module_discovery.proofs.Projects.{is_project}
+use Rattle.model_resolver.specs.Finding.{project_at, world_of}
+use Rattle.model_resolver.specs.declared.resolver.ProjectPom.{ProjectPom}
+use Rattle.project_models.specs.Models.{found_pom, project_poms}
+use Rattle.project_models.proofs.Each.{all_both}
+
+-- what a function takes
+abbrev Taken : {A B : Type 0} → (A → B) → Type 0
+Taken {A} {B} f = A
+
+module _ (world : World) where
+  -- a POM that was discovered has a file
+  abbrev IsThere : ModulePom → Type 0
+  IsThere m = (bytes : List ℕ) × (world.by_path m.path ≡ Some bytes)
+
+  read_there : (m : ModulePom) → IsRead world m → IsThere m
+  read_there m r = (r.bytes, r.there)
+
+  all_there : (given : Given) {ls : List (Taken path_of)} {poms : List ModulePom} → AreListed world given ls poms → AllByRecursion IsThere poms
+  all_there given no_module = tt
+  all_there given (one_module l modules own pom below others leads lists under after) =
+      (read_there pom leads.is_read, all_both IsThere below others (all_there given under) (all_there given after))
+
+  agree : (found : List ModulePom) → AllByRecursion IsThere found → (path : List ℕ) → option_or (project_at (map (found_pom world) found) path) (world.by_path path) ≡ world.by_path path
+  agree [] all path = refl
+  agree (m ∷ found) all path = by (agree found all.1 path) (bytes_eq m.path path) refl
+    where
+      rest : Option ProjectPom
+      rest = find (λ (p : ProjectPom). bytes_eq p.path path) (map (found_pom world) found)
+
+      by : option_or (option_map (λ (p : ProjectPom). p.bytes) rest) (world.by_path path) ≡ world.by_path path → (same : Bool) → bytes_eq m.path path ≡ same
+          → option_or (option_map (λ (p : ProjectPom). p.bytes) (cond same (Some (found_pom world m)) rest)) (world.by_path path) ≡ world.by_path path
+      by more true is = ap (λ o. Some (unwrap_or o [])) all.0.1 ∙ sym all.0.1 ∙ ap world.by_path (same_path m.path path is)
+      by more false is = more
+
+  project_there : (given : Given) (found : List ModulePom) → IsProject world given found → AllByRecursion IsThere found
+  project_there given found is = subst (λ l. AllByRecursion IsThere l) (sym is.begins) (read_there is.root is.is_read, all_there given is.are_listed)
+
+-- so a world in which they are found by their coordinates has the same POMs at their paths
+pub agrees : (tree local remote : Files) (given : Given) (poms : List ProjectPom) → project_poms (world_of [] tree local remote) given ≡ Ok poms
+    → AgreesOnPaths (world_of [] tree local remote) (world_of poms tree local remote)
+agrees tree local remote given poms said path =
+    let world : World = world_of [] tree local remote in
+    let b = bound (discovered world given) (λ found. Ok (map (found_pom world) found)) poms said in
+    subst (λ (l : List ProjectPom). option_or (project_at l path) (world.by_path path) ≡ world.by_path path) (ok_is (map (found_pom world) b.0) poms b.2)
+    (agree world b.0 (project_there world given b.0 (is_project world given b.0 b.1)) path)

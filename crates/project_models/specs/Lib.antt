@@ -1,0 +1,14 @@
+pub use Rattle.mvn_shared.specs.Cause
+pub use Rattle.mvn_shared.specs.Files
+pub use Rattle.mvn_outside.specs.Shelf
+pub use Rattle.pom_source.specs.Answers
+pub use Rattle.pom_source.specs.Worlds
+pub use Rattle.profile_activation.specs.Judging
+pub use Rattle.effective.specs.Kept
+pub use Rattle.effective.specs.Lawful
+pub use Rattle.model_resolver.specs.Devices
+pub use Rattle.model_resolver.specs.Finding
+pub mod Composing
+pub mod Models
+pub mod Projects
+pub mod Telling

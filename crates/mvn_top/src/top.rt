@@ -207,7 +207,8 @@ fn call_hand<T: Tree, R: Remote, S: Shelf, G: Gate, O: Sink>(
         (O.written out.old) (O.written out.new))) }
     ensures ends { (wanted : Outcome) ×
         (result.status < 3 →
-        ComesFrom (asked words.now count) (G.answers hand.old.gate) (kept_answers result.answers) wanted)
+        ComesFrom (asked words.now count) (G.answers hand.old.gate)
+        (kept_answers result.answers) wanted)
         × Ends wanted result.status (O.written out.old) (O.written out.new) (O.faults out.old)
         (O.faults out.new) }
     ensures count { IfTold (T.files tree.old) (S.told shelf) (R.files hand.old.remote)
@@ -257,10 +258,10 @@ fn call_hand<T: Tree, R: Remote, S: Shelf, G: Gate, O: Sink>(
 
 /// Builds the project in `tree` as the words say, writes the report or one line to `out`, and answers the exit status: 0
 /// if the module is built, 1 if it isn't, 2 if the words or the project are refused, 3 after a fault of a device,
-/// 4 if memory ran out. The words are a phase, and options; selectors of modules and the full report aren't built yet. The project is one module, by its effective
-/// model: parents and imports are looked up in the project's folder, in the repository, and in the first hand's remote. The
-/// first hand builds: its area is swept first of all calls to it. What was published is settled once, before the report is
-/// written. Project rule.
+/// 4 if memory ran out. The words are a phase, and options; selectors of modules and the full report aren't built yet. The
+/// project is one module, by its effective model: parents and imports are looked up in the project's folder, in the
+/// repository, and in the first hand's remote. The first hand builds, however many there are: its area is swept first of all
+/// calls to it. What was published is settled once, before the report is written. Project rule.
 ///
 /// The project's POM is read once, and so are its sources. They are copied once, into the request that all goals share. Costs
 /// what the effective model, reading, the goals and publishing cost, and memory for the sources twice, for the module's outputs
@@ -282,14 +283,15 @@ pub fn mvn<T: Tree, R: Remote, S: Shelf, G: Gate, O: Sink>(
     ensures outcome { OfFirst hands.old (λ hand.
         IfBoth (T.files tree.old) (R.files hand.remote) (λ files there. result.status < 3
         → LeavesFiles (S.told shelf) (S.told result.shelf) (is_some (S.Area.contents hand.area))
-        (IsCall (asked words.now (length hands.old)) files there machine result.answers result.status (O.written out.old)
-        (O.written out.new)))) }
+        (IsCall (asked words.now (length hands.old)) files there machine result.answers
+        result.status (O.written out.old) (O.written out.new)))) }
 
     // Over any objects the answer comes from the words, or from a plan of one lawful model built by one hand, or it is a refusal.
     // What is written is a part of its text from its front: the whole, unless the sink failed or memory ran out.
     ensures ends { OfFirst hands.old (λ hand. (wanted : Outcome) ×
         (result.status < 3 →
-        ComesFrom (asked words.now (length hands.old)) (G.answers hand.gate) (kept_answers result.answers) wanted)
+        ComesFrom (asked words.now (length hands.old)) (G.answers hand.gate)
+        (kept_answers result.answers) wanted)
         × Ends wanted result.status (O.written out.old) (O.written out.new) (O.faults out.old)
         (O.faults out.new)) }
 

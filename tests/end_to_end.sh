@@ -18,9 +18,21 @@ rm pom.xml
 want 'an empty POM' 2 $'refused pom.xml rule 3 NotPomText at 0\n' validate
 printf '%s' "$pom" > pom.xml
 want 'one POM' 0 "$report" validate
-want 'another word' 2 $'not built yet\n' package
-want 'no word' 2 $'not built yet\n'
-want 'a word that is not UTF-8' 2 $'not built yet\n' $'\xff\xfe'
+want 'another word' 2 $'word 0 UnknownPhase\n' site
+want 'no word' 2 $'word 0 NoPhase\n'
+want 'a word that is not UTF-8' 2 $'word 0 NotUtf8\n' $'\xff\xfe'
+want 'a goal as a word' 2 $'word 0 UnknownPhase\n' compiler:compile
+want 'a word that Maven has' 2 $'word 0 UnknownWord\n' -o validate
+want 'a value that is no number' 2 $'word 1 BadNumber\n' -T 1C validate
+want 'more workers than there are' 2 $'word 1 TooManyWorkers\n' -T 17 validate
+want 'an option without its value' 2 $'word 1 MissingValue\n' validate -P
+want 'a second phase behind an option' 2 $'word 2 TwoPhases\n' validate -B install
+want 'the phase deploy' 2 $'word 0 DeployPhase\n' deploy
+want 'as many workers as there are' 0 "$report" -T 16 -B -ntp validate
+want 'selected modules' 2 $'not built yet\n' validate -pl app
+want 'a module to begin from' 2 $'not built yet\n' validate -rf app
+want 'the full report' 2 $'not built yet\n' validate --full
+want 'upstreams of all modules' 0 "$report" validate -am -amd
 want 'the version' 0 $'mvn 0.1.0 (POM model 4.0.0)\n' --version
 head -c 1048577 /dev/zero > pom.xml
 want 'a POM over the limit' 2 $'refused pom.xml rule 1 TooLarge at 1048576\n' validate
@@ -65,8 +77,8 @@ want '1 MiB of characters past ASCII' 0 "$report" validate
   printf '</configuration></plugin></plugins></build></project>'
 } > pom.xml
 want 'a configuration of 59 levels' 0 "$report" validate
-want 'two words' 2 $'not built yet\n' validate validate
-want 'a part of a word' 2 $'not built yet\n' valida
+want 'two phases' 2 $'word 1 TwoPhases\n' validate validate
+want 'a part of a phase' 2 $'word 0 UnknownPhase\n' valida
 
 # POMs that aren't built: what is answered, and the POM, where V stands for the model's version and G, A and N for a group,
 # an artifact and a version
@@ -118,6 +130,9 @@ echo '2 errors' > src/main/java/demo/fail-compile
 want 'a failed goal' 1 $'failed demo:app:1.0 goal maven-compiler-plugin:compile default-compile: 2 errors\ntotal 1 built 0 failed 1 skipped 0\n' install
 third=$(cd .m2/repository && find . -type f | sort | xargs sha256sum)
 if [ "$first" = "$third" ]; then pass 'the repository after a failed goal'; else fail 'the repository after a failed goal' "$third"; fi
+want 'a phase before the goal' 0 "$report" process-resources
+want 'the phase of the goal' 1 $'failed demo:app:1.0 goal maven-compiler-plugin:compile default-compile: 2 errors\ntotal 1 built 0 failed 1 skipped 0\n' compile
+want 'a phase behind it' 1 $'failed demo:app:1.0 goal maven-compiler-plugin:compile default-compile: 2 errors\ntotal 1 built 0 failed 1 skipped 0\n' package
 rm src/main/java/demo/fail-compile
 
 # links among the sources are followed at every level, to folders and to files, and a circle ends where it closes

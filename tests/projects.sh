@@ -51,6 +51,17 @@ want 'a property that is nowhere' 2 $'refused pom.xml rule 18 Unresolved at v\n'
 project '<groupId>demo</groupId><artifactId>app</artifactId><version>${v}</version><properties><v>3</v></properties><profiles><profile><id>four</id><activation><activeByDefault>true</activeByDefault></activation><properties><v>4</v></properties></profile></profiles>'
 want 'a profile that is active by default' 0 "built demo:app:4$built" validate
 
+
+# what the command line defines stands over the POM's properties, and a profile that it chooses is active
+project '<groupId>demo</groupId><artifactId>app</artifactId><version>${v}</version><properties><v>3</v></properties>'
+want 'a property of the command line' 0 "built demo:app:5$built" validate -Dv=5
+want 'the later of two' 0 "built demo:app:6$built" -D v=5 validate -Dv=6
+project '<groupId>demo</groupId><artifactId>app</artifactId><version>${v}</version><properties><v>3</v></properties><profiles><profile><id>four</id><properties><v>4</v></properties></profile><profile><id>five</id><activation><activeByDefault>true</activeByDefault></activation><properties><v>5</v></properties></profile></profiles>'
+want 'the profile that is active by default' 0 "built demo:app:5$built" validate
+want 'a profile that is chosen in its place' 0 "built demo:app:4$built" validate -P four
+want 'a profile that is switched off' 0 "built demo:app:3$built" validate -P=-five
+want 'a profile that there is none of' 0 "built demo:app:5$built" validate -Pnone
+
 jar='<plugin><artifactId>maven-jar-plugin</artifactId><executions><execution><id>default-jar</id><phase>none</phase><goals><goal>jar</goal></goals></execution></executions></plugin>'
 project "$app<build><pluginManagement><plugins>$jar</plugins></pluginManagement></build>"
 want 'a managed execution without a phase' 1 "failed demo:app:1 no artifact$unbuilt" install

@@ -27,22 +27,38 @@ type RealHand<'a> = Hand<RealRemote<'a, HostRuntime>, RealArea<'a, HostRuntime>,
 const HELP: &str = "\
 mvn builds a Maven project (POM model 4.0.0). It is not Apache Maven.
 
-Usage: mvn WORD
+Usage: mvn [OPTION..] PHASE
 
-Words:
-  validate        make the effective model of pom.xml in the current folder, check it,
-                  and run the goals of the phase validate
-  install         run the goals up to the phase install, and put the POM and what is
-                  made into the local repository
+The phase is the last one that runs, such as validate, compile, test, package,
+verify or install. `mvn` makes the effective model of pom.xml in the current folder,
+checks it, and runs the goals of all phases up to that one. With install it puts the
+POM and what is made into the local repository.
+
+Options:
+  -P LIST         profiles, between commas: `id` or `+id` is on, `-id` or `!id` is off
+  -D NAME=VALUE   a property; `true` without a value
+  -T NUMBER       how many workers may build, 1 to 16; one builds so far
+  -fae, -B, -ntp  as it is done anyway
   -h, --help      print this help
   -v, --version   print the version
+Also --activate-profiles, --threads, --fail-at-end, --batch-mode and
+--no-transfer-progress.
+
+A word that isn't known is refused: `word 1 UnknownWord`, with its number from 0.
+What Maven takes and this program doesn't, and what to do instead:
+  clean           remove the local repository's folder of the project; there is no target
+  site, deploy    nothing stands for them
+  -o              nothing is fetched over a network: leave it out
+  -f FILE         change to the folder of the POM
+  -T 1C           write a number
+  PLUGIN:GOAL     bind the goal to a phase in the POM
 
 The built-in goals do not compile: the output of a goal is a SHA-256 digest of its
 input. Don't point MVN_REPO at a repository that Maven uses. A program that MVN_GATE
 names runs the goals in their place.
 
-Anything else is answered by `not built yet`. So is a project with modules or with
-dependencies. Parents and imports are looked up in the project, in the local
+The answer is `not built yet` to -pl, -rf and --full, and to a project with modules or
+with dependencies. Parents and imports are looked up in the project, in the local
 repository and in the remote one.
 
 Environment:
@@ -51,6 +67,7 @@ Environment:
                   in the project); POMs of parents and imports are read from it
   MVN_GATE        a program that runs the goals, once for each (by default the
                   built-in goals)
+  MVN_JDK         the version of the JDK, for profiles that ask for it
 
 Exit status: 0 built, 1 a goal failed, 2 refused or not built yet, 3 reading or
 writing failed, 4 out of memory.

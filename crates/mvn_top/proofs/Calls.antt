@@ -18,6 +18,7 @@ use Rattle.mvn_top.specs.declared.outcome.Outcome.{Outcome}
 use Rattle.mvn_top.specs.Outcome.{not_built}
 use Rattle.mvn_top.specs.Ending.{IsWhole, Ends, IsLow, HasNone}
 use Rattle.mvn_base.specs.declared.machine.Machine.{Machine}
+use Rattle.cli_words.specs.declared.command_line.CommandLine.{CommandLine}
 use Rattle.mvn_top.specs.Project.{IfTold}
 use Rattle.mvn_top.specs.Headline.{numbered, kept_answers, plan_of, IfBoth, IsOutcome, IsCall, CountFits, ComesFrom, OfFirst}
 use Rattle.mvn_top.proofs.Planned.{told_map}
@@ -62,28 +63,28 @@ leaves_more : (before now : Option ShelfTold) (tells : Bool) (R Q : Files → Fi
 leaves_more None now tells R Q h l = l
 leaves_more (Some told) now tells R Q h l = λ t. let left = l t in (left.0, left.1, h _ _ left.2)
 
-call_outcome : (words : List (List ℕ)) (files there : Files) (machine : Machine) (answers : List Answered) (kept : List GoalAnswer) (wanted : Outcome) (status : ℕ) (written now : Option (List ℕ)) (before after : Files) → answers ≡ numbered 0 kept
-    → IsWhole wanted status written now → IsOutcome words files there machine kept wanted before after → IsCall words files there machine answers status written now before after
-call_outcome words files there machine answers kept wanted status written now before after e whole is world tree remote here start same =
+call_outcome : (asked : Result CommandLine Outcome) (files there : Files) (machine : Machine) (answers : List Answered) (kept : List GoalAnswer) (wanted : Outcome) (status : ℕ) (written now : Option (List ℕ)) (before after : Files) → answers ≡ numbered 0 kept
+    → IsWhole wanted status written now → IsOutcome asked files there machine kept wanted before after → IsCall asked files there machine answers status written now before after
+call_outcome asked files there machine answers kept wanted status written now before after e whole is world tree remote here start same =
     let io = is world tree remote here start (λ i. same i ∙ by_number answers kept i e) in
     (subst (λ (o : Outcome). IsWhole o status written now) io.0 whole, io.1)
 
-call_low : (words : List (List ℕ)) (files there : Files) (machine : Machine) (answers : List Answered) (kept : List GoalAnswer) (out : Result Outcome OutOfMemory) (status : ℕ) (written now : Option (List ℕ)) (before after : Option ShelfTold) (tells : Bool) → answers ≡ numbered 0 kept
+call_low : (asked : Result CommandLine Outcome) (files there : Files) (machine : Machine) (answers : List Answered) (kept : List GoalAnswer) (out : Result Outcome OutOfMemory) (status : ℕ) (written now : Option (List ℕ)) (before after : Option ShelfTold) (tells : Bool) → answers ≡ numbered 0 kept
     → IfOk out (λ wanted. status < 3 → IsWhole wanted status written now) → (status < 3 → IsLow out)
-    → IfOk out (λ wanted. wanted.status < 3 → LeavesFiles before after tells (IsOutcome words files there machine kept wanted))
-    → status < 3 → LeavesFiles before after tells (IsCall words files there machine answers status written now)
-call_low words files there machine answers kept (Ok wanted) status written now before after tells e whole low h = λ l.
-    leaves_more before after tells (IsOutcome words files there machine kept wanted) (IsCall words files there machine answers status written now)
-    (λ a b r. call_outcome words files there machine answers kept wanted status written now a b e (whole l) r) (h (low l))
-call_low words files there machine answers kept (Err x) status written now before after tells e whole low h = λ l. absurd (low l)
+    → IfOk out (λ wanted. wanted.status < 3 → LeavesFiles before after tells (IsOutcome asked files there machine kept wanted))
+    → status < 3 → LeavesFiles before after tells (IsCall asked files there machine answers status written now)
+call_low asked files there machine answers kept (Ok wanted) status written now before after tells e whole low h = λ l.
+    leaves_more before after tells (IsOutcome asked files there machine kept wanted) (IsCall asked files there machine answers status written now)
+    (λ a b r. call_outcome asked files there machine answers kept wanted status written now a b e (whole l) r) (h (low l))
+call_low asked files there machine answers kept (Err x) status written now before after tells e whole low h = λ l. absurd (low l)
 
-pub call_of : (tree remote : Option Files) (words : List (List ℕ)) (machine : Machine) (answers : List Answered) (kept : List GoalAnswer) (out : Result Outcome OutOfMemory) (status : ℕ) (written now : Option (List ℕ)) (before after : Option ShelfTold) (tells : Bool) → answers ≡ numbered 0 kept
-    → IfBoth tree remote (λ files there. IfOk out (λ wanted. wanted.status < 3 → LeavesFiles before after tells (IsOutcome words files there machine kept wanted)))
+pub call_of : (tree remote : Option Files) (asked : Result CommandLine Outcome) (machine : Machine) (answers : List Answered) (kept : List GoalAnswer) (out : Result Outcome OutOfMemory) (status : ℕ) (written now : Option (List ℕ)) (before after : Option ShelfTold) (tells : Bool) → answers ≡ numbered 0 kept
+    → IfBoth tree remote (λ files there. IfOk out (λ wanted. wanted.status < 3 → LeavesFiles before after tells (IsOutcome asked files there machine kept wanted)))
     → IfOk out (λ wanted. status < 3 → IsWhole wanted status written now) → (status < 3 → IsLow out)
-    → IfBoth tree remote (λ files there. status < 3 → LeavesFiles before after tells (IsCall words files there machine answers status written now))
-call_of tree remote words machine answers kept out status written now before after tells e h whole low =
-    both_map tree remote (λ files there. IfOk out (λ wanted. wanted.status < 3 → LeavesFiles before after tells (IsOutcome words files there machine kept wanted))) (λ files there. status < 3 → LeavesFiles before after tells (IsCall words files there machine answers status written now))
-    (λ files there p. call_low words files there machine answers kept out status written now before after tells e whole low p) h
+    → IfBoth tree remote (λ files there. status < 3 → LeavesFiles before after tells (IsCall asked files there machine answers status written now))
+call_of tree remote asked machine answers kept out status written now before after tells e h whole low =
+    both_map tree remote (λ files there. IfOk out (λ wanted. wanted.status < 3 → LeavesFiles before after tells (IsOutcome asked files there machine kept wanted))) (λ files there. status < 3 → LeavesFiles before after tells (IsCall asked files there machine answers status written now))
+    (λ files there p. call_low asked files there machine answers kept out status written now before after tells e whole low p) h
 
 -- ---- what is written
 
@@ -105,28 +106,28 @@ none_ends wanted status written now sink_before sink_now four same = record {
   fault = λ three d. absurd (four_is_not_three status four three);
 }
 
-pub call_ends : (words : List (List ℕ)) (gate : Option (GoalRequest → GoalAnswer → Bool)) (answers : List Answered) (kept : List GoalAnswer) (out : Result Outcome OutOfMemory) (status : ℕ) (written now : Option (List ℕ)) (sink_before sink_now : ℕ) → answers ≡ numbered 0 kept
-    → IfOk out (λ wanted. wanted.status < 3 → ComesFrom words gate kept wanted) → IfOk out (λ wanted. Ends wanted status written now sink_before sink_now) → (status < 3 → IsLow out) → HasNone out status written now
-    → (wanted : Outcome) × (status < 3 → ComesFrom words gate (kept_answers answers) wanted) × Ends wanted status written now sink_before sink_now
-call_ends words gate answers kept (Ok wanted) status written now sink_before sink_now e comes ends low none =
+pub call_ends : (asked : Result CommandLine Outcome) (gate : Option (GoalRequest → GoalAnswer → Bool)) (answers : List Answered) (kept : List GoalAnswer) (out : Result Outcome OutOfMemory) (status : ℕ) (written now : Option (List ℕ)) (sink_before sink_now : ℕ) → answers ≡ numbered 0 kept
+    → IfOk out (λ wanted. wanted.status < 3 → ComesFrom asked gate kept wanted) → IfOk out (λ wanted. Ends wanted status written now sink_before sink_now) → (status < 3 → IsLow out) → HasNone out status written now
+    → (wanted : Outcome) × (status < 3 → ComesFrom asked gate (kept_answers answers) wanted) × Ends wanted status written now sink_before sink_now
+call_ends asked gate answers kept (Ok wanted) status written now sink_before sink_now e comes ends low none =
     let same : kept_answers answers ≡ kept = ap kept_answers e ∙ kept_numbered 0 kept in
-    (wanted, λ l. subst (λ (k : List GoalAnswer). ComesFrom words gate k wanted) (sym same) (comes (low l)), ends)
-call_ends words gate answers kept (Err x) status written now sink_before sink_now e comes ends low none =
+    (wanted, λ l. subst (λ (k : List GoalAnswer). ComesFrom asked gate k wanted) (sym same) (comes (low l)), ends)
+call_ends asked gate answers kept (Err x) status written now sink_before sink_now e comes ends low none =
     (not_built, λ l. absurd (low l), none_ends not_built status written now sink_before sink_now none.0 none.1)
 
-counts_low : (words : List (List ℕ)) (files start there : Files) (machine : Machine) (answers : List Answered) (kept : List GoalAnswer) (out : Result Outcome OutOfMemory) (status : ℕ) → answers ≡ numbered 0 kept → (status < 3 → IsLow out)
-    → IfOk out (λ wanted. wanted.status < 3 → (plan : Plan) → plan_of words files start there machine ≡ Ok plan → CountFits plan kept)
-    → status < 3 → (plan : Plan) → plan_of words files start there machine ≡ Ok plan → CountFits plan (kept_answers answers)
-counts_low words files start there machine answers kept (Ok wanted) status e low h = λ l plan is. subst (λ (k : List GoalAnswer). CountFits plan k) (sym (ap kept_answers e ∙ kept_numbered 0 kept)) (h (low l) plan is)
-counts_low words files start there machine answers kept (Err x) status e low h = λ l. absurd (low l)
+counts_low : (asked : Result CommandLine Outcome) (files start there : Files) (machine : Machine) (answers : List Answered) (kept : List GoalAnswer) (out : Result Outcome OutOfMemory) (status : ℕ) → answers ≡ numbered 0 kept → (status < 3 → IsLow out)
+    → IfOk out (λ wanted. wanted.status < 3 → (plan : Plan) → plan_of asked files start there machine ≡ Ok plan → CountFits plan kept)
+    → status < 3 → (plan : Plan) → plan_of asked files start there machine ≡ Ok plan → CountFits plan (kept_answers answers)
+counts_low asked files start there machine answers kept (Ok wanted) status e low h = λ l plan is. subst (λ (k : List GoalAnswer). CountFits plan k) (sym (ap kept_answers e ∙ kept_numbered 0 kept)) (h (low l) plan is)
+counts_low asked files start there machine answers kept (Err x) status e low h = λ l. absurd (low l)
 
-pub call_counts : (tree : Option Files) (shelf : Option ShelfTold) (remote : Option Files) (words : List (List ℕ)) (machine : Machine) (answers : List Answered) (kept : List GoalAnswer) (out : Result Outcome OutOfMemory) (status : ℕ) → answers ≡ numbered 0 kept
-    → IfTold tree shelf remote (λ files start there. IfOk out (λ wanted. wanted.status < 3 → (plan : Plan) → plan_of words files start there machine ≡ Ok plan → CountFits plan kept)) → (status < 3 → IsLow out)
-    → IfTold tree shelf remote (λ files start there. status < 3 → (plan : Plan) → plan_of words files start there machine ≡ Ok plan → CountFits plan (kept_answers answers))
-call_counts tree shelf remote words machine answers kept out status e h low =
-    told_map tree shelf remote (λ files start there. IfOk out (λ wanted. wanted.status < 3 → (plan : Plan) → plan_of words files start there machine ≡ Ok plan → CountFits plan kept))
-    (λ files start there. status < 3 → (plan : Plan) → plan_of words files start there machine ≡ Ok plan → CountFits plan (kept_answers answers))
-    (λ files start there p. counts_low words files start there machine answers kept out status e low p) h
+pub call_counts : (tree : Option Files) (shelf : Option ShelfTold) (remote : Option Files) (asked : Result CommandLine Outcome) (machine : Machine) (answers : List Answered) (kept : List GoalAnswer) (out : Result Outcome OutOfMemory) (status : ℕ) → answers ≡ numbered 0 kept
+    → IfTold tree shelf remote (λ files start there. IfOk out (λ wanted. wanted.status < 3 → (plan : Plan) → plan_of asked files start there machine ≡ Ok plan → CountFits plan kept)) → (status < 3 → IsLow out)
+    → IfTold tree shelf remote (λ files start there. status < 3 → (plan : Plan) → plan_of asked files start there machine ≡ Ok plan → CountFits plan (kept_answers answers))
+call_counts tree shelf remote asked machine answers kept out status e h low =
+    told_map tree shelf remote (λ files start there. IfOk out (λ wanted. wanted.status < 3 → (plan : Plan) → plan_of asked files start there machine ≡ Ok plan → CountFits plan kept))
+    (λ files start there. status < 3 → (plan : Plan) → plan_of asked files start there machine ≡ Ok plan → CountFits plan (kept_answers answers))
+    (λ files start there p. counts_low asked files start there machine answers kept out status e low p) h
 
 -- ---- the first hand
 

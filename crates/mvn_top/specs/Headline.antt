@@ -1,4 +1,4 @@
--- What a call answers and leaves, as a function of its words and of what stands outside. Own rules.
+-- What a call answers and leaves, as a function of what its words ask for and of what stands outside. Own rules.
 use Rattle.std.specs.Prelude.{◌≡◌, ◌⊎◌, ℕ, suc, Bool, true, List, [], ◌∷◌, map, slice_get, Option, Some, None, Result, Ok, Err, IfSome}
 use Rattle.mvn_shared.specs.Files.{Files}
 use Rattle.goal_types.specs.declared.goal.GoalAnswer.{GoalAnswer}
@@ -13,11 +13,10 @@ use Rattle.build_core.specs.OneThread.{Supply, answer_at, request, one_thread}
 use Rattle.one_hand.specs.Running.{nth_answer, HasAllAnswers}
 use Rattle.mvn_top.specs.declared.outcome.Outcome.{Outcome}
 use Rattle.mvn_base.specs.declared.machine.Machine.{Machine}
-use Rattle.mvn_base.specs.declared.phase.Phase.{Phase}
+use Rattle.cli_words.specs.declared.command_line.CommandLine.{CommandLine}
 use Rattle.module_plan.specs.Plans.{IsModulePlan}
 use Rattle.module_plan.specs.Project.{planned}
-use Rattle.mvn_top.specs.Commands.{phase_asked}
-use Rattle.mvn_top.specs.Outcome.{not_built, of_planned}
+use Rattle.mvn_top.specs.Outcome.{of_planned}
 use Rattle.mvn_top.specs.Project.{given_of, IsNoPlan}
 use Rattle.mvn_top.specs.Ending.{IsWhole}
 use Rattle.mvn_top.specs.Ran.{ran, IsOne, RanAlways}
@@ -34,17 +33,13 @@ pub record World : Type 0 where
 abbrev pub supply_of : World → Supply
 supply_of world = record { start = world.start; remote = world.remote; answers = world.answers }
 
--- the plan for a phase, or what is answered in its place
-abbrev pub plan_with : (tree start remote : Files) → Machine → Option Phase → Result Plan Outcome
-plan_with tree start remote machine None = Err not_built
-plan_with tree start remote machine (Some phase) = of_planned (planned tree start remote phase (given_of machine))
+-- the plan that is asked for, or what is answered in its place
+abbrev pub plan_of : Result CommandLine Outcome → (tree start remote : Files) → Machine → Result Plan Outcome
+plan_of (Err answer) tree start remote machine = Err answer
+plan_of (Ok line) tree start remote machine = of_planned (planned tree start remote line.phase (given_of machine line))
 
--- so for the words
-abbrev pub plan_of : List (List ℕ) → (tree start remote : Files) → Machine → Result Plan Outcome
-plan_of words tree start remote machine = plan_with tree start remote machine (phase_asked words)
-
-abbrev pub plan_in : List (List ℕ) → World → Result Plan Outcome
-plan_in words world = plan_of words world.tree world.start world.remote world.machine
+abbrev pub plan_in : Result CommandLine Outcome → World → Result Plan Outcome
+plan_in asked world = plan_of asked world.tree world.start world.remote world.machine
 
 -- what is answered of a plan, and the files that are left
 abbrev pub outcome_with : World → Result Plan Outcome → Outcome
@@ -56,12 +51,12 @@ files_with world (Err answer) = world.start
 files_with world (Ok plan) = (one_thread plan (supply_of world)).files
 
 -- the outcome of a call: its text and its status
-abbrev pub outcome : List (List ℕ) → World → Outcome
-outcome words world = outcome_with world (plan_in words world)
+abbrev pub outcome : Result CommandLine Outcome → World → Outcome
+outcome asked world = outcome_with world (plan_in asked world)
 
 -- the repository's files that it leaves
-abbrev pub files_after : List (List ℕ) → World → Files
-files_after words world = files_with world (plan_in words world)
+abbrev pub files_after : Result CommandLine Outcome → World → Files
+files_after asked world = files_with world (plan_in asked world)
 
 -- a plan of one module that needs nothing of the repository
 abbrev pub IsSingle : Plan → Type 0
@@ -81,15 +76,15 @@ abbrev pub CountFits : Plan → List GoalAnswer → Type 0
 CountFits plan answers = (m : PlanModule) → plan.modules ≡ m ∷ [] → HasAllAnswers m answers
 
 -- the answer is the outcome, and the files are those that it leaves, of all worlds with these files, this machine and these answers
-abbrev pub IsOutcome : List (List ℕ) → (tree remote : Files) → Machine → List GoalAnswer → Outcome → (before after : Files) → Type 0
-IsOutcome words tree remote machine answers answer before after = (world : World) → world.tree ≡ tree → world.remote ≡ remote → world.machine ≡ machine → world.start ≡ before → ((i : ℕ) → world.answers 0 i ≡ nth_answer answers i)
-    → (answer ≡ outcome words world) × (files_after words world ≡ after)
+abbrev pub IsOutcome : Result CommandLine Outcome → (tree remote : Files) → Machine → List GoalAnswer → Outcome → (before after : Files) → Type 0
+IsOutcome asked tree remote machine answers answer before after = (world : World) → world.tree ≡ tree → world.remote ≡ remote → world.machine ≡ machine → world.start ≡ before → ((i : ℕ) → world.answers 0 i ≡ nth_answer answers i)
+    → (answer ≡ outcome asked world) × (files_after asked world ≡ after)
 
--- Over any devices: the words aren't known, or the project isn't built yet or is refused, or a plan of one lawful model is built by one
--- hand, and its goals are answered as the gate does, if it tells.
-abbrev pub ComesFrom : List (List ℕ) → Option (GoalRequest → GoalAnswer → Bool) → List GoalAnswer → Outcome → Type 0
-ComesFrom words gate answers answer = ((phase_asked words ≡ None) × (answer ≡ not_built))
-    ⊎ ((phase : Phase) × (phase_asked words ≡ Some phase) × (IsNoPlan None answer ⊎ ((plan : Plan) × IsModulePlan phase plan × RanAlways plan answers answer × IfSome gate (λ test. AnswersFit test plan answers))))
+-- Over any devices: what is answered in place of a line, or the project isn't built yet or is refused, or a plan of one lawful model is
+-- built by one hand, and its goals are answered as the gate does, if it tells.
+abbrev pub ComesFrom : Result CommandLine Outcome → Option (GoalRequest → GoalAnswer → Bool) → List GoalAnswer → Outcome → Type 0
+ComesFrom asked gate answers answer = (asked ≡ Err answer)
+    ⊎ ((line : CommandLine) × (asked ≡ Ok line) × (IsNoPlan None answer ⊎ ((plan : Plan) × IsModulePlan line.phase plan × RanAlways plan answers answer × IfSome gate (λ test. AnswersFit test plan answers))))
 
 -- where the project's folder and the remote tell their files
 abbrev pub IfBoth : Option Files → Option Files → ((tree remote : Files) → Type 0) → Type 0
@@ -102,9 +97,9 @@ numbered n (answer ∷ answers) = (record { «module» = 0; goal = n; answer = a
 
 -- Of all worlds with these files, this machine and these answers: the status and what is written are those of the outcome, and the
 -- files are those that it leaves.
-abbrev pub IsCall : List (List ℕ) → (tree remote : Files) → Machine → List Answered → (status : ℕ) → (written now : Option (List ℕ)) → (before after : Files) → Type 0
-IsCall words tree remote machine answers status written now before after = (world : World) → world.tree ≡ tree → world.remote ≡ remote → world.machine ≡ machine → world.start ≡ before → ((i : ℕ) → world.answers 0 i ≡ answer_at answers 0 i)
-    → IsWhole (outcome words world) status written now × (files_after words world ≡ after)
+abbrev pub IsCall : Result CommandLine Outcome → (tree remote : Files) → Machine → List Answered → (status : ℕ) → (written now : Option (List ℕ)) → (before after : Files) → Type 0
+IsCall asked tree remote machine answers status written now before after = (world : World) → world.tree ≡ tree → world.remote ≡ remote → world.machine ≡ machine → world.start ≡ before → ((i : ℕ) → world.answers 0 i ≡ answer_at answers 0 i)
+    → IsWhole (outcome asked world) status written now × (files_after asked world ≡ after)
 
 -- the answers alone, in order
 abbrev pub kept_answers : List Answered → List GoalAnswer

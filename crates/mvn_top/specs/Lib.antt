@@ -5,6 +5,8 @@ pub use Rattle.mvn_base.specs.Gav
 pub use Rattle.mvn_base.specs.Names
 pub use Rattle.mvn_base.specs.Refusal
 pub use Rattle.mvn_base.specs.Rule
+pub use Rattle.cli_words.specs.Faults
+pub use Rattle.cli_words.specs.Options
 pub use Rattle.pom_source.specs.Answers
 pub use Rattle.model_resolver.specs.Devices
 pub use Rattle.module_plan.specs.Plans

@@ -5,6 +5,8 @@ use Rattle.mvn_base.specs.declared.refusal.Place.TheVariants.{Name}
 use Rattle.mvn_base.specs.declared.refusal.PomId.TheVariants.{Path}
 use Rattle.mvn_base.specs.declared.refusal.Refusal.{Refusal}
 use Rattle.mvn_base.specs.Refusal.{refusal_text}
+use Rattle.cli_words.specs.Faults.{fault_text}
+use Rattle.cli_words.specs.declared.fault.WordFault.{WordFault}
 use Rattle.build_core.specs.declared.plan.Plan.{Plan}
 use Rattle.pom_source.specs.Answers.{Built}
 use Rattle.pom_source.specs.declared.fault.BuildFault.TheVariants as fault
@@ -19,6 +21,10 @@ line text = text ++ 10 ∷ []
 -- what this stage doesn't build yet
 unfoldable pub not_built : Outcome
 not_built = record { text = line (codes "not built yet"); status = 2 }
+
+-- the first fault of the words, and where it stands
+unfoldable pub word_fault : WordFault → Outcome
+word_fault fault = record { text = line (fault_text fault); status = 2 }
 
 abbrev pub device_name : PomDevice → List ℕ
 device_name Tree = codes "tree"

@@ -1,6 +1,7 @@
 -- What planning a project gives, by what its devices tell. Own rules.
-use Rattle.std.specs.Prelude.{◌≡◌, ◌⊎◌, ℕ, Bool, List, [], Option, None, Some, Result, Ok, Err, IfSome, is_some}
+use Rattle.std.specs.Prelude.{◌≡◌, ◌⊎◌, Option, None, Some, Result, Ok, Err, IfSome, is_some}
 use Rattle.mvn_shared.specs.Files.{Files}
+use Rattle.cli_words.specs.declared.command_line.CommandLine.{CommandLine}
 use Rattle.mvn_base.specs.declared.machine.Machine.{Machine}
 use Rattle.mvn_base.specs.declared.phase.Phase.{Phase}
 use Rattle.mvn_base.specs.declared.refusal.Refusal.{Refusal}
@@ -15,9 +16,9 @@ use Rattle.module_plan.specs.Project.{planned}
 use Rattle.mvn_top.specs.Outcome.{fault_line, not_built, of_planned, refused_by}
 use Rattle.mvn_top.specs.declared.outcome.Outcome.{Outcome}
 
--- no properties are defined and no profiles chosen on the command line yet
-abbrev pub given_of : Machine → Given
-given_of machine = record { machine = machine; defines = []; choice = record { on = []; off = [] } }
+-- the machine, and what the command line says: the properties that it defines, and the profiles that it chooses
+abbrev pub given_of : Machine → CommandLine → Given
+given_of machine line = record { machine = machine; defines = line.defines; choice = line.choice }
 
 -- an answer in place of a plan: a project isn't built yet, it is refused, or the device that failed is named
 abbrev pub IsNoPlan : Option PomDevice → Outcome → Type 0

@@ -4,10 +4,11 @@ ghost use Rattle.std.specs.String.{string_bytes};
 ghost use Rattle.build_core.specs.declared.plan.Plan as plans;
 ghost use Rattle.pom_source.specs.Answers.{Built, Fails, Says, build_failed, fault_failed};
 ghost use Rattle.model_resolver.specs.declared.failures.PomDevice as devices;
-ghost use Rattle.mvn_top.specs.Outcome.{device_name, fault_line, line, not_built, of_planned, refused_by, root_missing};
+ghost use Rattle.mvn_top.specs.Outcome.{device_name, fault_line, line, not_built, of_planned, refused_by, root_missing, word_fault};
 ghost use Rattle.mvn_top.specs.Project.{ComesFromPlan, IsNoPlan};
 
 use build_core::Plan;
+use cli_words::WordFault;
 use model_resolver::PomDevice;
 use module_plan::Planned;
 use mvn_base::{Place, PomId, Refusal, Rule};
@@ -52,6 +53,18 @@ pub fn not_built(alloc: Global) -> Mem<Outcome>
     ensures { IfOk result (λ outcome. outcome ≡ not_built) }
 {
     let text = line(String::from_str(alloc, "not built yet")?)?;
+    Ok(Outcome {
+        text,
+        status: REFUSED,
+    })
+}
+
+/// The answer to words of which this is the first fault.
+#[tactic(auto, unfolding(crate::specs::Outcome::word_fault))]
+pub fn word_fault(alloc: Global, fault: WordFault) -> Mem<Outcome>
+    ensures { IfOk result (λ outcome. outcome ≡ word_fault fault) }
+{
+    let text = line(format!(in alloc; "{fault}")?)?;
     Ok(Outcome {
         text,
         status: REFUSED,

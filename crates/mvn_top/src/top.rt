@@ -7,48 +7,60 @@ ghost use Rattle.mvn_top.specs.declared.outcome.Outcome.{Outcome};
 ghost use Rattle.mvn_top.specs.Once.{PublishesOnce, StopsBetween};
 ghost use Rattle.mvn_top.specs.Ending.{IsWhole, Ends, IsLow, IsFault, HasNone};
 ghost use Rattle.mvn_top.specs.Headline.{numbered, kept_answers, IfBoth, IsCall, plan_of, IsOutcome, AnswersFit, CountFits, ComesFrom, OfFirst, OfFirsts, SameOthers};
+ghost use Rattle.mvn_top.specs.Commands.{asked};
 ghost use Rattle.mvn_top.specs.Project.{given_of, IfTold};
 
 use crate::build::{Call, build_plan, nothing};
-use crate::command::phase_asked;
-use crate::outcome::{FAULT, NO_MEMORY, Outcome, not_built};
+use crate::command::asked;
+use crate::outcome::{FAULT, NO_MEMORY, Outcome};
 use crate::project::plan_phase;
 use build_core::{Answered, Event};
+use cli_words::CommandLine;
 use goal_types::GoalAnswer;
-use mvn_base::{Choice, Machine};
+use mvn_base::Machine;
 use mvn_outside::{DeviceFault, Gate, Hand, Remote, Shelf, Sink, Tree, write_all};
 use mvn_shared::{Bytes, List, Mem, OutOfMemory};
 use pom_source::Given;
 use std::alloc::Global;
 
-// What the call answers, and what its goals were answered.
-fn build<T: Tree, R: Remote, S: Shelf, G: Gate>(
+// What is given to all POMs of a call: the machine, and what the line says. Takes no memory.
+fn given_of(machine: Machine, line: CommandLine) -> Given
+    ensures { result ≡ given_of machine line }
+{
+    Given {
+        machine,
+        defines: line.defines,
+        choice: line.choice,
+    }
+}
+
+// What a call of this line answers, and what its goals were answered.
+fn build_line<T: Tree, R: Remote, S: Shelf, G: Gate>(
     alloc: Global,
-    words: &[Bytes],
-    given: &Given,
+    line: CommandLine,
+    machine: Machine,
     tree: &mut T,
     shelf: &mut S,
     hand: &mut Hand<R, S::Area, G>,
 ) -> Call
-    requires given { given.now ≡ given_of given.now.machine }
     ensures outcome { IfBoth (T.files tree.old) (R.files hand.old.remote) (λ files there.
         IfOk result.outcome (λ answer. answer.status < 3
         → LeavesFiles (S.told shelf.old) (S.told shelf.new)
         (is_some (S.Area.contents hand.old.area))
-        (IsOutcome words.now files there given.now.machine result.answers answer))) }
+        (IsOutcome (Ok line) files there machine result.answers answer))) }
     ensures bound { IfOk result.outcome (λ answer. answer.status ≤ 3) }
     ensures comes { IfOk result.outcome (λ answer. answer.status < 3 →
-        ComesFrom words.now (G.answers hand.old.gate) result.answers answer) }
+        ComesFrom (Ok line) (G.answers hand.old.gate) result.answers answer) }
     ensures count { IfTold (T.files tree.old) (S.told shelf.old) (R.files hand.old.remote)
         (λ files start there. IfOk result.outcome (λ answer. answer.status < 3 → (plan : Plan) →
-        plan_of words.now files start there given.now.machine ≡ Ok plan →
+        plan_of (Ok line) files start there machine ≡ Ok plan →
         CountFits plan result.answers)) }
     ensures once { PublishesOnce (S.told shelf.old) (S.told shelf.new) }
     ensures settled { IfOk result.outcome (λ answer. answer.status < 2 →
         IfSome (S.told shelf.new) IsSettled) }
     ensures answers { IfTold (T.files tree.old) (S.told shelf.old) (R.files hand.old.remote)
         (λ files start there. IfSome (G.answers hand.old.gate) (λ test. (plan : Plan) →
-        plan_of words.now files start there given.now.machine ≡ Ok plan →
+        plan_of (Ok line) files start there machine ≡ Ok plan →
         AnswersFit test plan result.answers)) }
     ensures quiet { IfOk result.outcome (λ answer. answer.status < 3 →
         (T.faults tree.new ≡ T.faults tree.old) × (S.faults shelf.new ≡ S.faults shelf.old) ×
@@ -62,13 +74,62 @@ fn build<T: Tree, R: Remote, S: Shelf, G: Gate>(
         (HasRisen (S.Area.faults hand.old.area) (S.Area.faults hand.new.area) ⊎
         HasRisen (G.faults hand.old.gate) (G.faults hand.new.gate))))) }
 {
-    let Some(phase) = phase_asked(words) else {
-        return nothing(alloc, not_built(alloc));
-    };
-    let planning = plan_phase(alloc, phase, given, tree, shelf, &mut hand.remote);
+    let phase = line.phase;
+    let given = given_of(machine, line);
+    let planning = plan_phase(alloc, phase, &given, tree, shelf, &mut hand.remote);
     let answer = planning.answer;
     match answer {
         Ok(Ok(plan)) => build_plan(alloc, &plan, shelf, hand),
+        Ok(Err(outcome)) => nothing(alloc, Ok(outcome)),
+        Err(error) => nothing(alloc, Err(error)),
+    }
+}
+
+// What the call answers, and what its goals were answered.
+fn build<T: Tree, R: Remote, S: Shelf, G: Gate>(
+    alloc: Global,
+    words: &[Bytes],
+    count: u32,
+    machine: Machine,
+    tree: &mut T,
+    shelf: &mut S,
+    hand: &mut Hand<R, S::Area, G>,
+) -> Call
+    requires hands { (1 ≤ count) × (count ≤ 16) }
+    ensures outcome { IfBoth (T.files tree.old) (R.files hand.old.remote) (λ files there.
+        IfOk result.outcome (λ answer. answer.status < 3
+        → LeavesFiles (S.told shelf.old) (S.told shelf.new)
+        (is_some (S.Area.contents hand.old.area))
+        (IsOutcome (asked words.now count) files there machine result.answers answer))) }
+    ensures bound { IfOk result.outcome (λ answer. answer.status ≤ 3) }
+    ensures comes { IfOk result.outcome (λ answer. answer.status < 3 →
+        ComesFrom (asked words.now count) (G.answers hand.old.gate) result.answers answer) }
+    ensures count { IfTold (T.files tree.old) (S.told shelf.old) (R.files hand.old.remote)
+        (λ files start there. IfOk result.outcome (λ answer. answer.status < 3 → (plan : Plan) →
+        plan_of (asked words.now count) files start there machine ≡ Ok plan →
+        CountFits plan result.answers)) }
+    ensures once { PublishesOnce (S.told shelf.old) (S.told shelf.new) }
+    ensures settled { IfOk result.outcome (λ answer. answer.status < 2 →
+        IfSome (S.told shelf.new) IsSettled) }
+    ensures answers { IfTold (T.files tree.old) (S.told shelf.old) (R.files hand.old.remote)
+        (λ files start there. IfSome (G.answers hand.old.gate) (λ test. (plan : Plan) →
+        plan_of (asked words.now count) files start there machine ≡ Ok plan →
+        AnswersFit test plan result.answers)) }
+    ensures quiet { IfOk result.outcome (λ answer. answer.status < 3 →
+        (T.faults tree.new ≡ T.faults tree.old) × (S.faults shelf.new ≡ S.faults shelf.old) ×
+        (R.faults hand.new.remote ≡ R.faults hand.old.remote) ×
+        (S.Area.faults hand.new.area ≡ S.Area.faults hand.old.area) ×
+        (G.faults hand.new.gate ≡ G.faults hand.old.gate)) }
+    ensures fault { IfOk result.outcome (λ answer. answer.status ≡ 3 →
+        HasRisen (T.faults tree.old) (T.faults tree.new) ⊎
+        (HasRisen (S.faults shelf.old) (S.faults shelf.new) ⊎
+        (HasRisen (R.faults hand.old.remote) (R.faults hand.new.remote) ⊎
+        (HasRisen (S.Area.faults hand.old.area) (S.Area.faults hand.new.area) ⊎
+        HasRisen (G.faults hand.old.gate) (G.faults hand.new.gate))))) }
+{
+    let answer = asked(alloc, words, count);
+    match answer {
+        Ok(Ok(line)) => build_line(alloc, line, machine, tree, shelf, hand),
         Ok(Err(outcome)) => nothing(alloc, Ok(outcome)),
         Err(error) => nothing(alloc, Err(error)),
     }
@@ -131,32 +192,34 @@ fn numbered(alloc: Global, answers: List<GoalAnswer>) -> Mem<List<Answered>>
 fn call_hand<T: Tree, R: Remote, S: Shelf, G: Gate, O: Sink>(
     alloc: Global,
     words: &[Bytes],
-    given: &Given,
+    count: u32,
+    machine: Machine,
     tree: &mut T,
     shelf: S,
     hand: &mut Hand<R, S::Area, G>,
     out: &mut O,
 ) -> Ended<S>
-    requires given { given.now ≡ given_of given.now.machine }
+    requires hands { (1 ≤ count) × (count ≤ 16) }
     ensures outcome { IfBoth (T.files tree.old) (R.files hand.old.remote) (λ files there.
         result.status < 3
         → LeavesFiles (S.told shelf) (S.told result.shelf) (is_some (S.Area.contents hand.old.area))
-        (IsCall words.now files there given.now.machine result.answers result.status
+        (IsCall (asked words.now count) files there machine result.answers result.status
         (O.written out.old) (O.written out.new))) }
     ensures ends { (wanted : Outcome) ×
         (result.status < 3 →
-        ComesFrom words.now (G.answers hand.old.gate) (kept_answers result.answers) wanted)
+        ComesFrom (asked words.now count) (G.answers hand.old.gate)
+        (kept_answers result.answers) wanted)
         × Ends wanted result.status (O.written out.old) (O.written out.new) (O.faults out.old)
         (O.faults out.new) }
     ensures count { IfTold (T.files tree.old) (S.told shelf) (R.files hand.old.remote)
         (λ files start there. result.status < 3 → (plan : Plan) →
-        plan_of words.now files start there given.now.machine ≡ Ok plan →
+        plan_of (asked words.now count) files start there machine ≡ Ok plan →
         CountFits plan (kept_answers result.answers)) }
     ensures once { PublishesOnce (S.told shelf) (S.told result.shelf) }
     ensures settled { result.status < 2 → IfSome (S.told result.shelf) IsSettled }
     ensures answers { IfTold (T.files tree.old) (S.told shelf) (R.files hand.old.remote)
         (λ files start there. IfSome (G.answers hand.old.gate) (λ test. (plan : Plan) →
-        plan_of words.now files start there given.now.machine ≡ Ok plan →
+        plan_of (asked words.now count) files start there machine ≡ Ok plan →
         AnswersFit test plan (kept_answers result.answers))) }
     ensures quiet { result.status < 3 → (T.faults tree.new ≡ T.faults tree.old) ×
         (S.faults result.shelf ≡ S.faults shelf) ×
@@ -173,7 +236,7 @@ fn call_hand<T: Tree, R: Remote, S: Shelf, G: Gate, O: Sink>(
     ensures trace { result.trace ≡ [] }
 {
     let mut shelf = shelf;
-    let Call { outcome, answers } = build(alloc, words, given, tree, &mut shelf, hand);
+    let Call { outcome, answers } = build(alloc, words, count, machine, tree, &mut shelf, hand);
     match numbered(alloc, answers) {
         Ok(answers) => {
             let status = write_answer(out, outcome);
@@ -193,26 +256,12 @@ fn call_hand<T: Tree, R: Remote, S: Shelf, G: Gate, O: Sink>(
     }
 }
 
-// What is given to all POMs of a call: the machine. Takes no memory.
-fn given_of(alloc: Global, machine: Machine) -> Given
-    ensures { result ≡ given_of machine }
-{
-    Given {
-        machine,
-        defines: List::new(alloc),
-        choice: Choice {
-            on: List::new(alloc),
-            off: List::new(alloc),
-        },
-    }
-}
-
 /// Builds the project in `tree` as the words say, writes the report or one line to `out`, and answers the exit status: 0
 /// if the module is built, 1 if it isn't, 2 if the words or the project are refused, 3 after a fault of a device,
-/// 4 if memory ran out. The words are the one word `validate` or `install`, for now. The project is one module, by its effective
-/// model: parents and imports are looked up in the project's folder, in the repository, and in the first hand's remote. The
-/// first hand builds: its area is swept first of all calls to it. What was published is settled once, before the report is
-/// written. Project rule.
+/// 4 if memory ran out. The words are a phase, and options; selectors of modules and the full report aren't built yet. The
+/// project is one module, by its effective model: parents and imports are looked up in the project's folder, in the
+/// repository, and in the first hand's remote. The first hand builds, however many there are: its area is swept first of all
+/// calls to it. What was published is settled once, before the report is written. Project rule.
 ///
 /// The project's POM is read once, and so are its sources. They are copied once, into the request that all goals share. Costs
 /// what the effective model, reading, the goals and publishing cost, and memory for the sources twice, for the module's outputs
@@ -234,14 +283,15 @@ pub fn mvn<T: Tree, R: Remote, S: Shelf, G: Gate, O: Sink>(
     ensures outcome { OfFirst hands.old (λ hand.
         IfBoth (T.files tree.old) (R.files hand.remote) (λ files there. result.status < 3
         → LeavesFiles (S.told shelf) (S.told result.shelf) (is_some (S.Area.contents hand.area))
-        (IsCall words.now files there machine result.answers result.status (O.written out.old)
-        (O.written out.new)))) }
+        (IsCall (asked words.now (length hands.old)) files there machine result.answers
+        result.status (O.written out.old) (O.written out.new)))) }
 
     // Over any objects the answer comes from the words, or from a plan of one lawful model built by one hand, or it is a refusal.
     // What is written is a part of its text from its front: the whole, unless the sink failed or memory ran out.
     ensures ends { OfFirst hands.old (λ hand. (wanted : Outcome) ×
         (result.status < 3 →
-        ComesFrom words.now (G.answers hand.gate) (kept_answers result.answers) wanted)
+        ComesFrom (asked words.now (length hands.old)) (G.answers hand.gate)
+        (kept_answers result.answers) wanted)
         × Ends wanted result.status (O.written out.old) (O.written out.new) (O.faults out.old)
         (O.faults out.new)) }
 
@@ -249,14 +299,14 @@ pub fn mvn<T: Tree, R: Remote, S: Shelf, G: Gate, O: Sink>(
     ensures answers { OfFirst hands.old (λ hand.
         IfTold (T.files tree.old) (S.told shelf) (R.files hand.remote) (λ files start there.
         IfSome (G.answers hand.gate) (λ test. (plan : Plan) →
-        plan_of words.now files start there machine ≡ Ok plan →
+        plan_of (asked words.now (length hands.old)) files start there machine ≡ Ok plan →
         AnswersFit test plan (kept_answers result.answers)))) }
 
     // Below 3 there is one answer for each goal that the definition reaches.
     ensures count { OfFirst hands.old (λ hand.
         IfTold (T.files tree.old) (S.told shelf) (R.files hand.remote) (λ files start there.
         result.status < 3 → (plan : Plan) →
-        plan_of words.now files start there machine ≡ Ok plan →
+        plan_of (asked words.now (length hands.old)) files start there machine ≡ Ok plan →
         CountFits plan (kept_answers result.answers))) }
 
     // Each name is published at most once, and the settled number never falls; so at every moment, and after a stop, a name has
@@ -287,6 +337,6 @@ pub fn mvn<T: Tree, R: Remote, S: Shelf, G: Gate, O: Sink>(
     ensures hands { SameOthers hands.old hands.new }
     ensures trace { result.trace ≡ [] }
 {
-    let given = given_of(alloc, machine);
-    call_hand(alloc, words, &given, tree, shelf, &mut hands[0], out)
+    let count = hands.len() as u32;
+    call_hand(alloc, words, count, machine, tree, shelf, &mut hands[0], out)
 }

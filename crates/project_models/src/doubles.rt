@@ -34,11 +34,7 @@ fn put_path(paths: &mut HashMap<Gav, Text>, gav: &Gav, path: &Text) -> Mem<()>
 }
 
 // A module and the one whose coordinates it has, if there is one; else its path is put under its own.
-fn taken(
-    paths: &mut HashMap<Gav, Text>,
-    pom: &ProjectPom,
-    model: &Model,
-) -> Mem<Option<Double>>
+fn taken(paths: &mut HashMap<Gav, Text>, pom: &ProjectPom, model: &Model) -> Mem<Option<Double>>
     ensures value { IfOk result (λ double. double ≡ option_map
         (λ earlier. record { later = pom.now.path; earlier = earlier })
         (get gav_eq paths.old model.now.gav)) }

@@ -219,9 +219,7 @@ fn with_poms<T: Tree, S: Shelf, R: Remote>(
     ensures cause { HasCause failures.old.count failures.new.count (build_failed result) }
 {
     let mut run = RunStore::new(alloc);
-    match find_models(
-        alloc, &mut run, tree, shelf, remote, failures, given, &poms,
-    ) {
+    match find_models(alloc, &mut run, tree, shelf, remote, failures, given, &poms) {
         Ok(models) => single(alloc, poms, models, run),
         Err(fault) => Err(fault),
     }

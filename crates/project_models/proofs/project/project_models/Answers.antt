@@ -29,14 +29,14 @@ returns-in-Ok-clause-says g c =
     (λ x y z. Gives (project_models x y z given) c.with_poms.result)
     (λ x y z first next. gives_on (project_poms (world_of [] x y z) given) (modules_of x y z given) poms c.with_poms.result first.0 (next first.1 (agrees x y z given poms first.0)))
     (told_two a b d
-        (λ x y z. Holds (world_of [] x y z) given c.new-store.result → Says (project_poms (world_of [] x y z) given) (Ok poms))
-        (λ x y z. Holds (world_of [] x y z) given c.new-store.result → Holds (world_of [] x y z) given store)
-        (λ x y z. (project_poms (world_of [] x y z) given ≡ Ok poms) × Holds (world_of [] x y z) given store)
-        (λ x y z said kept. (said (c.new-store.ensures (world_of [] x y z) given), kept (c.new-store.ensures (world_of [] x y z) given)))
-        c.in-Ok.ensures.says c.in-Ok.ensures.holds)
+    (λ x y z. Holds (world_of [] x y z) given c.new-store.result → Says (project_poms (world_of [] x y z) given) (Ok poms))
+    (λ x y z. Holds (world_of [] x y z) given c.new-store.result → Holds (world_of [] x y z) given store)
+    (λ x y z. (project_poms (world_of [] x y z) given ≡ Ok poms) × Holds (world_of [] x y z) given store)
+    (λ x y z said kept. (said (c.new-store.ensures (world_of [] x y z) given), kept (c.new-store.ensures (world_of [] x y z) given)))
+    c.in-Ok.ensures.says c.in-Ok.ensures.holds)
     (told_same a (g.T.Tree.files c.find_poms.new.tree) b (g.S.Shelf.told c.find_poms.new.shelf) d (g.R.Remote.files c.find_poms.new.remote)
-        (λ x y z. Holds (world_of [] x y z) given store → AgreesOnPaths (world_of [] x y z) (world_of poms x y z) → Gives (modules_of x y z given poms) c.with_poms.result)
-        c.in-Ok.ensures.tree c.in-Ok.ensures.shelf c.in-Ok.ensures.remote c.with_poms.ensures.says)
+    (λ x y z. Holds (world_of [] x y z) given store → AgreesOnPaths (world_of [] x y z) (world_of poms x y z) → Gives (modules_of x y z given poms) c.with_poms.result)
+    c.in-Ok.ensures.tree c.in-Ok.ensures.shelf c.in-Ok.ensures.remote c.with_poms.ensures.says)
 
 pub returns-in-Err-clause-says : goal.returns-in-Err-clause-says
 unfolding project_models
@@ -59,19 +59,19 @@ returns-in-Ok-clause-holds g c =
     told_two a b d
     (λ x y z. (project_poms (world_of [] x y z) given ≡ Ok poms) × Holds (world_of [] x y z) given store)
     (λ x y z. Holds (world_of [] x y z) given store → AgreesOnPaths (world_of [] x y z) (world_of poms x y z)
-        → IfOk c.with_poms.result (λ (found : ProjectModels). HoldsAll (world_of found.poms x y z) given found.store))
+    → IfOk c.with_poms.result (λ (found : ProjectModels). HoldsAll (world_of found.poms x y z) given found.store))
     (λ x y z. IfOk c.with_poms.result (λ (found : ProjectModels). HoldsAll (world_of found.poms x y z) given found.store))
     (λ x y z first next. next first.1 (agrees x y z given poms first.0))
     (told_two a b d
-        (λ x y z. Holds (world_of [] x y z) given c.new-store.result → Says (project_poms (world_of [] x y z) given) (Ok poms))
-        (λ x y z. Holds (world_of [] x y z) given c.new-store.result → Holds (world_of [] x y z) given store)
-        (λ x y z. (project_poms (world_of [] x y z) given ≡ Ok poms) × Holds (world_of [] x y z) given store)
-        (λ x y z said kept. (said (c.new-store.ensures (world_of [] x y z) given), kept (c.new-store.ensures (world_of [] x y z) given)))
-        c.in-Ok.ensures.says c.in-Ok.ensures.holds)
+    (λ x y z. Holds (world_of [] x y z) given c.new-store.result → Says (project_poms (world_of [] x y z) given) (Ok poms))
+    (λ x y z. Holds (world_of [] x y z) given c.new-store.result → Holds (world_of [] x y z) given store)
+    (λ x y z. (project_poms (world_of [] x y z) given ≡ Ok poms) × Holds (world_of [] x y z) given store)
+    (λ x y z said kept. (said (c.new-store.ensures (world_of [] x y z) given), kept (c.new-store.ensures (world_of [] x y z) given)))
+    c.in-Ok.ensures.says c.in-Ok.ensures.holds)
     (told_same a (g.T.Tree.files c.find_poms.new.tree) b (g.S.Shelf.told c.find_poms.new.shelf) d (g.R.Remote.files c.find_poms.new.remote)
-        (λ x y z. Holds (world_of [] x y z) given store → AgreesOnPaths (world_of [] x y z) (world_of poms x y z)
-            → IfOk c.with_poms.result (λ (found : ProjectModels). HoldsAll (world_of found.poms x y z) given found.store))
-        c.in-Ok.ensures.tree c.in-Ok.ensures.shelf c.in-Ok.ensures.remote c.with_poms.ensures.holds)
+    (λ x y z. Holds (world_of [] x y z) given store → AgreesOnPaths (world_of [] x y z) (world_of poms x y z)
+    → IfOk c.with_poms.result (λ (found : ProjectModels). HoldsAll (world_of found.poms x y z) given found.store))
+    c.in-Ok.ensures.tree c.in-Ok.ensures.shelf c.in-Ok.ensures.remote c.with_poms.ensures.holds)
 
 pub returns-in-Err-clause-holds : goal.returns-in-Err-clause-holds
 returns-in-Err-clause-holds g c =

@@ -19,8 +19,8 @@ returns-in-Ok-clause-says g c =
     (λ x y z. HoldsAll (world_of poms x y z) given c.new-run.result → Says (models_of (world_of poms x y z) given poms) (Ok c.in-Ok.models))
     (λ x y z. Holds (world_of [] x y z) given c.args.store → AgreesOnPaths (world_of [] x y z) (world_of poms x y z) → Gives (modules_of x y z given poms) c.single.result)
     (λ x y z said holds agrees.
-        gives_on (models_of (world_of poms x y z) given poms) (single poms) c.in-Ok.models c.single.result
-        (said (c.new-run.ensures (world_of poms x y z) given)) c.single.ensures.says)
+    gives_on (models_of (world_of poms x y z) given poms) (single poms) c.in-Ok.models c.single.result
+    (said (c.new-run.ensures (world_of poms x y z) given)) c.single.ensures.says)
     c.in-Ok.ensures.says
 
 pub returns-clause-says : goal.returns-clause-says
@@ -31,8 +31,8 @@ returns-clause-says g c =
     (λ x y z. HoldsAll (world_of poms x y z) given c.new-run.result → Says (models_of (world_of poms x y z) given poms) (Err c.in-Err.fault))
     (λ x y z. Holds (world_of [] x y z) given c.args.store → AgreesOnPaths (world_of [] x y z) (world_of poms x y z) → Gives (modules_of x y z given poms) (Err c.in-Err.fault))
     (λ x y z said holds agrees.
-        stop_fails (models_of (world_of poms x y z) given poms) (single poms) c.in-Err.fault
-        (said (c.new-run.ensures (world_of poms x y z) given)))
+    stop_fails (models_of (world_of poms x y z) given poms) (single poms) c.in-Err.fault
+    (said (c.new-run.ensures (world_of poms x y z) given)))
     c.in-Err.ensures.says
 
 pub returns-in-Ok-clause-holds : goal.returns-in-Ok-clause-holds
@@ -42,10 +42,10 @@ returns-in-Ok-clause-holds g c =
     told_one (g.T.Tree.files c.args.tree.now) (g.S.Shelf.told c.args.shelf.now) (g.R.Remote.files c.args.remote.now)
     (λ x y z. HoldsAll (world_of poms x y z) given c.new-run.result → HoldsAll (world_of poms x y z) given c.find_models.new.store)
     (λ x y z. Holds (world_of [] x y z) given c.args.store → AgreesOnPaths (world_of [] x y z) (world_of poms x y z)
-        → IfOk c.single.result (λ (found : ProjectModels). HoldsAll (world_of found.poms x y z) given found.store))
+    → IfOk c.single.result (λ (found : ProjectModels). HoldsAll (world_of found.poms x y z) given found.store))
     (λ x y z kept holds agrees.
-        holds_on c.single.result poms c.find_models.new.store (λ l. world_of l x y z) given c.single.ensures.poms c.single.ensures.store
-        (kept (c.new-run.ensures (world_of poms x y z) given)))
+    holds_on c.single.result poms c.find_models.new.store (λ l. world_of l x y z) given c.single.ensures.poms c.single.ensures.store
+    (kept (c.new-run.ensures (world_of poms x y z) given)))
     c.in-Ok.ensures.holds
 
 pub returns-clause-holds : goal.returns-clause-holds
@@ -53,5 +53,5 @@ returns-clause-holds g c =
     let poms = c.args.poms in
     told_any (g.T.Tree.files c.args.tree.now) (g.S.Shelf.told c.args.shelf.now) (g.R.Remote.files c.args.remote.now)
     (λ x y z. Holds (world_of [] x y z) c.args.given.now c.args.store → AgreesOnPaths (world_of [] x y z) (world_of poms x y z)
-        → IfOk (Err c.in-Err.fault) (λ (found : ProjectModels). HoldsAll (world_of found.poms x y z) c.args.given.now found.store))
+    → IfOk (Err c.in-Err.fault) (λ (found : ProjectModels). HoldsAll (world_of found.poms x y z) c.args.given.now found.store))
     (λ x y z holds agrees. tt)

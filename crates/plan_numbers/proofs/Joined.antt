@@ -54,9 +54,9 @@ numbered_is phase modules built rs names files parts b r n f p =
     let ns : names ≡ plan_names phase modules = n ∙ ap ready_names all ∙ names_are phase modules in
     let fs : files ≡ plan_files phase modules = f ∙ ap ready_files all ∙ files_are phase modules in
     let ps : parts ≡ all_parts phase modules =
-        p ∙ ap (λ (g : List Gav). parts_of g names files rs) b
-        ∙ ap (λ (l : List (List ℕ)). parts_of (gavs modules) l files rs) ns
-        ∙ ap (λ (l : List (List ℕ)). parts_of (gavs modules) (plan_names phase modules) l rs) fs
-        ∙ ap (λ (l : List Ready). parts_of (gavs modules) (plan_names phase modules) (plan_files phase modules) l) all
-        ∙ parts_are phase modules in
+    p ∙ ap (λ (g : List Gav). parts_of g names files rs) b
+    ∙ ap (λ (l : List (List ℕ)). parts_of (gavs modules) l files rs) ns
+    ∙ ap (λ (l : List (List ℕ)). parts_of (gavs modules) (plan_names phase modules) l rs) fs
+    ∙ ap (λ (l : List Ready). parts_of (gavs modules) (plan_names phase modules) (plan_files phase modules) l) all
+    ∙ parts_are phase modules in
     λ i. record { names = ns i; files = fs i; parts = ps i }

@@ -143,7 +143,7 @@ bounded events p = if nat_lt most_events events then Err (text_refused root_id G
 abbrev pub numbered : Phase → (workers : ℕ) → (local : Files) → List SelectedModule → Built Planned
 numbered phase workers local modules =
     bounded (all_events (plan_modules phase modules))
-        (planned_with phase workers (present_in local (plan_files phase modules)) modules)
+    (planned_with phase workers (present_in local (plan_files phase modules)) modules)
 
 -- what any plan is, whatever is told of the repository: each of its files is said to be there or not, and its events are bounded
 pub record IsNumbered (phase : Phase) (workers : ℕ) (modules : List SelectedModule) (p : Planned) : Type 0 where

@@ -68,12 +68,7 @@ fn origin_of(
 }
 
 // The entry of a dependency.
-fn entry_of(
-    alloc: Global,
-    built: &Places<Gav>,
-    files: &FileList,
-    winner: &Resolved,
-) -> Mem<Entry>
+fn entry_of(alloc: Global, built: &Places<Gav>, files: &FileList, winner: &Resolved) -> Mem<Entry>
     requires names { has_names winner.now ≡ true }
     ensures { IfOk result (λ entry. entry ≡ entry_of built.now files.now winner.now) }
 {

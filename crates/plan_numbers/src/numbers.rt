@@ -13,9 +13,9 @@ use crate::ready::Ready;
 use crate::selected::Output;
 use build_core::{Entry, OwnFile, PlanModule};
 use classpaths::Resolution;
+use model_types::Model;
 use mvn_base::{FileName, Gav, MOST_OUTPUT, lock_name};
 use mvn_shared::{List, Mem, Shared, Text};
-use model_types::Model;
 use std::alloc::Global;
 
 /// The most bytes that the kept outputs of all modules may have together. Project rule.

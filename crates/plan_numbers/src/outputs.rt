@@ -65,11 +65,20 @@ fn push_attached(alloc: Global, gav: &Gav, list: &mut List<Output>) -> Mem<()>
 {
     let extension = jar(alloc)?;
     let name = name_of(alloc, gav, "tests", &extension)?;
-    list.push(Output { slot: Slot::Tests, name })?;
+    list.push(Output {
+        slot: Slot::Tests,
+        name,
+    })?;
     let name = name_of(alloc, gav, "sources", &extension)?;
-    list.push(Output { slot: Slot::Sources, name })?;
+    list.push(Output {
+        slot: Slot::Sources,
+        name,
+    })?;
     let name = name_of(alloc, gav, "javadoc", &extension)?;
-    list.push(Output { slot: Slot::Javadoc, name })
+    list.push(Output {
+        slot: Slot::Javadoc,
+        name,
+    })
 }
 
 // Puts the main output to others, if there is one.
@@ -86,7 +95,10 @@ fn push_main(alloc: Global, model: &Model, list: &mut List<Output>) -> Mem<()>
         return Ok(());
     }
     let name = name_of(alloc, &model.gav, "", &extension)?;
-    list.push(Output { slot: Slot::Main, name })
+    list.push(Output {
+        slot: Slot::Main,
+        name,
+    })
 }
 
 /// The files that a module may be installed as, the POM's first. Costs their names. Maven's repository layout.
@@ -97,7 +109,10 @@ pub(crate) fn outputs(alloc: Global, model: &Model) -> Mem<List<Output>>
 {
     let mut list = List::new(alloc);
     let name = pom_file(alloc, &model.gav)?;
-    list.push(Output { slot: Slot::Pom, name })?;
+    list.push(Output {
+        slot: Slot::Pom,
+        name,
+    })?;
     push_main(alloc, model, &mut list)?;
     push_attached(alloc, &model.gav, &mut list)?;
     Ok(list)

@@ -18,12 +18,7 @@ use std::alloc::Global;
 
 // Puts the files of a dependency to others, unless it is built in this run.
 #[tactic(auto, using(crate::proofs::Naming::gav_of))]
-fn add_files(
-    alloc: Global,
-    files: &mut FileList,
-    built: &Places<Gav>,
-    winner: &Resolved,
-) -> Mem<()>
+fn add_files(alloc: Global, files: &mut FileList, built: &Places<Gav>, winner: &Resolved) -> Mem<()>
     requires names { has_names winner.now ≡ true }
     ensures { OnOk result (files.new
         ≡ fold with_name files.old (files_of (is_selected built.now) winner.now)) }
@@ -38,12 +33,7 @@ fn add_files(
 }
 
 // So of one whose names are valid.
-fn add_named(
-    alloc: Global,
-    files: &mut FileList,
-    built: &Places<Gav>,
-    winner: &Resolved,
-) -> Mem<()>
+fn add_named(alloc: Global, files: &mut FileList, built: &Places<Gav>, winner: &Resolved) -> Mem<()>
     ensures { OnOk result (files.new ≡ (if has_names winner.now
         then fold with_name files.old (files_of (is_selected built.now) winner.now)
         else files.old)) }
@@ -93,12 +83,7 @@ pub(crate) fn add_text(alloc: Global, texts: &mut FileMap, text: Text) -> Mem<()
 }
 
 // Puts the lock of a dependency to others, unless it is built in this run.
-fn add_lock(
-    alloc: Global,
-    locks: &mut FileMap,
-    built: &Places<Gav>,
-    winner: &Resolved,
-) -> Mem<()>
+fn add_lock(alloc: Global, locks: &mut FileMap, built: &Places<Gav>, winner: &Resolved) -> Mem<()>
     ensures { OnOk result (locks.new
         ≡ (if has_names winner.now && not (is_selected built.now winner.now.gav)
         then with_text locks.old (lock_name winner.now.gav) else locks.old)) }

@@ -43,7 +43,7 @@ said_of phase workers local modules e r is said =
     let few = some_is (nat_lt most_events all) all e is in
     let here = subst (λ n. Says (Ok (assembled (numbered_of phase modules) workers n (present_in local (numbered_of phase modules).files))) r) few.1 said in
     let allowed : numbered phase workers local modules ≡ Ok (assembled (numbered_of phase modules) workers all (present_in local (numbered_of phase modules).files)) =
-        ap (λ b. if b then too_many else Ok (assembled (numbered_of phase modules) workers all (present_in local (numbered_of phase modules).files))) few.0 in
+    ap (λ b. if b then too_many else Ok (assembled (numbered_of phase modules) workers all (present_in local (numbered_of phase modules).files))) few.0 in
     subst (λ (s : Built Planned). Says s r) (sym allowed) here
 
 -- what is said of the parts is said of the plan
@@ -52,7 +52,7 @@ pub said : (phase : Phase) (workers : ℕ) (local : Files) (modules : List Selec
     → Says (Ok (assembled n workers e (present_in local n.files))) r → Says (numbered phase workers local modules) r
 said phase workers local modules n e r is =
     subst (λ (m : Numbered). Some e ≡ counted (all_events m.parts.modules) → Says (Ok (assembled m workers e (present_in local m.files))) r → Says (numbered phase workers local modules) r)
-        (sym is) (said_of phase workers local modules e r)
+    (sym is) (said_of phase workers local modules e r)
 
 -- and so is the refusal
 pub said_none : (phase : Phase) (workers : ℕ) (local : Files) (modules : List SelectedModule) (n : Numbered) (r : Result Planned BuildFault)
@@ -61,7 +61,7 @@ said_none phase workers local modules n r is none refused =
     let all = all_events (plan_modules phase modules) in
     let here : None ≡ counted all = none ∙ ap (λ (m : Numbered). counted (all_events m.parts.modules)) is in
     let stops : numbered phase workers local modules ≡ too_many =
-        ap (λ b. if b then too_many else Ok (planned_with phase workers (present_in local (numbered_of phase modules).files) modules)) (none_is (nat_lt most_events all) all here) in
+    ap (λ b. if b then too_many else Ok (planned_with phase workers (present_in local (numbered_of phase modules).files) modules)) (none_is (nat_lt most_events all) all here) in
     subst (λ (s : Built Planned). Says s r) (sym stops) refused
 
 made_of : (phase : Phase) (workers : ℕ) (modules : List SelectedModule) (e : ℕ) (p : Planned)

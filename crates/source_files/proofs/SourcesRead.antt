@@ -166,7 +166,7 @@ all_so_far files modules list count room so =
     let few : files_count files modules ≤ most_files = omega (arith, so.count) in
     let small : bytes_count files modules ≤ most_sources = omega (arith, so.room) in
     ap (λ b. if b then None else Some (map_list (all_sources files) modules))
-        (or_false _ _ so.short (or_false _ _ (le-ltb most_files (files_count files modules) few) (le-ltb most_sources (bytes_count files modules) small)))
+    (or_false _ _ so.short (or_false _ _ (le-ltb most_files (files_count files modules) few) (le-ltb most_sources (bytes_count files modules) small)))
     ∙ ap Some (sym so.list)
 
 or_third : (a b c : Bool) → c ≡ true → (a || (b || c)) ≡ true

@@ -106,9 +106,7 @@ pub fn project_sources<T: Tree>(
     ensures cause { HasCause (T.faults tree.old) (T.faults tree.new) (sources_failed result) }
 {
     match source_names(alloc, tree, folders) {
-        Ok(names) => {
-            sources_alone(read_sources(alloc, tree, names.as_slice(), MOST_SOURCES))
-        }
+        Ok(names) => { sources_alone(read_sources(alloc, tree, names.as_slice(), MOST_SOURCES)) }
         Err(fault) => Err(fault),
     }
 }

@@ -1,5 +1,8 @@
 -- Folders in parts.
 use Rattle.std.proofs.Common.{◌≡◌, List, [], ◌∷◌, ◌++◌, Option, filter_map, sym, ap, ◌∙◌}
+use Rattle.std.proofs.Common.{ℕ, suc, length, refl}
+use Rattle.model_types.specs.declared.model.Model.{Model}
+use Rattle.module_sources.specs.Modules.{folders_of}
 use Rattle.std.proofs.lemmas.List.{append_assoc}
 use Rattle.std.proofs.lemmas.List.Elements.{filter_map-append}
 
@@ -16,3 +19,8 @@ pub four : {A B : Type 0} (f : A → Option B) (a b c d : List A) → filter_map
 four f a b c d =
     sym (filter_map-append f (a ++ b ++ c) d
     ∙ ap (λ l. l ++ filter_map f d) (filter_map-append f (a ++ b) c ∙ ap (λ l. l ++ filter_map f c) (filter_map-append f a b)))
+
+-- there are folders for each module
+pub as_many : (root : List ℕ) (models : List Model) → length (folders_of root models) ≡ length models
+as_many root [] = refl
+as_many root (m ∷ models) = ap suc (as_many root models)

@@ -1,5 +1,5 @@
 // The sources of modules, read.
-ghost use Rattle.std.specs.Prelude.{◌≡◌, ℕ, List as Items, None, false, IfOk, IfSome};
+ghost use Rattle.std.specs.Prelude.{◌≡◌, ℕ, List as Items, None, false, length, IfOk, IfSome};
 ghost use Rattle.mvn_shared.specs.Cause.{HasCause};
 ghost use Rattle.mvn_shared.specs.Files.{Files};
 ghost use Rattle.model_resolver.specs.Devices.{Counted, IsCounted};
@@ -32,6 +32,7 @@ fn folders_of(alloc: Global, root: &Text, models: &[Shared<Model>]) -> Mem<List<
 }
 
 // The sources of the modules, not yet refused.
+#[tactic(auto, using(crate::proofs::Folding::as_many))]
 fn sources_of<T: Tree>(
     alloc: Global,
     tree: &mut T,
@@ -40,6 +41,7 @@ fn sources_of<T: Tree>(
 ) -> Result<List<List<SourceFile>>, SourcesFault>
     ensures gives { IfSome (T.files tree.old) (λ files.
         GivesAll files (folders_of root.now models.now) result) }
+    ensures each { IfOk result (λ sources. length sources ≡ length models.now) }
     ensures same { T.files tree.new ≡ T.files tree.old }
     ensures cause { HasCause (T.faults tree.old) (T.faults tree.new) (sources_failed result) }
 {
@@ -67,6 +69,8 @@ fn noted(
 ) -> Result<List<List<SourceFile>>, BuildFault>
     ensures says { (files : Files) (modules : Items (Items (Items ℕ))) → GivesAll files modules sources
         → Says (allowed (sources_of_all files modules)) result }
+    ensures each { (count : ℕ) → IfOk sources (λ list. length list ≡ count)
+        → IfOk result (λ list. length list ≡ count) }
     ensures first { failures.new.first
         ≡ first_after Tree (sources_failed sources) failures.old.first }
     ensures failed { build_failed result ≡ sources_failed sources }
@@ -84,7 +88,7 @@ fn noted(
 }
 
 /// The sources of the modules that are built, of each the files below its source folders, with their paths and bytes, ascending by path,
-/// each once. Refused if all modules together have more than 65,536 files or 256 MiB; a file of two modules counts twice. The tree isn't
+/// each once; over any tree there is a list for each module. Refused if all modules together have more than 65,536 files or 256 MiB; a file of two modules counts twice. The tree isn't
 /// asked if a device failed before. Costs the listings, and logarithmic time for each name. POM Reference, "Directories" and "Resources".
 #[tactic(auto, unfolding(crate::specs::Modules::module_sources), using(model_resolver::proofs::Counting::counted_tree, model_resolver::proofs::Counting::counted_still, model_resolver::proofs::Counting::counts_on, model_resolver::proofs::Counting::counts_still))]
 pub fn module_sources<T: Tree>(
@@ -96,6 +100,7 @@ pub fn module_sources<T: Tree>(
 ) -> Result<List<List<SourceFile>>, BuildFault>
     ensures says { IfSome (T.files tree.old) (λ files.
         Says (module_sources files given.now.machine.root models.now) result) }
+    ensures long { IfOk result (λ sources. length sources ≡ length models.now) }
     ensures same { T.files tree.new ≡ T.files tree.old }
     ensures counted { (shelf remote : ℕ) → Counted failures.old.first failures.new.first
         (record { tree = T.faults tree.old; shelf = shelf; remote = remote })

@@ -1,5 +1,5 @@
 // The sources of several modules.
-ghost use Rattle.std.specs.Prelude.{◌≡◌, IfOk, IfSome};
+ghost use Rattle.std.specs.Prelude.{◌≡◌, ◌+◌, length, IfOk, IfSome};
 ghost use Rattle.mvn_shared.specs.Cause.{HasCause};
 ghost use Rattle.source_files.specs.Sources.{first_of, GivesAll, PutsSources, TakesRoom, sources_failed};
 
@@ -66,6 +66,7 @@ fn push_sources<T: Tree>(
 ) -> Result<(), SourcesFault>
     ensures puts { IfSome (T.files tree.old) (λ files. PutsSources files folders.now
         count.old room.old count.new room.new list.old list.new result) }
+    ensures one { IfOk result (λ done. length list.new ≡ length list.old + 1) }
     ensures same { T.files tree.new ≡ T.files tree.old }
     ensures cause { HasCause (T.faults tree.old) (T.faults tree.new) (sources_failed result) }
 {
@@ -88,6 +89,7 @@ pub fn all_sources<T: Tree>(
     modules: &[List<Text>],
 ) -> Result<List<List<SourceFile>>, SourcesFault>
     ensures gives { IfSome (T.files tree.old) (λ files. GivesAll files modules.now result) }
+    ensures each { IfOk result (λ sources. length sources ≡ length modules.now) }
     ensures same { T.files tree.new ≡ T.files tree.old }
     ensures cause { HasCause (T.faults tree.old) (T.faults tree.new) (sources_failed result) }
 {

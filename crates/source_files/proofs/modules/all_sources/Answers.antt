@@ -1,4 +1,4 @@
-use Rattle.std.proofs.Common.{◌+◌, List, ℕ, take, Option, Ok, Err, IfSome, subst, ◌∙◌}
+use Rattle.std.proofs.Common.{◌+◌, List, ℕ, take, Option, Ok, Err, IfSome, ap, subst, ◌∙◌}
 use Rattle.std.proofs.lemmas.List.{take_all}
 use Rattle.mvn_shared.specs.Files.{Files}
 use Rattle.source_files.specs.Sources.{GivesAll, PutsSources}
@@ -29,6 +29,7 @@ loop-folders-preserved g c =
       so_far = if_some_both (λ files. IsSoFar files (take i modules) c.loop-folders.list c.loop-folders.count c.loop-folders.room) (puts folders) (λ files. IsSoFar files (take (i + 1) modules) c.push_sources.new.list c.push_sources.new.count c.push_sources.new.room) (g.T.Tree.files c.args.tree.now)
           (λ files so h. one_so_far files modules i folders c.loop-folders.list c.push_sources.new.list c.loop-folders.count c.loop-folders.room c.push_sources.new.count c.push_sources.new.room c.loop-folders-test.true c.folders-item.is so h)
           inv.so_far one;
+      each = c.in-Ok.ensures.one ∙ ap (λ n. n + 1) inv.each;
       same = c.in-Ok.ensures.same ∙ inv.same;
       quiet = c.in-Ok.ensures.cause ∙ inv.quiet;
     }

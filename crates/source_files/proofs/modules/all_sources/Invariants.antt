@@ -1,4 +1,4 @@
-use Rattle.std.proofs.Common.{◌≡◌, take, IfSome}
+use Rattle.std.proofs.Common.{◌≡◌, length, take, IfSome}
 use Rattle.source_files.proofs.SourcesRead.{IsSoFar}
 use Rattle.source_files.proofs.modules.all_sources.Given as goal
 
@@ -6,6 +6,7 @@ use Rattle.source_files.proofs.modules.all_sources.Given as goal
 abbrev pub invariant-loop-folders : goal.invariant-loop-folders
 invariant-loop-folders g l = record {
   so_far : IfSome (g.T.Tree.files l.fn.tree) (λ files. IsSoFar files (take l.folders-index l.modules) l.list l.count l.room);
+  each : length l.list ≡ l.folders-index;
   same : g.T.Tree.files l.tree ≡ g.T.Tree.files l.fn.tree;
   quiet : g.T.Files.faults l.tree ≡ g.T.Files.faults l.fn.tree;
 }

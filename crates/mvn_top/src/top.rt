@@ -338,5 +338,14 @@ pub fn mvn<T: Tree, R: Remote, S: Shelf, G: Gate, O: Sink>(
     ensures trace { result.trace ≡ [] }
 {
     let count = hands.len() as u32;
-    call_hand(alloc, words, count, machine, tree, shelf, &mut hands[0], out)
+    call_hand(
+        alloc,
+        words,
+        count,
+        machine,
+        tree,
+        shelf,
+        &mut hands[0],
+        out,
+    )
 }

@@ -1,5 +1,5 @@
 -- A call from what was built and what was written.
-use Rattle.std.proofs.Common.{◌≡◌, ℕ, zero, suc, ◌+◌, ◌<◌, Bool, ◌&&◌, ◌==◌, cond, List, [], ◌∷◌, find, Option, Some, None, unwrap_or, Result, Ok, Err, IfOk, IfSome, refl, sym, ap, subst, ◌∙◌, arith, get_or}
+use Rattle.std.proofs.Common.{◌≡◌, ℕ, zero, suc, ◌+◌, ◌<◌, Bool, ◌&&◌, ◌==◌, cond, List, [], ◌∷◌, find, Option, Some, None, unwrap_or, Result, Ok, Err, IfOk, refl, sym, ap, subst, ◌∙◌, arith, get_or}
 use Rattle.std.specs.Option.{option_map}
 use Rattle.std.proofs.lemmas.List.{append-nil}
 use Rattle.mvn_shared.specs.declared.memory.OutOfMemory.{OutOfMemory}

@@ -7,7 +7,6 @@ use Rattle.cli_words.specs.declared.command_line.CommandLine.{CommandLine}
 use Rattle.cli_words.specs.declared.fault.WordFault.{WordFault}
 use Rattle.mvn_base.specs.declared.refusal.Refusal.{Refusal}
 use Rattle.goal_types.specs.declared.goal.GoalAnswer.{GoalAnswer}
-use Rattle.goal_types.specs.declared.goal.GoalRequest.{GoalRequest}
 use Rattle.mvn_outside.specs.Shelf.{files_now}
 use Rattle.mvn_outside.specs.declared.shelf.ShelfTold.{ShelfTold}
 use Rattle.build_core.specs.declared.plan.Plan.{Plan}
@@ -16,14 +15,13 @@ use Rattle.mvn_shared.specs.Cause.{HasRisen}
 use Rattle.model_resolver.specs.Devices.{Counted, Counts}
 use Rattle.model_resolver.specs.declared.failures.PomDevice.{PomDevice}
 use Rattle.model_resolver.specs.declared.failures.PomDevice.TheVariants as device
-use Rattle.module_plan.specs.Plans.{IsModulePlan}
 use Rattle.module_plan.specs.Project.{planned}
 use Rattle.mvn_top.specs.declared.outcome.Outcome.{Outcome}
 use Rattle.mvn_top.specs.Commands.{asks_more, of_options}
 use Rattle.mvn_top.specs.Outcome.{fault_line, not_built, of_planned, refused_by, word_fault}
 use Rattle.mvn_top.specs.Project.{given_of, GivesPlan, IfTold, IsNoPlan}
-use Rattle.mvn_top.specs.Ran.{RanSo, RanAlways}
-use Rattle.mvn_top.specs.Headline.{World, supply_of, plan_of, plan_in, outcome_with, files_with, IfBoth, IsOutcome, CountFits, ComesFrom}
+use Rattle.mvn_top.specs.Ran.{RanSo}
+use Rattle.mvn_top.specs.Headline.{World, supply_of, plan_of, plan_in, outcome_with, files_with, IfBoth, IsOutcome}
 use Rattle.mvn_top.proofs.Planned.{told_map}
 
 pub if_some_all : {A : Type 0} (P : A → Type 0) (o : Option A) → ((a : A) → P a) → IfSome o P

@@ -1,5 +1,5 @@
 -- What planning a project gives, by what its devices tell. Own rules.
-use Rattle.std.specs.Prelude.{◌≡◌, ◌⊎◌, Option, None, Some, Result, Ok, Err, IfSome, is_some}
+use Rattle.std.specs.Prelude.{◌≡◌, ◌⊎◌, Option, None, Some, Result, Ok, Err, IfSome}
 use Rattle.mvn_shared.specs.Files.{Files}
 use Rattle.cli_words.specs.declared.command_line.CommandLine.{CommandLine}
 use Rattle.mvn_base.specs.declared.machine.Machine.{Machine}

@@ -1,4 +1,4 @@
-use Rattle.std.proofs.Common.{◌≡◌, ◌<◌, ◌≤◌, ◌⊎◌, inl, inr, Option, Result, Ok, Err, IfOk, IfSome, is_some, refl, ap, sym, subst, ◌∙◌, arith}
+use Rattle.std.proofs.Common.{◌≡◌, ◌<◌, ◌≤◌, ◌⊎◌, inl, Result, Ok, Err, IfOk, IfSome, is_some, ap, sym, subst, ◌∙◌, arith}
 use Rattle.mvn_shared.specs.Cause.{HasRisen}
 use Rattle.mvn_shared.specs.declared.memory.OutOfMemory.{OutOfMemory}
 use Rattle.mvn_outside.specs.Shelf.{IsSettled}

@@ -1,4 +1,4 @@
-use Rattle.std.proofs.Common.{◌≡◌, ◌<◌, ◌≤◌, ◌⊎◌, inl, inr, Bool, Option, None, Some, Result, IfOk, IfSome, is_some, refl, ap, sym, subst, ◌∙◌, arith, Ok, Err}
+use Rattle.std.proofs.Common.{◌≡◌, ◌<◌, ◌≤◌, ◌⊎◌, inl, inr, Option, Result, IfOk, IfSome, is_some, refl, ap, sym, subst, ◌∙◌, Ok, Err}
 use Rattle.std.proofs.lemmas.Result.{IfOk-weaker}
 use Rattle.mvn_shared.specs.declared.memory.OutOfMemory.{OutOfMemory}
 use Rattle.mvn_outside.specs.Shelf.{IsSettled}
@@ -7,9 +7,8 @@ use Rattle.one_hand.specs.Built.{LeavesFiles}
 use Rattle.build_core.specs.declared.plan.Plan.{Plan}
 use Rattle.pom_source.specs.declared.found.Given.{Given}
 use Rattle.mvn_top.specs.declared.outcome.Outcome.{Outcome}
-use Rattle.cli_words.specs.declared.command_line.CommandLine.{CommandLine}
 use Rattle.mvn_top.specs.Project.{given_of, GivesPlan, IfTold, IsNoPlan}
-use Rattle.mvn_top.specs.Headline.{IsOutcome, plan_of, AnswersFit, CountFits, ComesFrom, IfBoth}
+use Rattle.mvn_top.specs.Headline.{IsOutcome, plan_of, CountFits, ComesFrom, IfBoth}
 use Rattle.model_resolver.specs.declared.failures.PomDevice.{PomDevice}
 use Rattle.mvn_top.proofs.Builds.{if_ok_both}
 use Rattle.mvn_top.proofs.Onces.{same_once}

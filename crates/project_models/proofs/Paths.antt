@@ -9,7 +9,7 @@ use Rattle.pom_source.specs.Chains.{bound, ok_is}
 use Rattle.pom_source.specs.Worlds.{World}
 use Rattle.pom_source.specs.declared.found.Given.{Given}
 use Rattle.pom_lineage.proofs.Holding.{same_path}
-use Rattle.project_models.specs.Models.{AgreesOnPaths}
+use Rattle.pom_lineage.specs.Stores.{AgreesOnPaths}
 use Rattle.module_discovery.specs.Discovery.{discovered, path_of}
 use Rattle.module_discovery.specs.Listing.{AreListed, IsProject, IsRead}
 use Rattle.module_discovery.specs.Listing.AreListed.{no_module, one_module}

@@ -25,10 +25,6 @@ use Rattle.model_resolver.specs.declared.resolver.ProjectPom.{ProjectPom}
 use Rattle.project_models.specs.declared.doubles.Double.{Double}
 use Rattle.project_models.specs.declared.project.ProjectModels.{ProjectModels}
 
--- two worlds have the same POMs at their paths
-abbrev pub AgreesOnPaths : World → World → Type 0
-AgreesOnPaths world other = (path : List ℕ) → other.by_path path ≡ world.by_path path
-
 -- the modules of a project, in the order in which they are listed
 pub record Modules : Type 0 where
   pub poms : List ProjectPom

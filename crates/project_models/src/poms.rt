@@ -85,7 +85,7 @@ fn bounded(poms: List<ProjectPom>) -> Result<List<ProjectPom>, BuildFault>
 }
 
 /// The POMs of the project in the order of their declaration, each with its coordinates as it says them and with its text, or the first
-/// refusal. What a POM says stays in the store; its file is read a second time for its text. Guide to Working
+/// refusal. Each POM is parsed once, and what it says stays in the store; its file is read a second time for its text. Guide to Working
 /// with Multiple Modules.
 #[tactic(auto, using(pom_lineage::proofs::Telling::told_both))]
 pub(crate) fn project_poms<P: PomSource>(

@@ -6,8 +6,7 @@ ghost use Rattle.effective.specs.Kept.{HoldsAll};
 ghost use Rattle.effective.specs.Lawful.{IsLawful};
 ghost use Rattle.model_resolver.specs.Devices.{Counted, IsCounted};
 ghost use Rattle.model_resolver.specs.Finding.{world_of};
-ghost use Rattle.pom_lineage.specs.Stores.{Holds};
-ghost use Rattle.project_models.specs.Models.{AgreesOnPaths};
+ghost use Rattle.pom_lineage.specs.Stores.{AgreesOnPaths, Holds};
 ghost use Rattle.pom_source.specs.Answers.{Says, build_failed};
 ghost use Rattle.pom_source.specs.Worlds.{World};
 ghost use Rattle.project_models.specs.Models.{AreModules, Gives, models_of, modules_of, project_models, project_poms, single};
@@ -187,7 +186,7 @@ fn single(
     }
 }
 
-// The modules of a project whose POMs were found. What was read of them isn't taken over yet.
+// The modules of a project whose POMs were found, with a store of what was read of them.
 fn with_poms<T: Tree, S: Shelf, R: Remote>(
     alloc: Global,
     store: Store,
@@ -218,7 +217,7 @@ fn with_poms<T: Tree, S: Shelf, R: Remote>(
     ensures noted { IsCounted failures.old → IsCounted failures.new }
     ensures cause { HasCause failures.old.count failures.new.count (build_failed result) }
 {
-    let mut run = RunStore::new(alloc);
+    let mut run = RunStore::over(alloc, store.only_read(alloc));
     match find_models(alloc, &mut run, tree, shelf, remote, failures, given, &poms) {
         Ok(models) => single(alloc, poms, models, run),
         Err(fault) => Err(fault),
@@ -229,7 +228,7 @@ fn with_poms<T: Tree, S: Shelf, R: Remote>(
 /// the effective models refuse, module by module; then the first module whose effective coordinates one before it has, with the path of
 /// that one. A POM that coordinates name is looked up among the project's POMs first, then in the local repository, then in the remote
 /// one. What was read and built stays in the store, for the world of these devices. `Source` comes only where a device failed, and then
-/// `failures.first` names it. Each POM is read and parsed twice; costs what effective models cost besides. Guide to
+/// `failures.first` names it. Each POM is parsed once, and its file is read twice; costs what effective models cost besides. Guide to
 /// Working with Multiple Modules; Maven Model Builder, "Model building".
 #[tactic(auto, using(model_resolver::proofs::Counting::counted_twice))]
 pub fn project_models<T: Tree, S: Shelf, R: Remote>(

@@ -2,7 +2,7 @@ use Rattle.std.proofs.Common.{[], Ok, Err, IfOk}
 use Rattle.pom_source.specs.Answers.{Says}
 use Rattle.pom_source.specs.Chains.{stop_fails}
 use Rattle.pom_lineage.specs.Stores.{Holds}
-use Rattle.project_models.specs.Models.{AgreesOnPaths}
+use Rattle.pom_lineage.specs.Stores.{AgreesOnPaths}
 use Rattle.effective.specs.Kept.{HoldsAll}
 use Rattle.model_resolver.specs.Finding.{world_of}
 use Rattle.project_models.specs.Models.{Gives, models_of, modules_of, single}
@@ -16,11 +16,11 @@ returns-in-Ok-clause-says g c =
     let poms = c.args.poms in
     let given = c.args.given.now in
     told_one (g.T.Tree.files c.args.tree.now) (g.S.Shelf.told c.args.shelf.now) (g.R.Remote.files c.args.remote.now)
-    (λ x y z. HoldsAll (world_of poms x y z) given c.new-run.result → Says (models_of (world_of poms x y z) given poms) (Ok c.in-Ok.models))
+    (λ x y z. HoldsAll (world_of poms x y z) given c.over-run.result → Says (models_of (world_of poms x y z) given poms) (Ok c.in-Ok.models))
     (λ x y z. Holds (world_of [] x y z) given c.args.store → AgreesOnPaths (world_of [] x y z) (world_of poms x y z) → Gives (modules_of x y z given poms) c.single.result)
     (λ x y z said holds agrees.
     gives_on (models_of (world_of poms x y z) given poms) (single poms) c.in-Ok.models c.single.result
-    (said (c.new-run.ensures (world_of poms x y z) given)) c.single.ensures.says)
+    (said (c.over-run.ensures (world_of poms x y z) given (c.only_read.ensures (world_of [] x y z) (world_of poms x y z) given holds agrees))) c.single.ensures.says)
     c.in-Ok.ensures.says
 
 pub returns-clause-says : goal.returns-clause-says
@@ -28,11 +28,11 @@ returns-clause-says g c =
     let poms = c.args.poms in
     let given = c.args.given.now in
     told_one (g.T.Tree.files c.args.tree.now) (g.S.Shelf.told c.args.shelf.now) (g.R.Remote.files c.args.remote.now)
-    (λ x y z. HoldsAll (world_of poms x y z) given c.new-run.result → Says (models_of (world_of poms x y z) given poms) (Err c.in-Err.fault))
+    (λ x y z. HoldsAll (world_of poms x y z) given c.over-run.result → Says (models_of (world_of poms x y z) given poms) (Err c.in-Err.fault))
     (λ x y z. Holds (world_of [] x y z) given c.args.store → AgreesOnPaths (world_of [] x y z) (world_of poms x y z) → Gives (modules_of x y z given poms) (Err c.in-Err.fault))
     (λ x y z said holds agrees.
     stop_fails (models_of (world_of poms x y z) given poms) (single poms) c.in-Err.fault
-    (said (c.new-run.ensures (world_of poms x y z) given)))
+    (said (c.over-run.ensures (world_of poms x y z) given (c.only_read.ensures (world_of [] x y z) (world_of poms x y z) given holds agrees))))
     c.in-Err.ensures.says
 
 pub returns-in-Ok-clause-holds : goal.returns-in-Ok-clause-holds
@@ -40,12 +40,12 @@ returns-in-Ok-clause-holds g c =
     let poms = c.args.poms in
     let given = c.args.given.now in
     told_one (g.T.Tree.files c.args.tree.now) (g.S.Shelf.told c.args.shelf.now) (g.R.Remote.files c.args.remote.now)
-    (λ x y z. HoldsAll (world_of poms x y z) given c.new-run.result → HoldsAll (world_of poms x y z) given c.find_models.new.store)
+    (λ x y z. HoldsAll (world_of poms x y z) given c.over-run.result → HoldsAll (world_of poms x y z) given c.find_models.new.store)
     (λ x y z. Holds (world_of [] x y z) given c.args.store → AgreesOnPaths (world_of [] x y z) (world_of poms x y z)
     → IfOk c.single.result (λ (found : ProjectModels). HoldsAll (world_of found.poms x y z) given found.store))
     (λ x y z kept holds agrees.
     holds_on c.single.result poms c.find_models.new.store (λ l. world_of l x y z) given c.single.ensures.poms c.single.ensures.store
-    (kept (c.new-run.ensures (world_of poms x y z) given)))
+    (kept (c.over-run.ensures (world_of poms x y z) given (c.only_read.ensures (world_of [] x y z) (world_of poms x y z) given holds agrees))))
     c.in-Ok.ensures.holds
 
 pub returns-clause-holds : goal.returns-clause-holds

@@ -23,8 +23,8 @@ returns-in-Ok-clause-says g c =
     (said (c.over-run.ensures (world_of poms x y z) given (c.only_read.ensures (world_of [] x y z) (world_of poms x y z) given holds agrees))) c.single.ensures.says)
     c.in-Ok.ensures.says
 
-pub returns-clause-says : goal.returns-clause-says
-returns-clause-says g c =
+pub returns-in-Err-clause-says : goal.returns-in-Err-clause-says
+returns-in-Err-clause-says g c =
     let poms = c.args.poms in
     let given = c.args.given.now in
     told_one (g.T.Tree.files c.args.tree.now) (g.S.Shelf.told c.args.shelf.now) (g.R.Remote.files c.args.remote.now)
@@ -48,8 +48,8 @@ returns-in-Ok-clause-holds g c =
     (kept (c.over-run.ensures (world_of poms x y z) given (c.only_read.ensures (world_of [] x y z) (world_of poms x y z) given holds agrees))))
     c.in-Ok.ensures.holds
 
-pub returns-clause-holds : goal.returns-clause-holds
-returns-clause-holds g c =
+pub returns-in-Err-clause-holds : goal.returns-in-Err-clause-holds
+returns-in-Err-clause-holds g c =
     let poms = c.args.poms in
     told_any (g.T.Tree.files c.args.tree.now) (g.S.Shelf.told c.args.shelf.now) (g.R.Remote.files c.args.remote.now)
     (λ x y z. Holds (world_of [] x y z) c.args.given.now c.args.store → AgreesOnPaths (world_of [] x y z) (world_of poms x y z)

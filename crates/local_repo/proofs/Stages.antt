@@ -1,5 +1,5 @@
 -- A piece that is begun, written and sealed, in the maps that an area tells.
-use Rattle.std.proofs.Common.{◌≡◌, ℕ, ◌+◌, Bool, true, false, List, [], ◌++◌, Option, Some, None, Ordering, Less, Equal, Greater, is_eq, cond, refl, sym, ap, ◌∙◌, take, drop, unwrap_or, ◌⊎◌, inl, inr}
+use Rattle.std.proofs.Common.{◌≡◌, ℕ, ◌+◌, Bool, true, false, List, [], ◌++◌, Option, Some, None, Ordering, Less, Equal, Greater, is_eq, cond, refl, sym, ap, ◌∙◌, take, drop, unwrap_or, is_some, ◌⊎◌, inl, inr}
 use Rattle.std.proofs.Math.Seq.{take-add}
 use Rattle.std.specs.Ordering.{nat_cmp, eq_by_cmp}
 use Rattle.std.specs.Cmp.{nat_cmp_total, eq_by_cmp_equiv}
@@ -44,3 +44,8 @@ same_key m k q fresh same = ap (get m) (nat_cmp-IsAntisymmetric q k (equal_if (n
 -- a new open piece leaves all others
 pub keeps_pieces : (m n : Pieces) (k : ℕ) → get m k ≡ None → n ≡ insert m k false → KeepsPieces m n
 keeps_pieces m n k fresh is = λ q. by_key (get m q) (get n q) (eq_by_cmp nat_cmp q k) (same_key m k q fresh) (ap (λ x. get x q) is ∙ get-insert nat_cmp_total m k false q)
+
+-- an area that tells still tells with a piece staged
+pub staged_tells : (told : Option Contents) (piece : ℕ) (bytes : List ℕ) → is_some (staged told piece bytes) ≡ is_some told
+staged_tells None piece bytes = refl
+staged_tells (Some m) piece bytes = refl

@@ -9,7 +9,7 @@ ghost use Rattle.local_repo.specs.Staged.{staged, KeepsPieces};
 use mvn_outside::{Area, DeviceFault};
 
 /// A new sealed piece with these bytes. After an `Err` all other pieces are as they were, and a piece that was begun is
-/// there unsealed. Own rule. Costs what the area's appends cost, and no memory of its own.
+/// there unsealed; an area that tells still tells. Own rule. Costs what the area's appends cost, and no memory of its own.
 pub fn stage<A: Area>(area: &mut A, bytes: &[u8]) -> Result<u64, DeviceFault>
     ensures fresh { IfOk result (λ piece. map.get (A.pieces area.old) piece ≡ None) }
     ensures sealed { IfOk result (λ piece.
@@ -17,6 +17,7 @@ pub fn stage<A: Area>(area: &mut A, bytes: &[u8]) -> Result<u64, DeviceFault>
     ensures bytes { IfOk result (λ piece.
         A.contents area.new ≡ staged (A.contents area.old) piece bytes.now) }
     ensures err { OnErr result (KeepsPieces (A.pieces area.old) (A.pieces area.new)) }
+    ensures tells { is_some (A.contents area.new) ≡ is_some (A.contents area.old) }
     ensures never { A.never_fails area.new ≡ A.never_fails area.old }
     ensures cause { HasCause (A.faults area.old) (A.faults area.new) (device_failed result) }
 {

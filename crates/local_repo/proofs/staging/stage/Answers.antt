@@ -3,7 +3,7 @@ use Rattle.std.proofs.lemmas.List.{take_all}
 use Rattle.std.proofs.lemmas.Result.{err_from_is_err_and}
 use Rattle.std.specs.FinMap as map
 use Rattle.mvn_outside.specs.Pieces.{extended}
-use Rattle.local_repo.proofs.Stages.{put_there, insert_twice, one_part_more, keeps_pieces}
+use Rattle.local_repo.proofs.Stages.{put_there, staged_tells, insert_twice, one_part_more, keeps_pieces}
 use Rattle.local_repo.proofs.staging.stage.Goals as goal
 
 take_all_of_drop : (i : ℕ) (xs : List ℕ) → take (length xs - i) (drop i xs) ≡ drop i xs

@@ -29,9 +29,11 @@ want 'an option without its value' 2 $'word 1 MissingValue\n' validate -P
 want 'a second phase behind an option' 2 $'word 2 TwoPhases\n' validate -B install
 want 'the phase deploy' 2 $'word 0 DeployPhase\n' deploy
 want 'as many workers as there are' 0 "$report" -T 16 -B -ntp validate
-want 'selected modules' 2 $'not built yet\n' validate -pl app
-want 'a module to begin from' 2 $'not built yet\n' validate -rf app
-want 'the full report' 2 $'not built yet\n' validate --full
+want 'a selected module' 0 "$report" validate -pl :app
+want 'a module to begin from' 0 "$report" validate -rf .
+want 'a selector that means none' 2 $'word 2 UnknownModule\n' validate -pl app
+got=$("$mvn" validate --full | sed 's/^  model {"artifactId":"app",.*}$/  model/')
+if [ "$got" = $'built demo:app:1.0\n  model\ntotal 1 built 1 failed 0 skipped 0' ]; then pass 'the full report'; else fail 'the full report' "$got"; fi
 want 'upstreams of all modules' 0 "$report" validate -am -amd
 want 'the version' 0 $'mvn 0.1.0 (POM model 4.0.0)\n' --version
 head -c 1048577 /dev/zero > pom.xml

@@ -1,7 +1,8 @@
 #!/usr/bin/env bash
 # Runs the session of each folder of examples/ in a copy of it, and compares what each command writes. In the file `session` a line
 # `$ COMMAND` is a command, the lines below it are what it writes, and `status N` is the last of them where its status isn't 0. `mvn` is the
-# program that MVN names, or bin/mvn. An example with a file `needs` is left out where a program that it names isn't installed.
+# program that MVN names, or bin/mvn. An example with a file `needs` is left out where a program that it names isn't installed. The copies
+# of all examples lie beside one another, so that one may use another's files.
 . "$(dirname "$0")/cases.sh"
 find_program
 mkdir "$work/path"
@@ -20,6 +21,10 @@ for session in examples/*/session; do
   [ -f "$session" ] || stop "no example has a session"
 done
 for folder in examples/*/; do
+  cp -R "$folder" "$work/$(basename "$folder")"
+  rm -rf "$work/$(basename "$folder")/.m2"
+done
+for folder in examples/*/; do
   name=$(basename "$folder")
   [ -f "$folder/session" ] || { fail "$name" "it has no session"; continue; }
   absent=
@@ -27,8 +32,6 @@ for folder in examples/*/; do
     command -v "$program" > /dev/null || absent+=" $program"
   done
   [ -z "$absent" ] || { echo "left out  $name: it needs$absent"; continue; }
-  cp -R "$folder" "$work/$name"
-  rm -rf "$work/$name/.m2"
   command=
   wanted=
   while IFS= read -r line || [ -n "$line" ]; do

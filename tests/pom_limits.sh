@@ -7,7 +7,7 @@ find_program
 cd "$work" || exit 1
 limit=1048576
 built=$'built demo:app:1.0\ntotal 1 built 1 failed 0 skipped 0\n'
-waits=$'not built yet\n'
+unbound=$'built demo:app:1.0\n  note unbound p: default\ntotal 1 built 1 failed 0 skipped 0\n'
 long=$'refused pom.xml rule 1 TooLarge at p\n'
 jar=$'refused pom.xml rule 14 AggregatorPackaging at jar\n'
 head='<project><modelVersion>4.0.0</modelVersion><groupId>demo</groupId><artifactId>app</artifactId><version>1.0</version>'
@@ -66,7 +66,7 @@ full '1 MiB of dependencies in profiles' 0 "$built" '<profiles>' "<profile><depe
 cut='<exclusion><groupId>g</groupId></exclusion>'
 full '1 MiB of exclusions' 2 $'refused pom.xml rule 19 VersionMissing at g:a:jar\n' '<dependencies>' "<dependency><groupId>g</groupId><artifactId>a</artifactId><exclusions>$(times "$cut" 24)</exclusions></dependency>" '</dependencies>'
 goals="<execution><goals>$(times '<goal/>' 8)</goals></execution>"
-full '1 MiB of goals' 2 "$waits" '<build><plugins>' "<plugin><artifactId>p</artifactId><executions>$(times "$goals" 11)</executions></plugin>" '</plugins></build>'
+full '1 MiB of goals' 0 "$unbound" '<build><plugins>' "<plugin><artifactId>p</artifactId><executions>$(times "$goals" 11)</executions></plugin>" '</plugins></build>'
 full '1 MiB of profiles' 0 "$built" '<profiles>' "<profile><properties>$(times '<a>1</a>' 128)</properties></profile>" '</profiles>'
 
 # A list of 1,024 items is read, and the next item is refused; the POM is filled up behind it.

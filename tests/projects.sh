@@ -66,7 +66,7 @@ jar='<plugin><artifactId>maven-jar-plugin</artifactId><executions><execution><id
 project "$app<build><pluginManagement><plugins>$jar</plugins></pluginManagement></build>"
 want 'a managed execution without a phase' 1 "failed demo:app:1 no artifact$unbuilt" install
 project "$app<build><plugins><plugin><groupId>demo</groupId><artifactId>app</artifactId></plugin></plugins></build>"
-want 'a plugin that is the module itself' 2 $'not built yet\n' validate
+want 'a plugin that is the module itself' 0 "built demo:app:1$built" validate
 project "$app<build><sourceDirectory>code</sourceDirectory></build>"
 mkdir code
 echo no luck > code/fail-test
@@ -87,8 +87,9 @@ want 'the packaging pom' 0 "built demo:app:1$built" install
 project "$app<modules><module>a</module></modules>"
 want 'modules below a jar' 2 $'refused pom.xml rule 14 AggregatorPackaging at jar\n' validate
 project "$app<packaging>pom</packaging><modules><module>a</module></modules>"
-want 'modules' 2 $'not built yet\n' validate
+want 'a module that is nowhere' 2 $'refused pom.xml rule 15 ModuleNotFound at a\n' validate
 project "$app<dependencies><dependency><groupId>g</groupId><artifactId>a</artifactId><version>1</version></dependency></dependencies>"
-want 'a dependency' 2 $'not built yet\n' validate
+want 'a dependency whose POM is missing' 0 $'built demo:app:1\n  note missing g:a:1'"$built" validate
+want 'a dependency whose file a goal reads' 2 $'not built yet\n' install
 cd "$work" || exit 1
 tell

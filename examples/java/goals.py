@@ -34,8 +34,9 @@ class Request:
         self.classpath = [(name, stream.read(length or 0)) for name, length in self.line["classpath"]]
 
     def below(self, folder):
-        """The sources below a folder, by their paths from there."""
-        return {path[len(folder):]: data for path, data in self.sources.items() if path.startswith(folder)}
+        """The sources below a folder of the module, by their paths from there. The module may lie in a folder of the project."""
+        parts = ((f"/{path}".partition(f"/{folder}"), data) for path, data in self.sources.items())
+        return {rest: data for (_, found, rest), data in parts if found}
 
 
 def write_files(folder, files):
@@ -145,6 +146,10 @@ def output_of(request):
         return compiled(request, TEST, TEST_RESOURCES, ["classes"])
     if goal == "jar":
         return jar(request)
+    if goal == "test-jar":
+        return request.own.get("test-classes")
+    if goal == "jar-no-fork":
+        return zipped(request.below(MAIN) | request.below(MAIN_RESOURCES))
     if goal == "test":
         test(request)
     return None

@@ -173,7 +173,8 @@ project 'c a b'
 child a "$(on b)"
 child b "$(on c)"
 child c "$(on a)"
-refused 'a circle of three, from the first listed' 'refused c/pom.xml rule 30 ReactorCycle at demo:c:1.0 -> demo:a:1.0 -> demo:b:1.0 -> demo:c:1.0' validate
+# a stands on b and, by what b needs, on c too: the way goes on to the one that is listed first
+refused 'a circle of three' 'refused c/pom.xml rule 30 ReactorCycle at demo:c:1.0 -> demo:a:1.0 -> demo:c:1.0' validate
 project 'a'
 child a "$(on a)"
 refused 'a module on itself' 'refused a/pom.xml rule 30 ReactorCycle at demo:a:1.0 -> demo:a:1.0' validate
@@ -260,7 +261,7 @@ refused 'an expression in a module' 'refused pom.xml rule 18 Unresolved at ${m}'
 project 'a b'
 child a
 pom b '<artifactId>b</artifactId>'
-refused 'a module without a group' 'refused b/pom.xml rule 8 MissingField at project/version' validate
+refused 'a module without a group' 'refused b/pom.xml rule 8 MissingField at project/groupId' validate
 project 'a b'
 child a
 pom b "<parent>$(gav gone)</parent><artifactId>b</artifactId>"

@@ -445,4 +445,7 @@ same 'the model of a module' "$model" "$(grep '"artifactId":"a","build"' <<< "$g
 same 'as many models as modules' 3 "$(grep -c '^  model ' <<< "$got")"
 same 'of one module' $'built demo:b:1.0\n  note missing x:y:1' "$("$mvn" validate --full -pl b | head -n 2)"
 cd "$work" || exit 1
+
+# --- generated projects, whose reports tests/reactor_graphs.py computes anew
+if told=$(python3 "$here/tests/reactor_graphs.py" "$mvn" 300); then pass "generated projects: $told"; else fail 'generated projects' "$told"; fi
 tell

@@ -1,9 +1,8 @@
 #!/usr/bin/env bash
-# Shows that a killed install leaves no torn file: kills installs of a project of three modules at random moments, up to half as late again
-# as one install takes, and checks after each that every POM and every jar is absent, or has all its old bytes or all its new ones. At the
-# end one more install, undisturbed, leaves what it leaves in a new repository. As long as `mvn` builds one POM at a time, an install of the
-# project is one of each module, in their order. usage: kill_install.sh [KILLS], 100 if absent. The program is the one that MVN names, or
-# bin/mvn.
+# Shows that a killed install leaves no torn file: kills installs of a project of three modules, each of which needs the one before it, at
+# random moments, up to half as late again as one install takes, and checks after each that every POM and every jar is absent, or has all
+# its old bytes or all its new ones. At the end one more install, undisturbed, leaves what it leaves in a new repository.
+# usage: kill_install.sh [KILLS], 100 if absent. The program is the one that MVN names, or bin/mvn.
 . "$(dirname "$0")/cases.sh"
 find_program
 kills=${1-100}
@@ -12,9 +11,15 @@ cd "$work" || exit 1
 modules=(base core app)
 export MVN_REPO=$work/repository
 
+# NAME, TEXT: the POM of this artifact, with more in it
+pom() { printf '<project><modelVersion>4.0.0</modelVersion><groupId>demo</groupId><artifactId>%s</artifactId><version>1.0</version>%s</project>' "$1" "$2"; }
+
+pom root "<packaging>pom</packaging><modules>$(printf '<module>%s</module>' "${modules[@]}")</modules>" > pom.xml
+needs=
 for module in "${modules[@]}"; do
   mkdir -p "$module/src/main/java"
-  printf '<project><modelVersion>4.0.0</modelVersion><groupId>demo</groupId><artifactId>%s</artifactId><version>1.0</version></project>' "$module" > "$module/pom.xml"
+  pom "$module" "$needs" > "$module/pom.xml"
+  needs="<dependencies><dependency><groupId>demo</groupId><artifactId>$module</artifactId><version>1.0</version></dependency></dependencies>"
 done
 
 # old OR new: the sources of all modules
@@ -25,12 +30,7 @@ write_sources() {
   done
 }
 
-install() {
-  local module
-  for module in "${modules[@]}"; do
-    (cd "$module" && exec "$mvn" install) || return
-  done
-}
+install() { "$mvn" install; }
 
 # MODULE, KIND: the file's path
 file() { echo "$MVN_REPO/demo/$1/1.0/$1-1.0.$2"; }
@@ -83,7 +83,7 @@ fi
 
 write_sources new
 last=$(install)
-wanted=$(for module in "${modules[@]}"; do printf 'built demo:%s:1.0\ntotal 1 built 1 failed 0 skipped 0\n' "$module"; done)
+wanted=$(printf 'built demo:%s:1.0\n' root "${modules[@]}"; echo 'total 4 built 4 failed 0 skipped 0')
 differ=
 for module in "${modules[@]}"; do
   for kind in pom jar; do cmp -s "$(file "$module" "$kind")" "new.$module.$kind" || differ+=" $module-1.0.$kind"; done

@@ -8,6 +8,7 @@ find_program
 mkdir "$work/path"
 ln -s "$mvn" "$work/path/mvn"
 PATH=$work/path:$PATH
+export LC_ALL=C
 
 # EXAMPLE, COMMAND, WHAT IT WRITES
 run() {

@@ -1,0 +1,10 @@
+pub use Rattle.mvn_shared.specs.Cause
+pub use Rattle.mvn_shared.specs.Files
+pub use Rattle.build_core.specs.OneThread
+pub use Rattle.one_hand.specs.Built
+pub use Rattle.plan_run.specs.Runs
+pub use Rattle.build_report.specs.Rows
+pub mod Causes
+pub mod Finished
+pub mod Once
+pub mod Ran

@@ -1,5 +1,5 @@
 // What the modules of a project are built with.
-ghost use Rattle.std.specs.Prelude.{◌≡◌, Err, false, length, IfSome};
+ghost use Rattle.std.specs.Prelude.{◌≡◌, Err, false, length, IfOk, IfSome};
 ghost use Rattle.mvn_shared.specs.Cause.{HasCause};
 ghost use Rattle.mvn_outside.specs.Shelf.{files_now};
 ghost use Rattle.pom_source.specs.Answers.{Says, build_failed};
@@ -92,6 +92,7 @@ fn resolve_each<L: Lookup>(
     requires paired { length models.now ≡ length poms.now }
     ensures resolves { (libraries : Libraries) → L.fits lookup.old libraries
         → Resolves libraries poms.now models.now result }
+    ensures long { IfOk result (λ resolutions. length resolutions ≡ length models.now) }
     ensures alike { TellsOn L.tells_same lookup.old lookup.new }
     ensures cause { HasCause (L.faults lookup.old) (L.faults lookup.new) (build_failed result) }
 {
@@ -117,6 +118,7 @@ fn resolve_kept<L: Whole>(
     requires paired { length models.now ≡ length poms.now }
     ensures resolves { (libraries : Libraries) → L.fits lookup.old libraries
         → Resolves libraries poms.now models.now result }
+    ensures long { IfOk result (λ resolutions. length resolutions ≡ length models.now) }
     ensures same { L.tells_same lookup.old lookup.new }
     ensures cause { HasCause (L.faults lookup.old) (L.faults lookup.new) (build_failed result) }
 {
@@ -145,6 +147,7 @@ pub fn resolve_modules<T: Tree, S: Shelf, R: Remote>(
         HoldsAll (world_of poms.now files (files_now told) there) given.now store.old
         → Resolves (libraries_of files (files_now told) there given.now poms.now models.now)
         poms.now models.now result))) }
+    ensures long { IfOk result (λ resolutions. length resolutions ≡ length models.now) }
     ensures tree { T.files tree.new ≡ T.files tree.old }
     ensures shelf { S.told shelf.new ≡ S.told shelf.old }
     ensures remote { R.files remote.new ≡ R.files remote.old }

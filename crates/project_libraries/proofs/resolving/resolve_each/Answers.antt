@@ -1,4 +1,4 @@
-use Rattle.std.proofs.Common.{◌≡◌, length, slice_get, take, ◌+◌, Some, Ok, Err, refl, sym, subst, arith, ◌∙◌}
+use Rattle.std.proofs.Common.{◌≡◌, ◌+◌, ◌++◌, ◌∷◌, [], length, length-append, slice_get, take, Some, Ok, Err, refl, sym, ap, subst, arith, ◌∙◌}
 use Rattle.mediation.proofs.Telling.{told_both}
 use Rattle.project_libraries.specs.Resolving.{AreResolved, ResolvesModule}
 use Rattle.std.proofs.lemmas.Option.{slice_get_read}
@@ -18,6 +18,12 @@ loop-at-preserved g c =
           (subst (λ o. ResolvesModule libraries c.index-poms-at.result o (Ok c.in-Ok.resolution)) c.value.ensures (c.in-Ok.ensures.resolves libraries (inv.fit libraries fits))));
       fit = λ libraries fits. c.in-Ok.ensures.same libraries (inv.fit libraries fits);
       alike = told_both inv.alike c.in-Ok.ensures.alike;
+      long =
+          let is = ap length c.in_ok-push-in-Ok.ensures.ok in
+          let both = length-append c.loop-at.list (c.in-Ok.resolution ∷ []) in
+          let before = inv.long in
+          omega (arith, is, both, before);
+      few = let low = c.loop-at-test.true in omega (arith, low);
       faults = c.in-Ok.ensures.cause ∙ inv.faults;
     }
 
@@ -35,3 +41,10 @@ returns-in-Err-clause-resolves g c = λ libraries fits.
 pub returns-clause-resolves : goal.returns-clause-resolves
 returns-clause-resolves g c = λ libraries fits.
     all_resolved libraries c.args.models.now c.loop-at.list c.loop-at.at (omega (arith, c.loop-at-test.false)) (c.loop-at.invariant.done libraries fits)
+
+pub returns-clause-long : goal.returns-clause-long
+returns-clause-long g c =
+    let before = c.loop-at.invariant.long in
+    let few = c.loop-at.invariant.few in
+    let far = c.loop-at-test.false in
+    omega (arith, before, few, far)

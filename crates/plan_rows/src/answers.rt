@@ -1,0 +1,161 @@
+// What is told of rows.
+use crate::planning::{Failing, NONE, plan};
+use crate::project::{Files, files_of, no_files, put_file, put_module};
+use crate::shown::{count_text, order_text, plan_text};
+use mvn_shared::{Bytes, Mem};
+use plan_numbers::Planned;
+use row_models::field;
+use std::alloc::Global;
+
+// The plan of a row's files for its words, or why there is none.
+fn plan_of(alloc: Global, fields: &[&str], failing: Failing) -> Mem<Result<Planned, String>> {
+    match fields.split_first() {
+        Some((words, files)) => {
+            let files = files_of(alloc, files)?;
+            plan(alloc, files, *words, failing)
+        }
+        None => plan(alloc, no_files(alloc), "", failing),
+    }
+}
+
+/// The modules in their order.
+pub(crate) fn ordered(alloc: Global, fields: &[&str]) -> anyhow::Result<String> {
+    match plan_of(alloc, fields, NONE)? {
+        Ok(planned) => Ok(order_text(alloc, &planned.plan)?),
+        Err(text) => Ok(text),
+    }
+}
+
+/// The whole plan.
+pub(crate) fn planned(alloc: Global, fields: &[&str]) -> anyhow::Result<String> {
+    match plan_of(alloc, fields, NONE)? {
+        Ok(planned) => Ok(plan_text(alloc, &planned.plan)?),
+        Err(text) => Ok(text),
+    }
+}
+
+/// Its counts.
+pub(crate) fn counted(alloc: Global, fields: &[&str]) -> anyhow::Result<String> {
+    match plan_of(alloc, fields, NONE)? {
+        Ok(planned) => Ok(count_text(alloc, &planned.plan)?),
+        Err(text) => Ok(text),
+    }
+}
+
+// The modules in their order, for words, where a device's call fails.
+fn failing_text(
+    alloc: Global,
+    words: &str,
+    files: &[&str],
+    failing: Failing,
+) -> anyhow::Result<String> {
+    let files = files_of(alloc, files)?;
+    match plan(alloc, files, words, failing)? {
+        Ok(planned) => Ok(order_text(alloc, &planned.plan)?),
+        Err(text) => Ok(text),
+    }
+}
+
+/// The modules in their order where a call fails: the first field is the device, the call's number, and the words.
+pub(crate) fn failing(alloc: Global, fields: &[&str]) -> anyhow::Result<String> {
+    let first = field(fields, 0);
+    let (device, rest) = first.split_once(' ').unwrap_or((first, ""));
+    let (number, words) = rest.split_once(' ').unwrap_or((rest, ""));
+    let number = number.parse::<u64>().unwrap_or(0);
+    match fields.split_first() {
+        Some((_, files)) => failing_text(alloc, words, files, (device, number)),
+        None => Ok(String::from_str(alloc, "no files")?),
+    }
+}
+
+// Calls of a device fail in turn, until one more isn't asked for.
+fn faults_text(alloc: Global, words: &str, files: &[&str], device: &str) -> anyhow::Result<String> {
+    let wanted = format!(in alloc; "fault {device}")?;
+    for number in 0..1000u64 {
+        let told = failing_text(alloc, words, files, (device, number))?;
+        if told.as_str() != wanted.as_str() {
+            return Ok(format!(in alloc; "{number} faults, then {told}")?);
+        }
+    }
+    Ok(wanted)
+}
+
+/// How many calls of a device there are: each fails in turn, and is named; and the modules in their order after that.
+pub(crate) fn faults(alloc: Global, fields: &[&str]) -> anyhow::Result<String> {
+    let first = field(fields, 0);
+    let (device, words) = first.split_once(' ').unwrap_or((first, ""));
+    match fields.split_first() {
+        Some((_, files)) => faults_text(alloc, words, files, device),
+        None => Ok(String::from_str(alloc, "no files")?),
+    }
+}
+
+const ON_FIRST: &str =
+    "<dependencies><dependency><groupId>demo</groupId><artifactId>m0</artifactId><version>1.0</version></dependency></dependencies>";
+
+// The module of this number; all but the first depend on the first.
+fn put_wide(alloc: Global, files: &mut Files, number: u32) -> Mem<()> {
+    let artifact = format!(in alloc; "m{number}")?;
+    let path = format!(in alloc; "{artifact}/pom.xml")?;
+    let inside = if number == 0 { "" } else { ON_FIRST };
+    put_module(alloc, files, path.as_str(), artifact.as_str(), inside)
+}
+
+fn push_listed(alloc: Global, root: &mut String, number: u32) -> Mem<()> {
+    let module = format!(in alloc; "<module>m{number}</module>")?;
+    root.push_str(module.as_str())?;
+    Ok(())
+}
+
+// A root of so many modules `m0`, `m1`, .., of which each but the first depends on the first.
+fn wide_files(alloc: Global, count: u32) -> Mem<Files> {
+    let mut files = no_files(alloc);
+    let mut root = String::from_str(alloc, "<packaging>pom</packaging><modules>")?;
+    for number in 0..count {
+        push_listed(alloc, &mut root, number)?;
+        put_wide(alloc, &mut files, number)?;
+    }
+    root.push_str("</modules>")?;
+    put_module(alloc, &mut files, "pom.xml", "root", root.as_str())?;
+    Ok(files)
+}
+
+/// The counts of the plan of a root and so many modules.
+pub(crate) fn wide(alloc: Global, row: &str) -> anyhow::Result<String> {
+    let (number, words) = row.split_once(' ').unwrap_or((row, ""));
+    let files = wide_files(alloc, number.parse::<u32>().unwrap_or(0))?;
+    match plan(alloc, files, words, NONE)? {
+        Ok(planned) => Ok(count_text(alloc, &planned.plan)?),
+        Err(text) => Ok(text),
+    }
+}
+
+fn put_source(alloc: Global, files: &mut Files, number: u32) -> Mem<()> {
+    let path = format!(in alloc; "b/src/main/java/S{number}")?;
+    put_file(alloc, files, path.as_str(), Bytes::of(Vec::new(alloc)))
+}
+
+const TWO: &str =
+    "<packaging>pom</packaging><modules><module>a</module><module>b</module></modules>";
+
+// A root of the modules `a` and `b`, where `b` has so many empty sources.
+fn many_files(alloc: Global, count: u32) -> Mem<Files> {
+    let mut files = no_files(alloc);
+    put_module(alloc, &mut files, "pom.xml", "root", TWO)?;
+    put_module(alloc, &mut files, "a/pom.xml", "a", "")?;
+    put_module(alloc, &mut files, "b/pom.xml", "b", "")?;
+    for number in 0..count {
+        put_source(alloc, &mut files, number)?;
+    }
+    Ok(files)
+}
+
+/// The modules in their order, of a project with so many sources.
+pub(crate) fn many(alloc: Global, row: &str) -> anyhow::Result<String> {
+    let (number, words) = row.split_once(' ').unwrap_or((row, ""));
+    let files = many_files(alloc, number.parse::<u32>().unwrap_or(0))?;
+    match plan(alloc, files, words, NONE)? {
+        Ok(planned) => Ok(order_text(alloc, &planned.plan)?),
+        Err(text) => Ok(text),
+    }
+}

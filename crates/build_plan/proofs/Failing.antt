@@ -1,10 +1,9 @@
 -- Failures that were counted.
-use Rattle.std.proofs.Common.{◌≡◌, ℕ, Bool, true, false, Option, Some, None, is_some, refl, sym, ap, ◌∙◌, arith}
+use Rattle.std.proofs.Common.{◌≡◌, ℕ, Bool, true, false, None, is_some, sym, ap, ◌∙◌, arith}
 use Rattle.std.specs.Prelude.{nat_lt}
 use Rattle.mvn_shared.specs.Cause.{HasCause, HasRisen}
 use Rattle.model_resolver.specs.Devices.{IsCounted}
 use Rattle.model_resolver.specs.declared.failures.Failures.{Failures}
-use Rattle.model_resolver.specs.declared.failures.PomDevice.{PomDevice}
 
 risen : (n : ℕ) → HasRisen 0 n → nat_lt 0 n ≡ true
 risen n rises = grind arith

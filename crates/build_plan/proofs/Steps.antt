@@ -1,5 +1,5 @@
 -- What planning gives, where a step gives something and where it fails.
-use Rattle.std.proofs.Common.{◌≡◌, List, Result, Ok, Err, refl}
+use Rattle.std.proofs.Common.{◌≡◌, List, Ok, Err, refl}
 use Rattle.mvn_shared.specs.Files.{Files}
 use Rattle.classpaths.specs.declared.resolution.Resolution.{Resolution}
 use Rattle.cli_words.specs.declared.command_line.CommandLine.{CommandLine}
@@ -19,7 +19,6 @@ use Rattle.plan_numbers.specs.declared.selected.SelectedModule.{SelectedModule}
 use Rattle.built_modules.specs.Selected.{AreModules}
 use Rattle.build_plan.specs.Planning.{AreReady, AreResolved, IsPlanned, IsProject, IsReactor, IsRefused, Libraries, Plans, plan_fault, sources_of}
 use Rattle.build_plan.specs.Planning.IsRefused.{by_circle, by_libraries, by_poms, by_size, by_sources}
-use Rattle.build_plan.specs.declared.planning.PlanFault.{PlanFault}
 use Rattle.build_plan.specs.declared.planning.PlanFault.TheVariants as faults
 
 module _ (tree local remote : Files) (given : Given) (line : CommandLine) where

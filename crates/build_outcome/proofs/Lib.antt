@@ -1,3 +1,4 @@
+mod Examples
 pub mod Causing
 pub mod Endings
 pub mod Faulty

@@ -187,9 +187,10 @@ fn each_call_that_fails_is_told(rt: HostRuntime) -> Result<(), Fail> {
     check_fault(&rt, rt.alloc(), 'a', (1, 4), 0, AREA)?;
     check_fault(&rt, rt.alloc(), 'a', (4, 7), 1, AREA)?;
     check_fault(&rt, rt.alloc(), 'g', (0, 6), 0, GATE)?;
-    check_fault(&rt, rt.alloc(), 's', (0, 1), 0, SHELF)?;
-    check_fault(&rt, rt.alloc(), 's', (1, 2), 1, SHELF)?;
-    check_fault(&rt, rt.alloc(), 's', (2, 3), 2, SETTLE)?;
+    check_fault(&rt, rt.alloc(), 's', (0, 5), 0, "fault shelf\n")?;
+    check_fault(&rt, rt.alloc(), 's', (5, 6), 0, SHELF)?;
+    check_fault(&rt, rt.alloc(), 's', (6, 7), 1, SHELF)?;
+    check_fault(&rt, rt.alloc(), 's', (7, 8), 2, SETTLE)?;
     check_fault(&rt, rt.alloc(), 'o', (0, 1), 2, "")?;
     Ok(())
 }

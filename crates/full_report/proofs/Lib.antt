@@ -1,2 +1,3 @@
+mod Examples
 pub mod Lists
 pub mod Named

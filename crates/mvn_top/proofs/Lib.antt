@@ -1,9 +1,7 @@
-mod Builds
-mod Calls
-mod IfSomes
-mod Onces
-mod Ones
-mod Planned
-mod Rans
-mod Stops
-mod Tops
+pub mod Calling
+pub mod Planned
+pub mod Statuses
+pub mod Stops
+pub mod Telling
+pub mod Workers
+pub mod Writing

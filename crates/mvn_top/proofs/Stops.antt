@@ -9,7 +9,8 @@ use Rattle.mvn_shared.specs.Files.{Files, file_at}
 use Rattle.mvn_outside.specs.declared.shelf.Published.{Published}
 use Rattle.mvn_outside.specs.declared.shelf.ShelfTold.{ShelfTold}
 use Rattle.mvn_outside.specs.Shelf.{with_publish, files_now, Left, Between}
-use Rattle.mvn_top.specs.Once.{IsDistinct, PublishesOnce, StopsBetween}
+use Rattle.build_outcome.specs.Once.{PublishesOnce, StopsBetween}
+use Rattle.plan_run.specs.Once.{AreApart}
 
 abbrev names : List Published → List (List ℕ)
 names ps = map (λ p. p.name) ps
@@ -45,7 +46,7 @@ decided name other false e = inr (λ s. absurd_bool (sym e ∙ (bytes_eq-Decides
     absurd_bool : false ≡ true → ⊥
     absurd_bool t = cc
 
-old_or_new : (files : Files) (ps : List Published) (count : ℕ) (name : List ℕ) → IsDistinct (names ps) → (file_at (fold with_publish files (take count ps)) name ≡ file_at files name) ⊎ (file_at (fold with_publish files (take count ps)) name ≡ file_at (fold with_publish files ps) name)
+old_or_new : (files : Files) (ps : List Published) (count : ℕ) (name : List ℕ) → AreApart (names ps) → (file_at (fold with_publish files (take count ps)) name ≡ file_at files name) ⊎ (file_at (fold with_publish files (take count ps)) name ≡ file_at (fold with_publish files ps) name)
 old_or_new files [] count name h = inl (none count)
   where
     none : (count : ℕ) → file_at (fold with_publish files (take {A = Published} count [])) name ≡ file_at files name

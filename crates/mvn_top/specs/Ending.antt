@@ -3,7 +3,7 @@ use Rattle.std.specs.Prelude.{◌≡◌, ◌≢◌, ℕ, ◌<◌, List, Option, 
 use Rattle.mvn_shared.specs.declared.memory.OutOfMemory.{OutOfMemory}
 use Rattle.mvn_shared.specs.Cause.{last_count, HasRisen}
 use Rattle.mvn_shared.specs.Told.{gains, IsCut}
-use Rattle.mvn_top.specs.declared.outcome.Outcome.{Outcome}
+use Rattle.build_outcome.specs.declared.outcome.Outcome.{Outcome}
 
 -- the status is the outcome's, and its whole text was added
 pub record IsWhole (wanted : Outcome) (status : ℕ) (before now : Option (List ℕ)) : Type 0 where

@@ -1,21 +1,23 @@
 pub use Rattle.mvn_shared.specs.Cause
 pub use Rattle.mvn_shared.specs.Files
 pub use Rattle.mvn_shared.specs.Told
-pub use Rattle.mvn_base.specs.Gav
-pub use Rattle.mvn_base.specs.Names
 pub use Rattle.mvn_base.specs.Refusal
-pub use Rattle.mvn_base.specs.Rule
+pub use Rattle.mvn_outside.specs.Shelf
 pub use Rattle.cli_words.specs.Faults
 pub use Rattle.cli_words.specs.Options
 pub use Rattle.pom_source.specs.Answers
 pub use Rattle.model_resolver.specs.Devices
-pub use Rattle.module_plan.specs.Plans
-pub use Rattle.module_plan.specs.Project as module_project
+pub use Rattle.build_plan.specs.Planning
+pub use Rattle.full_report.specs.Details as module_details
+pub use Rattle.one_hand.specs.Built
+pub use Rattle.build_outcome.specs.Causes
+pub use Rattle.build_outcome.specs.Once
+pub use Rattle.build_outcome.specs.Ran
+pub use Rattle.plan_needs.specs.Needs
+pub mod Calls
 pub mod Commands
 pub mod Ending
+pub mod Found
 pub mod Headline
-pub mod Once
 pub mod Outcome
 pub mod Project
-pub mod Ran
-pub mod Rows

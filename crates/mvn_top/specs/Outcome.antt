@@ -1,5 +1,5 @@
 -- What a call answers that builds nothing, by what planning gave. Own rules.
-use Rattle.std.specs.Prelude.{ℕ, List, [], ◌∷◌, ◌++◌, codes, Option, Some, None, Result, Ok, Err}
+use Rattle.std.specs.Prelude.{ℕ, List, [], ◌∷◌, ◌++◌, codes}
 use Rattle.mvn_base.specs.declared.rule.Rule.TheVariants as rule
 use Rattle.mvn_base.specs.declared.refusal.Place.TheVariants.{Name}
 use Rattle.mvn_base.specs.declared.refusal.PomId.TheVariants.{Path}
@@ -7,12 +7,10 @@ use Rattle.mvn_base.specs.declared.refusal.Refusal.{Refusal}
 use Rattle.mvn_base.specs.Refusal.{refusal_text}
 use Rattle.cli_words.specs.Faults.{fault_text}
 use Rattle.cli_words.specs.declared.fault.WordFault.{WordFault}
-use Rattle.build_core.specs.declared.plan.Plan.{Plan}
-use Rattle.pom_source.specs.Answers.{Built}
-use Rattle.pom_source.specs.declared.fault.BuildFault.TheVariants as fault
+use Rattle.cli_words.specs.declared.fault.WordKind.TheVariants.{UnknownModule}
 use Rattle.model_resolver.specs.declared.failures.PomDevice.{PomDevice}
 use Rattle.model_resolver.specs.declared.failures.PomDevice.TheVariants.{Tree, Shelf, Remote}
-use Rattle.mvn_top.specs.declared.outcome.Outcome.{Outcome}
+use Rattle.build_outcome.specs.declared.outcome.Outcome.{Outcome}
 
 -- a text with a line feed behind it
 abbrev pub line : List ℕ → List ℕ
@@ -25,6 +23,10 @@ not_built = record { text = line (codes "not built yet"); status = 2 }
 -- the first fault of the words, and where it stands
 unfoldable pub word_fault : WordFault → Outcome
 word_fault fault = record { text = line (fault_text fault); status = 2 }
+
+-- the word at this place names no module that is built
+abbrev pub unknown_module : (place : ℕ) → Outcome
+unknown_module place = word_fault (record { place = place; kind = UnknownModule })
 
 abbrev pub device_name : PomDevice → List ℕ
 device_name Tree = codes "tree"
@@ -42,12 +44,3 @@ refused_by refusal = record { text = line (refusal_text refusal); status = 2 }
 -- there is no POM
 abbrev pub root_missing : Refusal
 root_missing = record { pom = Path (codes "pom.xml"); rule = rule.ModuleNotFound; place = Name (codes "pom.xml") }
-
--- The plan, or what is answered in its place. A definition never says that a source failed or that memory ran out.
-abbrev pub of_planned : Built (Option Plan) → Result Plan Outcome
-of_planned (Ok (Some plan)) = Ok plan
-of_planned (Ok None) = Err not_built
-of_planned (Err (fault.Refused refusal)) = Err (refused_by refusal)
-of_planned (Err fault.Absent) = Err (refused_by root_missing)
-of_planned (Err fault.Source) = Err not_built
-of_planned (Err fault.Memory) = Err not_built

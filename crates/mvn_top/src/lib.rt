@@ -3,10 +3,11 @@
 
 mod build;
 mod command;
+mod ending;
+mod given;
 mod outcome;
 mod project;
-mod rows;
 mod top;
 
-pub use outcome::{BUILT, FAULT, NO_MEMORY, Outcome, REFUSED};
+pub use build_outcome::{BUILT, FAILED, FAULT, NO_MEMORY, Outcome, REFUSED};
 pub use top::{Ended, mvn};

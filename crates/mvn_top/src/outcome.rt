@@ -1,42 +1,23 @@
 // What a call answers that builds nothing, by what planning gave.
-ghost use Rattle.std.specs.Prelude.{◌≡◌, ◌++◌, Option, None, Some, Err, codes, is_some, IfOk};
+ghost use Rattle.std.specs.Prelude.{◌≡◌, ◌++◌, Ok, Err, codes, is_some, IfOk};
 ghost use Rattle.std.specs.String.{string_bytes};
-ghost use Rattle.build_core.specs.declared.plan.Plan as plans;
-ghost use Rattle.pom_source.specs.Answers.{Built, Fails, Says, build_failed, fault_failed};
-ghost use Rattle.model_resolver.specs.declared.failures.PomDevice as devices;
-ghost use Rattle.mvn_top.specs.Outcome.{device_name, fault_line, line, not_built, of_planned, refused_by, root_missing, word_fault};
-ghost use Rattle.mvn_top.specs.Project.{ComesFromPlan, IsNoPlan};
+ghost use Rattle.pom_source.specs.Answers.{fault_failed};
+ghost use Rattle.build_plan.specs.Planning.{plan_failed};
+ghost use Rattle.build_plan.specs.declared.planning.PlanFault.TheVariants as faults;
+ghost use Rattle.mvn_top.specs.Found.{found_of};
+ghost use Rattle.mvn_top.specs.Outcome.{device_name, fault_line, line, not_built, refused_by, root_missing, unknown_module, word_fault};
+ghost use Rattle.mvn_top.specs.Project.{IsMadeOf};
 
-use build_core::Plan;
-use cli_words::WordFault;
+use build_outcome::{FAULT, Outcome, REFUSED};
+use build_plan::{PlanFault, Planning};
+use cli_words::{WordFault, WordKind};
 use model_resolver::PomDevice;
-use module_plan::Planned;
 use mvn_base::{Place, PomId, Refusal, Rule};
 use mvn_shared::{Bytes, Mem, OutOfMemory, Text};
+use plan_needs::needs_files;
+use plan_numbers::Planned;
 use pom_source::BuildFault;
 use std::alloc::Global;
-
-/// What a call answers: the text that it writes, and the exit status.
-#[derive(Drop)]
-pub struct Outcome {
-    pub text: Bytes,
-    pub status: u8,
-}
-
-/// The status of a build whose modules are all built.
-pub const BUILT: u8 = 0;
-
-/// The status of a build of which some module isn't built.
-pub const FAILED: u8 = 1;
-
-/// The status of words or a project that are refused.
-pub const REFUSED: u8 = 2;
-
-/// The status after a fault of a device.
-pub const FAULT: u8 = 3;
-
-/// The status where memory ran out.
-pub const NO_MEMORY: u8 = 4;
 
 // A text with a line feed behind it.
 fn line(text: String) -> Mem<Bytes>
@@ -49,7 +30,7 @@ fn line(text: String) -> Mem<Bytes>
 
 /// The answer to words, or to a project, that this stage doesn't build yet.
 #[tactic(auto, unfolding(crate::specs::Outcome::not_built))]
-pub fn not_built(alloc: Global) -> Mem<Outcome>
+pub(crate) fn not_built(alloc: Global) -> Mem<Outcome>
     ensures { IfOk result (λ outcome. outcome ≡ not_built) }
 {
     let text = line(String::from_str(alloc, "not built yet")?)?;
@@ -61,7 +42,7 @@ pub fn not_built(alloc: Global) -> Mem<Outcome>
 
 /// The answer to words of which this is the first fault.
 #[tactic(auto, unfolding(crate::specs::Outcome::word_fault))]
-pub fn word_fault(alloc: Global, fault: WordFault) -> Mem<Outcome>
+pub(crate) fn word_fault(alloc: Global, fault: WordFault) -> Mem<Outcome>
     ensures { IfOk result (λ outcome. outcome ≡ word_fault fault) }
 {
     let text = line(format!(in alloc; "{fault}")?)?;
@@ -121,14 +102,10 @@ fn root_missing(alloc: Global) -> Mem<Refusal>
     })
 }
 
-// What is answered where there is no plan: of a device that failed the line that names it.
+// What is answered where planning refused or failed: of a device that failed the line that names it.
 fn unplanned(alloc: Global, fault: &BuildFault, failed: Option<PomDevice>) -> Mem<Outcome>
     requires failed { is_some failed ≡ fault_failed fault.now }
-    ensures says { (said : Built (Option plans.Plan)) → Fails said fault.now → failed ≡ None
-        → IfOk result (λ outcome. of_planned said ≡ Err outcome) }
-    ensures fault { (device : devices.PomDevice) → failed ≡ Some device
-        → IfOk result (λ outcome. outcome ≡ fault_line device) }
-    ensures none { IfOk result (IsNoPlan failed) }
+    ensures { IfOk result (λ outcome. IsMadeOf (Err (faults.Build fault.now)) failed (Err outcome)) }
 {
     match fault {
         BuildFault::Refused(refusal) => refused_by(alloc, refusal),
@@ -141,19 +118,35 @@ fn unplanned(alloc: Global, fault: &BuildFault, failed: Option<PomDevice>) -> Me
     }
 }
 
-/// The plan that planning gave, or what is answered in its place.
-pub fn answered(alloc: Global, planned: Planned) -> Mem<Result<Plan, Outcome>>
-    requires failed { is_some planned.failed ≡ build_failed planned.plan }
-    ensures says { (said : Built (Option plans.Plan)) → Says said planned.plan
-        → planned.failed ≡ None → IfOk result (λ answer. answer ≡ of_planned said) }
-    ensures fault { (device : devices.PomDevice) → planned.failed ≡ Some device
-        → IfOk result (λ answer. answer ≡ Err (fault_line device)) }
-    ensures comes { IfOk result (ComesFromPlan planned.plan planned.failed) }
+// The answer where a word names no module that is built.
+fn unknown_module(alloc: Global, place: u32) -> Mem<Outcome>
+    ensures { IfOk result (λ outcome. outcome ≡ unknown_module place) }
 {
-    let Planned { plan, failed } = planned;
-    match plan {
-        Ok(Some(plan)) => Ok(Ok(plan)),
-        Ok(None) => Ok(Err(not_built(alloc)?)),
-        Err(fault) => Ok(Err(unplanned(alloc, &fault, failed)?)),
+    let kind = WordKind::UnknownModule;
+    word_fault(alloc, WordFault { place, kind })
+}
+
+// The plan, unless it needs a file of the repository: nothing is fetched yet.
+fn without_files(alloc: Global, planned: Planned) -> Mem<Result<Planned, Outcome>>
+    ensures { IfOk result (λ answer. answer ≡ found_of (Ok planned)) }
+{
+    if needs_files(&planned.plan) {
+        Ok(Err(not_built(alloc)?))
+    } else {
+        Ok(Ok(planned))
+    }
+}
+
+/// The plan that planning gave, or what is answered in its place.
+#[tactic(auto, using(crate::proofs::Planned::made_none))]
+pub(crate) fn answered(alloc: Global, planning: Planning) -> Mem<Result<Planned, Outcome>>
+    requires failed { is_some planning.failed ≡ plan_failed planning.answer }
+    ensures { IfOk result (IsMadeOf planning.answer planning.failed) }
+{
+    let Planning { answer, failed } = planning;
+    match answer {
+        Ok(planned) => without_files(alloc, planned),
+        Err(PlanFault::Unknown(place)) => Ok(Err(unknown_module(alloc, place)?)),
+        Err(PlanFault::Build(fault)) => Ok(Err(unplanned(alloc, &fault, failed)?)),
     }
 }

@@ -1,2 +1,3 @@
+mod Examples
 pub mod Fetching
 pub mod Owning

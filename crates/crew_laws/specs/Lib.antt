@@ -1,0 +1,4 @@
+pub mod Absent
+pub mod Gathered
+pub mod Placed
+pub mod Twice

@@ -1,3 +1,6 @@
+mod Filled
 mod Found
 mod Once
+mod Rooted
+mod Stated
 mod Whole

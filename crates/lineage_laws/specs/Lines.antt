@@ -1,5 +1,5 @@
 -- The POMs that one builds on, said without a search. POM Reference, "Inheritance"; that 32 POMs are enough is a project rule.
-use Rattle.std.specs.Prelude.{◌≡◌, ℕ, ◌≤◌, Bool, true, not, ◌&&◌, List, [], ◌∷◌, ◌++◌, length, codes, Option, None, Some, Ok}
+use Rattle.std.specs.Prelude.{◌≡◌, ℕ, ◌≤◌, Bool, true, not, ◌&&◌, List, [], ◌∷◌, ◌++◌, length, codes, Option, None, Some, is_some, Ok}
 use Rattle.mvn_base.specs.declared.refusal.PomId.{PomId}
 use Rattle.model_types.specs.declared.model.Parent.{Parent}
 use Rattle.model_types.specs.declared.model.RawModel.{RawModel}
@@ -23,6 +23,10 @@ each_once (pom ∷ poms) = not (is_in pom poms) && each_once poms
 abbrev pub names : List RawModel → List PomId
 names [] = []
 names (raw ∷ raws) = names raws ++ raw.pom ∷ []
+
+-- a model states a group and a version
+abbrev pub is_stated : RawModel → Bool
+is_stated model = is_some model.coordinates.group && is_some model.coordinates.version
 
 module _ (world : World) where
   -- an origin leads to a POM: the one that was read at the path, or the one that the coordinates find

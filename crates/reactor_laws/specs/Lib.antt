@@ -1,0 +1,1 @@
+pub use Rattle.reactor_modules.specs.Reactor

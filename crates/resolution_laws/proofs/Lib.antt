@@ -1,0 +1,4 @@
+pub mod Refusing
+pub mod Rows
+pub mod Scoping
+pub mod Single

@@ -1,0 +1,2 @@
+pub use Rattle.mediation.specs.Rows
+pub use Rattle.resolution.specs.Resolved

@@ -14,8 +14,8 @@ use Rattle.one_hand.specs.Built.{LeavesFiles}
 use Rattle.build_outcome.specs.declared.build.Call.{Call}
 use Rattle.build_outcome.specs.declared.outcome.Outcome.{Outcome}
 use Rattle.mvn_top.specs.Calls.{Calls}
-use Rattle.mvn_top.specs.Ending.{IsWhole, Ends, IsFault, IsLow, HasNone}
-use Rattle.mvn_top.specs.Headline.{After, Comes, Faults, HasRisenOne, IfBoth, IsCall, IsIdle, IsOutcome, OfFirst, Seen}
+use Rattle.mvn_top.specs.Ending.{IsWhole, Ends, IsFault, IsLow, HasNone, without_memory}
+use Rattle.mvn_top.specs.Headline.{After, Comes, Faults, HasRisenOne, IfBoth, IsCall, IsIdle, IsOutcome, IsWanted, OfFirst, Seen}
 use Rattle.mvn_top.proofs.Telling.{both_map}
 
 relate : (before now : Option ShelfTold) (tells : Bool) (R Q : Files → Files → Type 0) → ((a b : Files) → R a b → Q a b) → LeavesFiles before now tells R → LeavesFiles before now tells Q
@@ -54,9 +54,6 @@ four_is_high n e lt = omega (arith, e, lt)
 four_is_not_three : (n : ℕ) → n ≡ 4 → n ≡ 3 → ⊥
 four_is_not_three n e f = omega (arith, e, f)
 
-not_below : 4 < 4 → ⊥
-not_below lt = omega (arith, lt)
-
 none_ends : (wanted : Outcome) (status : ℕ) (written now : Option (List ℕ)) (sink_before sink_now : ℕ) → status ≡ 4 → now ≡ written → Ends wanted status written now sink_before sink_now
 none_ends wanted status written now sink_before sink_now four same = record {
   cut = (0, same ∙ gains_nothing written);
@@ -65,20 +62,16 @@ none_ends wanted status written now sink_before sink_now four same = record {
   fault = λ three d. absurd (four_is_not_three status four three);
 }
 
--- where there is no answer no text is wanted
-nothing_wanted : Outcome
-nothing_wanted = record { text = []; status = 4 }
-
 ends_by : (asked : Result CommandLine Outcome) (seen : Seen) (after : After) (answers : List Answered) (out : Result Outcome OutOfMemory) (status : ℕ) (written now : Option (List ℕ)) (sink_before sink_now : ℕ)
     → IfOk out (Comes asked seen after answers) → IfOk out (λ wanted. Ends wanted status written now sink_before sink_now) → HasNone out status written now
-    → (wanted : Outcome) × (wanted.status < 4 → Comes asked seen after answers wanted) × Ends wanted status written now sink_before sink_now
-ends_by asked seen after answers (Ok wanted) status written now sink_before sink_now comes ends none = (wanted, λ l. comes, ends)
+    → (wanted : Outcome) × IsWanted asked seen after answers wanted × Ends wanted status written now sink_before sink_now
+ends_by asked seen after answers (Ok wanted) status written now sink_before sink_now comes ends none = (wanted, inl comes, ends)
 ends_by asked seen after answers (Err x) status written now sink_before sink_now comes ends none =
-    (record { text = []; status = 4 }, λ l. absurd (not_below l), none_ends (record { text = []; status = 4 }) status written now sink_before sink_now none.0 none.1)
+    (without_memory, inr refl, none_ends without_memory status written now sink_before sink_now none.0 none.1)
 
 pub call_ends : (asked : Result CommandLine Outcome) (seen : Seen) (after : After) (call : Call) (status : ℕ) (written now : Option (List ℕ)) (sink_before sink_now : ℕ) → Calls asked seen after call
     → IfOk call.outcome (λ wanted. Ends wanted status written now sink_before sink_now) → HasNone call.outcome status written now
-    → (wanted : Outcome) × (wanted.status < 4 → Comes asked seen after call.answers wanted) × Ends wanted status written now sink_before sink_now
+    → (wanted : Outcome) × IsWanted asked seen after call.answers wanted × Ends wanted status written now sink_before sink_now
 call_ends asked seen after call status written now sink_before sink_now is ends none = ends_by asked seen after call.answers call.outcome status written now sink_before sink_now is.comes ends none
 
 -- ---- by the status

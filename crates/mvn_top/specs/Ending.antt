@@ -1,9 +1,13 @@
 -- How a call ends: its status, and what is written, against the outcome that is wanted.
-use Rattle.std.specs.Prelude.{◌≡◌, ◌≢◌, ℕ, ◌<◌, List, Option, Result, Ok, Err}
+use Rattle.std.specs.Prelude.{◌≡◌, ◌≢◌, ℕ, ◌<◌, List, [], Option, Result, Ok, Err}
 use Rattle.mvn_shared.specs.declared.memory.OutOfMemory.{OutOfMemory}
 use Rattle.mvn_shared.specs.Cause.{last_count, HasRisen}
 use Rattle.mvn_shared.specs.Told.{gains, IsCut}
 use Rattle.build_outcome.specs.declared.outcome.Outcome.{Outcome}
+
+-- memory ran out before there was a text
+abbrev pub without_memory : Outcome
+without_memory = record { text = []; status = 4 }
 
 -- the status is the outcome's, and its whole text was added
 pub record IsWhole (wanted : Outcome) (status : ℕ) (before now : Option (List ℕ)) : Type 0 where

@@ -18,7 +18,7 @@ use Rattle.build_outcome.specs.declared.outcome.Outcome.{Outcome}
 use Rattle.build_outcome.specs.Causes.{IsCaused}
 use Rattle.build_outcome.specs.Causes as causes
 use Rattle.build_outcome.specs.Ran.{ran, HasHistory, RanAlways}
-use Rattle.mvn_top.specs.Ending.{IsWhole}
+use Rattle.mvn_top.specs.Ending.{IsWhole, without_memory}
 use Rattle.mvn_top.specs.Found.{given_of, IsFound, IsFoundBy}
 use Rattle.mvn_top.specs.Outcome.{fault_line}
 
@@ -124,6 +124,10 @@ pub data Comes (asked : Result CommandLine Outcome) (seen : Seen) (after : After
   by_planning : (line : CommandLine) → asked ≡ Ok line → IsFoundIn seen line (Err answer) → IsIdle seen.shelf answers after.shelf → Comes asked seen after answers answer
   by_build : (line : CommandLine) (p : Planned) → asked ≡ Ok line → IsFoundIn seen line (Ok p) → IsCaused seen.gate p.plan (told_of line.full p) answers (run_counts seen.faults) (run_counts after.faults) answer
       → HasHistory seen.gate p.plan answers seen.shelf after.shelf → (answer.status < 3 → RanAlways p.plan (told_of line.full p) answers answer) → Comes asked seen after answers answer
+
+-- the text that is wanted comes from there, or memory ran out before there was one
+abbrev pub IsWanted : Result CommandLine Outcome → Seen → After → List Answered → Outcome → Type 0
+IsWanted asked seen after answers wanted = Comes asked seen after answers wanted ⊎ (wanted ≡ without_memory)
 
 -- at every status: no goal was asked and nothing was published, or a plan was run
 abbrev pub IsHistory : Result CommandLine Outcome → Seen → List Answered → (now : Option ShelfTold) → Type 0

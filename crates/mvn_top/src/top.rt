@@ -7,7 +7,7 @@ ghost use Rattle.build_outcome.specs.declared.outcome.Outcome.{Outcome};
 ghost use Rattle.build_outcome.specs.Once.{PublishesOnce, StopsBetween};
 ghost use Rattle.mvn_top.specs.Commands.{asked};
 ghost use Rattle.mvn_top.specs.Ending.{Ends};
-ghost use Rattle.mvn_top.specs.Headline.{Comes, IfBoth, IsCall, IsHistory, IsIdle, OfFirst, OfFirsts, SameOthers};
+ghost use Rattle.mvn_top.specs.Headline.{IsWanted, IfBoth, IsCall, IsHistory, IsIdle, OfFirst, OfFirsts, SameOthers};
 
 use crate::build::build;
 use crate::ending::write_answer;
@@ -44,7 +44,7 @@ fn call_hand<T: Tree, R: Remote, S: Shelf, G: Gate, O: Sink>(
         → LeavesFiles (S.told shelf) (S.told result.shelf) (is_some (S.Area.contents hand.old.area))
         (IsCall (asked words.now count) files there machine result.answers result.status
         (O.written out.old) (O.written out.new))) }
-    ensures ends { (wanted : Outcome) × (wanted.status < 4 → Comes (asked words.now count)
+    ensures ends { (wanted : Outcome) × (IsWanted (asked words.now count)
         (record {
           tree = T.files tree.old;
           shelf = S.told shelf;
@@ -92,6 +92,7 @@ fn call_hand<T: Tree, R: Remote, S: Shelf, G: Gate, O: Sink>(
         result.answers (S.told result.shelf) }
     ensures refused { result.status ≡ 2 → IsIdle (S.told shelf) result.answers (S.told result.shelf) }
     ensures once { PublishesOnce (S.told shelf) (S.told result.shelf) }
+    ensures whole_files { StopsBetween (S.told shelf) (S.told result.shelf) }
     ensures settled { result.status < 2 → IfSome (S.told result.shelf) IsSettled }
     ensures quiet { result.status < 3 → (T.faults tree.new ≡ T.faults tree.old) ×
         (S.faults result.shelf ≡ S.faults shelf) ×
@@ -145,14 +146,14 @@ pub fn mvn<T: Tree, R: Remote, S: Shelf, G: Gate, O: Sink>(
     ensures outcome { OfFirst hands.old (λ hand.
         IfBoth (T.files tree.old) (R.files hand.remote) (λ files there. result.status < 3
         → LeavesFiles (S.told shelf) (S.told result.shelf) (is_some (S.Area.contents hand.area))
-        (IsCall (asked words.now (length hands.old)) files there machine result.answers result.status (O.written out.old)
-        (O.written out.new)))) }
+        (IsCall (asked words.now (length hands.old)) files there machine result.answers
+        result.status (O.written out.old) (O.written out.new)))) }
 
     // Over any objects, at every status: what is written is a part from the front of the text that is wanted, the whole unless the
     // sink failed or memory ran out. That text, unless memory ran out before there was one, comes from the words, from a device
     // that failed while planning, from what planning refused, or it is the report of a run of the plan by one hand.
     ensures ends { OfFirsts hands.old hands.new (λ before now. (wanted : Outcome) ×
-        (wanted.status < 4 → Comes (asked words.now (length hands.old))
+        (IsWanted (asked words.now (length hands.old))
         (record {
           tree = T.files tree.old;
           shelf = S.told shelf;

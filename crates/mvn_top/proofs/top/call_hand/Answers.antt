@@ -1,6 +1,7 @@
 use Rattle.std.proofs.Common.{is_some}
 use Rattle.mvn_top.specs.Commands.{asked}
 use Rattle.mvn_top.specs.Headline.{After, Seen}
+use Rattle.mvn_top.proofs.Stops.{stops_between}
 use Rattle.mvn_top.proofs.Writing.{call_ends, call_of}
 use Rattle.mvn_top.proofs.top.call_hand.Goals as goal
 
@@ -36,3 +37,6 @@ returns-clause-ends g c =
     let wrote = c.write_answer-status in
     call_ends (asked c.args.words.now c.args.count) seen after built.result wrote.result (g.O.Sink.written c.args.out.now) (g.O.Sink.written wrote.new.out) (g.O.Sink.faults c.args.out.now) (g.O.Sink.faults wrote.new.out)
     built.ensures wrote.ensures.ends wrote.ensures.none
+
+pub returns-clause-whole_files : goal.returns-clause-whole_files
+returns-clause-whole_files g c = stops_between (g.S.Shelf.told c.args.shelf) (g.S.Shelf.told c.build-outcome.new.shelf) c.build-outcome.ensures.once

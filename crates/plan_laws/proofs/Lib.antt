@@ -1,0 +1,3 @@
+pub mod Resolving
+pub mod Selecting
+pub mod Stepping

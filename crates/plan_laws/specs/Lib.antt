@@ -1,0 +1,2 @@
+pub use Rattle.build_plan.specs.Planning
+pub mod Said

@@ -1,0 +1,19 @@
+ghost use Rattle.std.specs.Prelude.{◌≡◌, Result};
+ghost use Rattle.build_plan.specs.Planning.{Plans};
+ghost use Rattle.build_plan.specs.declared.planning.PlanFault.{PlanFault};
+ghost use Rattle.cli_words.specs.declared.command_line.CommandLine.{CommandLine};
+ghost use Rattle.mvn_shared.specs.Files.{Files};
+ghost use Rattle.plan_laws.specs.Said.{IsSaid};
+ghost use Rattle.plan_numbers.specs.declared.selected.Planned.{Planned};
+ghost use Rattle.pom_source.specs.declared.found.Given.{Given};
+
+/// A law of plans: the files of a project's folder, of the local repository and of the remote one, the machine, the properties that
+/// are defined, the profiles that are chosen and the words of a command line have one plan; or one first refusal, or one word that
+/// means no module. Of a device that failed and of want of memory nothing is said. Does nothing. Guide to Working with Multiple
+/// Modules; Introduction to the Build Lifecycle.
+pub fn one_plan()
+    ensures { (tree local remote : Files) (given : Given) (line : CommandLine)
+        (one other : Result Planned PlanFault)
+        → Plans tree local remote given line one → Plans tree local remote given line other
+        → IsSaid one → IsSaid other → one ≡ other }
+{}

@@ -1,5 +1,5 @@
 -- A board with an answer more.
-use Rattle.std.proofs.Common.{◌≡◌, ℕ, zero, suc, ◌+◌, ◌≤◌, ◌<◌, Bool, List, [], ◌∷◌, ◌++◌, length, get_or, slice_get, unwrap_or, Option, Some, None, IfSome, refl, arith, sym, ap, subst, ◌∙◌}
+use Rattle.std.proofs.Common.{◌≡◌, ℕ, zero, suc, ◌≤◌, ◌<◌, Bool, List, [], ◌∷◌, ◌++◌, length, get_or, slice_get, unwrap_or, Option, Some, None, IfSome, refl, arith, sym, ap, subst, ◌∙◌}
 use Rattle.std.specs.Option.{option_map_or}
 use Rattle.std.proofs.lemmas.List.{length-append}
 use Rattle.mvn_outside.specs.declared.shelf.Published.{Published}
@@ -13,8 +13,7 @@ use Rattle.build_core.specs.declared.plan.Plan.{Plan}
 use Rattle.build_core.specs.declared.plan.PlanModule.{PlanModule}
 use Rattle.build_core.specs.Slots.{GoalsEnd, all_answered, goal_failed, kept_of, output_too_large, slot_bytes}
 use Rattle.event_core.specs.Enabled.{Enabled}
-use Rattle.event_core.specs.Outlines.{outline_of}
-use Rattle.event_core.specs.Runs.{answers_in, goals_in, kept_by, module_by}
+use Rattle.event_core.specs.Runs.{answers_in, goals_in, module_by}
 use Rattle.event_core.specs.Standing.{course_of, module_of, standing_of}
 use Rattle.event_core.specs.declared.deed.Deed.TheVariants as deed
 use Rattle.event_core.specs.declared.entry.Carried.TheVariants as carried
@@ -26,10 +25,11 @@ use Rattle.run_law.proofs.Complete.{at_work}
 use Rattle.run_law.proofs.Kept.{answers_more, outputs_are, outs_at}
 use Rattle.run_law.specs.Given.{outputs_after}
 use Rattle.goal_answers.specs.Walks.{goals_of, stand_of}
-use Rattle.board.specs.Builds.{AreCaused, Build, answer_kept, kept_so}
+use Rattle.board.specs.Builds.{AreCaused, Build, IsCalm, answer_kept, kept_so}
 use Rattle.board.specs.Keeping.{IsBoard, Room, answer_count, log_by, publish_count}
 use Rattle.board.specs.Logs.{publishes_in, published_since, told_after}
-use Rattle.board.proofs.Boards.{caused_less, not_empty}
+use Rattle.board.proofs.Boards.{calm_more, caused_less, not_empty}
+use Rattle.board.proofs.Busy.{busy_more}
 use Rattle.board.proofs.Logs.{answer_more, answers_append, endings_one, entry, publishes_append, publishes_one}
 use Rattle.std.proofs.lemmas.List.{append-nil}
 
@@ -131,6 +131,8 @@ module _ {S : Type 0} (told : S → Option ShelfTold) (faults : S → ℕ) (plan
       present = board.present;
       caused = subst (λ l. AreCaused (told opening) (faults opening) (faults shelf) l marks) (sym answer_log)
           (caused_less (told opening) (faults opening) (faults shelf) log (log ++ entry (event.Answer w g) (carried.Answered answer) ∷ []) marks marks (omega (arith, endings_one log (event.Answer w g) (carried.Answered answer))) board.caused);
+      calm = subst (λ l. IsCalm (faults opening) (faults shelf) l marks) (sym answer_log) (calm_more (faults opening) (faults shelf) log (entry (event.Answer w g) (carried.Answered answer)) marks marks (λ quiet none. none) board.calm);
+      busy = busy_more core.0 core.1 (event.Answer w g) marks refl board.busy;
       untouched = λ none. absurd (not_empty core.1 (event.Answer w g) none);
     }
 

@@ -1,5 +1,5 @@
 -- Each entry of a log carries what it has to.
-use Rattle.std.proofs.Common.{◌≡◌, ℕ, ◌+◌, Bool, true, false, List, [], ◌∷◌, length, Option, Some, None, IfSome, is_some, refl, arith, ap, ◌∙◌, sym}
+use Rattle.std.proofs.Common.{◌≡◌, List, [], ◌∷◌, length, Option, Some, None, IfSome, is_some, refl, arith, ap}
 use Rattle.std.proofs.lemmas.Bool.{false≢true}
 use Rattle.mvn_outside.specs.declared.shelf.Published.{Published}
 use Rattle.mvn_outside.specs.declared.shelf.ShelfTold.{ShelfTold}

@@ -1,5 +1,5 @@
 -- A file that is to be read next is there.
-use Rattle.std.proofs.Common.{◌≡◌, ℕ, ◌<◌, ◌⊎◌, inl, inr, Bool, true, false, ◌&&◌, ◌||◌, nat_eq, nat_lt, List, [], ◌∷◌, ◌++◌, length, fold, get_or, set, slice_get, map, Option, Some, None, is_some, unwrap_or, refl, arith, sym, ap, subst, ◌∙◌, if◌then◌else◌}
+use Rattle.std.proofs.Common.{◌≡◌, ℕ, ◌⊎◌, inl, inr, Bool, true, false, ◌&&◌, ◌||◌, nat_eq, nat_lt, List, [], ◌∷◌, ◌++◌, length, fold, get_or, set, slice_get, Option, Some, None, is_some, unwrap_or, refl, arith, sym, ap, subst, ◌∙◌, if◌then◌else◌}
 use Rattle.std.specs.List.{list_all}
 use Rattle.std.specs.Option.{option_map_or}
 use Rattle.std.proofs.lemmas.Bool.{eqb-true, false≢true}
@@ -18,14 +18,14 @@ use Rattle.event_core.specs.declared.deed.Deed.TheVariants as deed
 use Rattle.event_core.specs.declared.outline.ModuleOutline.{ModuleOutline}
 use Rattle.event_core.specs.declared.outline.Outline.{Outline}
 use Rattle.event_core.specs.Climbing.{but}
-use Rattle.event_core.specs.Enabled.{Enabled, IsEnabled, IsRun, is_due}
+use Rattle.event_core.specs.Enabled.{Enabled, IsRun, is_due}
 use Rattle.event_core.specs.Outlines.{files_of, files_read, is_listed, module_outline, once_more, outline_of}
 use Rattle.event_core.specs.Scripts.{Script, Step, absent, answers, choice_script, done, fetches, frees, install_script, is_there, is_wanted, lock_script, may_publish, own_script, publishes, read_script, reads, release_script, script_of, settled, stage_of, step, steps, takes, whole, is_gathered, wanted}
 use Rattle.event_core.specs.SoundPlans.{IsSoundPlan, is_backed}
-use Rattle.event_core.specs.Standing.{Course, Standing, after, after_deed, after_free, at_first, course_of, goals_of, held_by, idle, is_empty, module_of, off_course, on_course, standing_of, start_of}
+use Rattle.event_core.specs.Standing.{Course, Standing, after, after_deed, after_free, course_of, goals_of, held_by, idle, is_empty, module_of, off_course, on_course, standing_of, start_of}
 use Rattle.event_core.proofs.Ties.{any_idle}
 use Rattle.event_core.proofs.Weights.{nothing_is}
-use Rattle.run_law.proofs.Basics.{and_is, and_is3, both3, chosen}
+use Rattle.run_law.proofs.Basics.{and_is, both3, chosen}
 use Rattle.run_law.proofs.Complete.{by_events, standing}
 use Rattle.run_law.proofs.Courses.{at_place, courses_after, courses_first}
 use Rattle.run_law.proofs.Gathering.{all_here, gathering_after, gathering_first, late_none}

@@ -1,5 +1,6 @@
 mod AnswerMore
 mod Boards
+mod Busy
 mod Carries
 mod DueReads
 mod Logs

@@ -20,7 +20,7 @@ use Rattle.build_core.specs.declared.event.Event.TheVariants as event
 use Rattle.build_core.specs.declared.plan.Plan.{Plan}
 use Rattle.event_core.specs.Enabled.{Enabled, is_due}
 use Rattle.event_core.specs.Runs.{answers_in}
-use Rattle.event_core.specs.Standing.{course_of, standing_of}
+use Rattle.event_core.specs.Standing.{course_of, module_of, standing_of}
 use Rattle.event_core.specs.declared.deed.Deed.{Deed}
 use Rattle.event_core.specs.declared.deed.Deed.TheVariants as deed
 use Rattle.event_core.specs.declared.entry.Carried.{Carried}
@@ -28,11 +28,13 @@ use Rattle.event_core.specs.declared.entry.Carried.TheVariants as carried
 use Rattle.event_core.specs.declared.entry.RunEntry.{RunEntry}
 use Rattle.event_core.specs.declared.outline.Outline.{Outline}
 use Rattle.event_core.proofs.Ties.{any_idle}
+use Rattle.run_law.proofs.Complete.{at_work}
 use Rattle.run_law.proofs.Kept.{answers_more}
-use Rattle.board.specs.Builds.{AreCaused, Build, Publishes, has_failed}
+use Rattle.board.specs.Builds.{AreBusy, AreCaused, Build, IsCalm, Publishes, has_failed}
 use Rattle.board.specs.Keeping.{IsBoard, Room, log_by, publish_count}
 use Rattle.board.specs.Logs.{log_of, marked, published_since, publishes_in, shelf_endings, told_after}
-use Rattle.board.proofs.Boards.{caused_less, event_board, log_more, marked_set, not_empty, rose_less, rose_more}
+use Rattle.board.proofs.Boards.{calm_more, caused_less, event_board, log_more, marked_set, not_empty, rose_less, rose_more}
+use Rattle.board.proofs.Busy.{busy_marked, busy_more, some_marked}
 use Rattle.board.proofs.Logs.{answers_append, endings_one, entry, publish_more, publishes_append, publishes_one, untold_more}
 
 -- ---- lists
@@ -54,8 +56,8 @@ module _ {S : Type 0} (told : S → Option ShelfTold) (faults : S → ℕ) (plan
 
   -- the repository was asked, and tells the same
   pub asked_board : (later : S) (then_marks : List Bool) → told later ≡ told shelf → (core.1 ≡ [] → ⊥) → length then_marks ≡ length marks → AreCaused (told opening) (faults opening) (faults later) (log_by (told opening) (told shelf) answers core.1) then_marks
-      → IsBoard told faults plan core opening later answers then_marks room
-  asked_board later then_marks same begun long caused = record {
+      → IsCalm (faults opening) (faults later) (log_by (told opening) (told shelf) answers core.1) then_marks → AreBusy (standing_of core.0 core.1) then_marks → IsBoard told faults plan core opening later answers then_marks room
+  asked_board later then_marks same begun long caused calm busy = record {
     outline = board.outline;
     sound = board.sound;
     short = board.short;
@@ -70,6 +72,8 @@ module _ {S : Type 0} (told : S → Option ShelfTold) (faults : S → ℕ) (plan
     states = board.states;
     present = board.present;
     caused = subst (λ t. AreCaused (told opening) (faults opening) (faults later) (log_by (told opening) t answers core.1) then_marks) (sym same) caused;
+    calm = subst (λ t. IsCalm (faults opening) (faults later) (log_by (told opening) t answers core.1) then_marks) (sym same) calm;
+    busy = busy;
     untouched = λ none. absurd (begun none);
   }
 
@@ -158,6 +162,10 @@ module _ {S : Type 0} (told : S → Option ShelfTold) (faults : S → ℕ) (plan
       caused = subst (λ l. AreCaused (told opening) (faults opening) (faults later) l marks) (sym grown.log_is)
           (subst (λ n. AreCaused (told opening) (faults opening) n (log ++ entry (event.Publish w f) grown.what ∷ []) marks) (sym still)
           (caused_less (told opening) (faults opening) (faults shelf) log (log ++ entry (event.Publish w f) grown.what ∷ []) marks marks (omega (arith, endings_one log (event.Publish w f) grown.what)) board.caused));
+      calm = subst (λ l. IsCalm (faults opening) (faults later) l marks) (sym grown.log_is)
+          (subst (λ n. IsCalm (faults opening) n (log ++ entry (event.Publish w f) grown.what ∷ []) marks) (sym still)
+          (calm_more (faults opening) (faults shelf) log (entry (event.Publish w f) grown.what) marks marks (λ quiet none. none) board.calm));
+      busy = busy_more core.0 core.1 (event.Publish w f) marks refl board.busy;
       untouched = λ none. absurd (not_empty core.1 (event.Publish w f) none);
     }
 
@@ -165,6 +173,23 @@ module _ {S : Type 0} (told : S → Option ShelfTold) (faults : S → ℕ) (plan
 
 pub begun_by : (o : Outline) (events : List Event) (w : ℕ) (d : Deed) → is_due (course_of (standing_of o events) w) d ≡ true → events ≡ [] → ⊥
 begun_by o events w d due none = false≢true (sym (ap (λ c. is_due c d) (any_idle o.workers w)) ∙ subst (λ es. is_due (course_of (standing_of o es) w) d ≡ true) none due)
+
+-- a worker that asks the repository: something has happened, it is one of the workers, and it builds a module
+pub record IsAsking (o : Outline) (events : List Event) (w : ℕ) : Type 0 where
+  pub begun : events ≡ [] → ⊥
+  pub low : w < o.workers
+  pub busy : is_some (module_of (course_of (standing_of o events) w)) ≡ true
+
+asking : (o : Outline) (events : List Event) (w : ℕ) (d : Deed) → w < o.workers → is_due (course_of (standing_of o events) w) d ≡ true → IsAsking o events w
+asking o events w d low due = record {
+  begun = begun_by o events w d due;
+  low = low;
+  busy = by (module_of (course_of (standing_of o events) w)) refl;
+}
+  where
+    by : (found : Option ℕ) → module_of (course_of (standing_of o events) w) ≡ found → is_some (module_of (course_of (standing_of o events) w)) ≡ true
+    by None e = absurd (at_work (course_of (standing_of o events) w) d due e)
+    by (Some m) e = ap is_some e
 
 -- the cause of a fault, and of want of memory
 pub risen_by : (before now : ℕ) (d : DeviceFault) → d ≡ device.Failed → HasCause before now (device_failed {T = Unit {0}} (Err d)) → HasRisen before now
@@ -187,13 +212,13 @@ still_read told before now d e quiet is (inl cause) = by e quiet (subst (λ x. H
     by fault.TooLarge quiet cause = cause
     by fault.Memory quiet cause = cause
 
-pub begun_publish : (o : Outline) (events : List Event) (w f : ℕ) → Enabled o events (event.Publish w f) → events ≡ [] → ⊥
+pub begun_publish : (o : Outline) (events : List Event) (w f : ℕ) → Enabled o events (event.Publish w f) → IsAsking o events w
 unfolding Enabled
-begun_publish o events w f is none = begun_by o events w (deed.Publish f) is.2 none
+begun_publish o events w f is = asking o events w (deed.Publish f) is.0 is.2
 
-pub begun_read : (o : Outline) (events : List Event) (w f : ℕ) → Enabled o events (event.Read w f) → events ≡ [] → ⊥
+pub begun_read : (o : Outline) (events : List Event) (w f : ℕ) → Enabled o events (event.Read w f) → IsAsking o events w
 unfolding Enabled
-begun_read o events w f is none = begun_by o events w (deed.Read f) is.2 none
+begun_read o events w f is = asking o events w (deed.Read f) is.0 is.2
 
 pub read_low : (o : Outline) (events : List Event) (w f : ℕ) → Enabled o events (event.Read w f) → f < length o.present
 unfolding Enabled
@@ -205,16 +230,25 @@ publish_low o events w f is = is.1
 
 module _ {S : Type 0} (told : S → Option ShelfTold) (faults : S → ℕ) (plan : Plan) (core : Outline × List Event) (opening shelf : S) (answers : List Answered) (marks : List Bool) (room : Room)
     (board : IsBoard told faults plan core opening shelf answers marks room) (later : S) where
+  -- where a worker is marked nothing is said of the count
+  marked_calm : (w : ℕ) → IsAsking core.0 core.1 w → IsCalm (faults opening) (faults later) (log_by (told opening) (told shelf) answers core.1) (set marks w true)
+  marked_calm w at = λ quiet none. absurd (some_marked marks w low none)
+    where
+      low : w < length marks
+      low = let same = ap (λ o. o.workers) board.outline in omega (arith, at.low, same, board.workers)
+
   -- the repository failed, and the worker is marked
-  pub failed_board : {then_marks : List Bool} (w : ℕ) → told later ≡ told shelf → (core.1 ≡ [] → ⊥) → then_marks ≡ set marks w true → HasRisen (faults shelf) (faults later) → IsBoard told faults plan core opening later answers then_marks room
-  failed_board {then_marks} w same begun set_so risen = subst (λ ms. IsBoard told faults plan core opening later answers ms room) (sym set_so)
-      (asked_board told faults plan core opening shelf answers marks room board later (set marks w true) same begun (length-set marks w true)
-      (caused_more (told opening) (faults opening) (faults shelf) (faults later) w (log_by (told opening) (told shelf) answers core.1) marks board.caused risen))
+  pub failed_board : {then_marks : List Bool} (w : ℕ) → told later ≡ told shelf → IsAsking core.0 core.1 w → then_marks ≡ set marks w true → HasRisen (faults shelf) (faults later) → IsBoard told faults plan core opening later answers then_marks room
+  failed_board {then_marks} w same at set_so risen = subst (λ ms. IsBoard told faults plan core opening later answers ms room) (sym set_so)
+      (asked_board told faults plan core opening shelf answers marks room board later (set marks w true) same at.begun (length-set marks w true)
+      (caused_more (told opening) (faults opening) (faults shelf) (faults later) w (log_by (told opening) (told shelf) answers core.1) marks board.caused risen)
+      (marked_calm w at) (busy_marked (standing_of core.0 core.1) w marks at.busy board.busy))
 
   -- it answered, and nothing has changed
-  pub same_board : told later ≡ told shelf → (core.1 ≡ [] → ⊥) → faults later ≡ faults shelf → IsBoard told faults plan core opening later answers marks room
-  same_board same begun still = asked_board told faults plan core opening shelf answers marks room board later marks same begun refl
+  pub same_board : {w : ℕ} → told later ≡ told shelf → IsAsking core.0 core.1 w → faults later ≡ faults shelf → IsBoard told faults plan core opening later answers marks room
+  same_board same at still = asked_board told faults plan core opening shelf answers marks room board later marks same at.begun refl
       (subst (λ n. AreCaused (told opening) (faults opening) n (log_by (told opening) (told shelf) answers core.1) marks) (sym still) board.caused)
+      (subst (λ n. IsCalm (faults opening) n (log_by (told opening) (told shelf) answers core.1) marks) (sym still) board.calm) board.busy
 
   -- the build after a publish
   pub published_build : (w f : ℕ) (area : Option Contents) (piece : ℕ) (gives : ShelfPublishes (told shelf) (told later) area piece (name_of plan f)) {next_core : Outline × List Event} → next_core ≡ (core.0, core.1 ++ event.Publish w f ∷ [])
@@ -225,9 +259,10 @@ module _ {S : Type 0} (told : S → Option ShelfTold) (faults : S → ℕ) (plan
       (it.what, it.tells, ap (λ l. record { plan = plan; opening = opening; shelf = later; log = l; marks = marks }) (ap (λ t. log_by (told opening) (told later) answers t.1) is ∙ it.log_is))
 
   -- one event more that carries nothing, of a repository that tells the same
-  pub read_board : (w f : ℕ) {next_core : Outline × List Event} → told later ≡ told shelf → faults later ≡ faults shelf → (core.1 ≡ [] → ⊥) → next_core ≡ (core.0, core.1 ++ event.Read w f ∷ []) → IsBoard told faults plan next_core opening later answers marks room
-  read_board w f {next_core} same still begun is = subst (λ t. IsBoard told faults plan t opening later answers marks room) (sym is)
-      (event_board told faults plan core opening later answers marks room (same_board same begun still) (event.Read w f) refl marks refl (omega arith))
+  pub read_board : (w f : ℕ) {next_core : Outline × List Event} → told later ≡ told shelf → faults later ≡ faults shelf → IsAsking core.0 core.1 w → next_core ≡ (core.0, core.1 ++ event.Read w f ∷ []) → IsBoard told faults plan next_core opening later answers marks room
+  read_board w f {next_core} same still at is = subst (λ t. IsBoard told faults plan t opening later answers marks room) (sym is)
+      (event_board told faults plan core opening later answers marks room (same_board same at still) (event.Read w f) refl marks refl (omega arith)
+      (λ quiet none. none) (busy_more core.0 core.1 (event.Read w f) marks refl board.busy))
 
   pub read_build : (w f : ℕ) {next_core : Outline × List Event} → told later ≡ told shelf → next_core ≡ (core.0, core.1 ++ event.Read w f ∷ [])
       → ◌≡◌ {A = Build S} (record { plan = plan; opening = opening; shelf = later; log = log_by (told opening) (told later) answers next_core.1; marks = marks }) (record { plan = plan; opening = opening; shelf = later; log = log_by (told opening) (told shelf) answers core.1 ++ entry (event.Read w f) carried.Nothing ∷ []; marks = marks })
@@ -236,16 +271,17 @@ module _ {S : Type 0} (told : S → Option ShelfTold) (faults : S → ℕ) (plan
       (ap (λ t. log_by (told opening) t answers next_core.1) same ∙ ap (λ t. log_by (told opening) (told shelf) answers t.1) is ∙ log_more told faults plan core opening shelf answers marks room board (event.Read w f) refl)
 
   -- absent where nothing is told: nothing has to be caused
-  pub absent_board : {then_marks : List Bool} (w : ℕ) → told later ≡ told shelf → told shelf ≡ None → (core.1 ≡ [] → ⊥) → then_marks ≡ set marks w true → IsBoard told faults plan core opening later answers then_marks room
-  absent_board {then_marks} w same none begun set_so = subst (λ ms. IsBoard told faults plan core opening later answers ms room) (sym set_so)
-      (asked_board told faults plan core opening shelf answers marks room board later (set marks w true) same begun (length-set marks w true)
-      (subst (λ t. AreCaused t (faults opening) (faults later) (log_by (told opening) (told shelf) answers core.1) (set marks w true)) (sym (tells_at_first told faults plan core opening shelf answers marks room board none)) tt))
+  pub absent_board : {then_marks : List Bool} (w : ℕ) → told later ≡ told shelf → told shelf ≡ None → IsAsking core.0 core.1 w → then_marks ≡ set marks w true → IsBoard told faults plan core opening later answers then_marks room
+  absent_board {then_marks} w same none at set_so = subst (λ ms. IsBoard told faults plan core opening later answers ms room) (sym set_so)
+      (asked_board told faults plan core opening shelf answers marks room board later (set marks w true) same at.begun (length-set marks w true)
+      (subst (λ t. AreCaused t (faults opening) (faults later) (log_by (told opening) (told shelf) answers core.1) (set marks w true)) (sym (tells_at_first told faults plan core opening shelf answers marks room board none)) tt)
+      (marked_calm w at) (busy_marked (standing_of core.0 core.1) w marks at.busy board.busy))
 
   -- a read that failed, or found nothing where nothing is told
-  pub failed_read : {then_marks : List Bool} (w : ℕ) (d : ReadFault) → told later ≡ told shelf → (core.1 ≡ [] → ⊥) → then_marks ≡ set marks w true → d ≡ fault.Failed
+  pub failed_read : {then_marks : List Bool} (w : ℕ) (d : ReadFault) → told later ≡ told shelf → IsAsking core.0 core.1 w → then_marks ≡ set marks w true → d ≡ fault.Failed
       → HasCause (faults shelf) (faults later) (read_failed {T = List ℕ} (Err d)) ⊎ ((told shelf ≡ None) × (faults later ≡ faults shelf)) → IsBoard told faults plan core opening later answers then_marks room
-  failed_read {then_marks} w d same begun set_so is (inl cause) = failed_board w same begun set_so (subst (λ x. HasCause (faults shelf) (faults later) (read_failed {T = List ℕ} (Err x))) is cause)
-  failed_read {then_marks} w d same begun set_so is (inr none) = absent_board w same none.0 begun set_so
+  failed_read {then_marks} w d same at set_so is (inl cause) = failed_board w same at set_so (subst (λ x. HasCause (faults shelf) (faults later) (read_failed {T = List ℕ} (Err x))) is cause)
+  failed_read {then_marks} w d same at set_so is (inr none) = absent_board w same none.0 at set_so
 
 -- a file that is told to be there isn't absent
 pub untold_where_absent : (t : Option ShelfTold) (name : List ℕ) → IfSome t (λ told. is_some (file_at (files_now told) name) ≡ true) → IfSome t (λ told. None ≡ file_at (files_now told) name) → t ≡ None

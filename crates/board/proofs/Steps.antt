@@ -20,7 +20,7 @@ use Rattle.event_core.specs.Going.{AreOn, GoesOn, IsDue, NamesAscend, NeverWaits
 use Rattle.event_core.specs.Outlines.{outline_of}
 use Rattle.event_core.specs.Sound.{IsSound}
 use Rattle.event_core.specs.SoundPlans.{IsSoundPlan}
-use Rattle.event_core.specs.Runs.{events_of}
+use Rattle.event_core.specs.Runs.{events_of, is_quiet_event}
 use Rattle.event_core.specs.Standing.{Course, Standing, course_of, first_lost, first_not_built, held_by, idle, is_complete, is_ready, is_skippable, is_waiting, module_of, off_course, on_course, progress_of, standing_of}
 use Rattle.event_core.specs.declared.deed.Deed.TheVariants as deed
 use Rattle.event_core.specs.declared.outline.Outline.{Outline}
@@ -36,10 +36,22 @@ use Rattle.run_law.proofs.Complete.{at_work}
 use Rattle.board.specs.Builds.{AreCaused, Build, MayCome, next_in, next_of, standing_at, with_event, with_mark}
 use Rattle.board.specs.declared.next.Next.{Next}
 use Rattle.board.specs.declared.next.Next.TheVariants as next
-use Rattle.board.specs.Keeping.{IsBoard, Room, is_plain, log_by}
+use Rattle.board.specs.Keeping.{IsBoard, Room, is_ending, is_plain, log_by}
 use Rattle.board.specs.Logs.{is_shelf_end, marked, published_since, told_after}
-use Rattle.board.proofs.Boards.{event_board, log_more, marked_one, marked_unset}
+use Rattle.board.proofs.Boards.{event_board, log_more, marked_one, marked_same, marked_unset}
+use Rattle.board.proofs.Busy.{busy_closed, busy_more, none_busy}
 use Rattle.board.proofs.Logs.{events_are, one_of}
+
+-- an event that ends nothing ends nothing by the repository's fault
+not_shelf : (e : Event) → is_ending e ≡ false → is_shelf_end e ≡ false
+not_shelf (event.Start w m) within = refl
+not_shelf (event.Skip m) within = refl
+not_shelf (event.Take w n mode) within = refl
+not_shelf (event.Free w n) within = refl
+not_shelf (event.Read w f) within = refl
+not_shelf (event.Publish w f) within = refl
+not_shelf (event.Answer w g) within = refl
+not_shelf (event.End w x) within = absurd (false≢true (sym within))
 
 -- ---- answers of the core
 
@@ -200,11 +212,12 @@ module _ {S : Type 0} (told : S → Option ShelfTold) (faults : S → ℕ) (plan
   at_core P is = subst (P core.0) events_same (subst (λ o. P o (events_of (log_by (told opening) (told shelf) answers core.1))) (sym board.outline) is)
 
   -- an event that was tried
-  pub tried_board : (e : Event) → is_plain e ≡ true → is_shelf_end e ≡ false → {X : Type 0} (next_core : Outline × List Event) (r : Result X NotEnabled) → OnOk r (Enabled core.0 core.1 e × (next_core ≡ (core.0, core.1 ++ e ∷ [])))
+  pub tried_board : (e : Event) → is_plain e ≡ true → is_ending e ≡ false → {X : Type 0} (next_core : Outline × List Event) (r : Result X NotEnabled) → OnOk r (Enabled core.0 core.1 e × (next_core ≡ (core.0, core.1 ++ e ∷ [])))
       → IfErr r (λ why. (cause_now core.0 (standing_of core.0 core.1) e ≡ Some why) × (next_core ≡ core)) → IsBoard told faults plan next_core opening shelf answers marks room
-  tried_board e plain quiet next_core (Ok x) ok err = subst (λ t. IsBoard told faults plan t opening shelf answers marks room) (sym ok.1)
-      (event_board told faults plan core opening shelf answers marks room board e plain marks refl (subst (λ b. one_of b + marked marks ≤ marked marks) (sym quiet) (omega arith)))
-  tried_board e plain quiet next_core (Err why) ok err = subst (λ t. IsBoard told faults plan t opening shelf answers marks room) (sym err.1) board
+  tried_board e plain within next_core (Ok x) ok err = subst (λ t. IsBoard told faults plan t opening shelf answers marks room) (sym ok.1)
+      (event_board told faults plan core opening shelf answers marks room board e plain marks refl (subst (λ b. one_of b + marked marks ≤ marked marks) (sym (not_shelf e within)) (omega arith))
+      (λ quiet none. none) (busy_more core.0 core.1 e marks within board.busy))
+  tried_board e plain within next_core (Err why) ok err = subst (λ t. IsBoard told faults plan t opening shelf answers marks room) (sym err.1) board
 
   pub with_is : (e : Event) → is_plain e ≡ true → (next_core : Outline × List Event) (m : List Bool) → next_core ≡ (core.0, core.1 ++ e ∷ []) → build next_core m ≡ record (with_event (build core marks) e) { marks = m }
   with_is e plain next_core m is = ap (λ t. build t m) is ∙ ap (λ l. record (build core m) { log = l }) (log_more told faults plan core opening shelf answers marks room board e plain)
@@ -247,12 +260,21 @@ module _ {S : Type 0} (told : S → Option ShelfTold) (faults : S → ℕ) (plan
   fewer true is = omega (arith, marked_one marks w (is refl))
   fewer false is = omega (arith, marked_unset marks w)
 
+  -- where the ending is quiet no mark is taken away
+  left : (get_or marks w false ≡ true → is_quiet_event (event.End w x) ≡ false) → is_quiet_event (event.End w x) ≡ true → marked (set marks w false) ≡ 0 → marked marks ≡ 0
+  left honest quiet none = by (get_or marks w false) refl
+    where
+      by : (b : Bool) → get_or marks w false ≡ b → marked marks ≡ 0
+      by true e = absurd (false≢true (sym (honest e) ∙ quiet))
+      by false e = sym (marked_same marks w e) ∙ none
+
   pub ended_board : {next_core : Outline × List Event} {then_marks : List Bool} → next_core ≡ (core.0, core.1 ++ event.End w x ∷ []) → then_marks ≡ set marks w false → (is_shelf_end (event.End w x) ≡ true → get_or marks w false ≡ true)
-      → IsBoard told faults plan next_core opening shelf answers then_marks room
-  ended_board {next_core} {then_marks} is same marked_is =
+      → (get_or marks w false ≡ true → is_quiet_event (event.End w x) ≡ false) → IsBoard told faults plan next_core opening shelf answers then_marks room
+  ended_board {next_core} {then_marks} is same marked_is honest =
       subst (λ t. IsBoard told faults plan t opening shelf answers then_marks room) (sym is)
       (subst (λ ms. IsBoard told faults plan (core.0, core.1 ++ event.End w x ∷ []) opening shelf answers ms room) (sym same)
-      (event_board told faults plan core opening shelf answers marks room board (event.End w x) refl (set marks w false) (length-set marks w false) (fewer (is_shelf_end (event.End w x)) marked_is)))
+      (event_board told faults plan core opening shelf answers marks room board (event.End w x) refl (set marks w false) (length-set marks w false) (fewer (is_shelf_end (event.End w x)) marked_is)
+      (left honest) (busy_closed core.0 core.1 w x marks board.busy)))
 
   pub ended_build : {next_core : Outline × List Event} {then_marks : List Bool} → next_core ≡ (core.0, core.1 ++ event.End w x ∷ []) → then_marks ≡ set marks w false
       → build told faults plan core opening shelf answers marks room board next_core then_marks ≡ with_mark (with_event (build told faults plan core opening shelf answers marks room board core marks) (event.End w x)) w false
@@ -288,6 +310,8 @@ new_board told faults plan {core} {opening} {shelf} {answers} {marks} room core_
       states = states;
       present = present;
       caused = nothing_caused (told shelf) (faults shelf) plan.workers;
+      calm = λ quiet none. refl;
+      busy = none_busy (standing_of (outline_of plan) []) plan.workers;
       untouched = λ none. refl;
     }
 

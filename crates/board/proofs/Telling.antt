@@ -1,5 +1,5 @@
 -- What a board keeps of the repository's files.
-use Rattle.std.proofs.Common.{◌≡◌, ℕ, ◌<◌, Bool, true, false, List, [], ◌++◌, length, Option, Some, None, IfSome, is_some, refl, arith, sym, ap, subst, ◌∙◌}
+use Rattle.std.proofs.Common.{◌≡◌, ℕ, ◌<◌, Bool, true, List, [], length, Option, Some, None, IfSome, is_some, refl, arith, sym, ap, subst, ◌∙◌}
 use Rattle.mvn_shared.specs.Files.{file_at}
 use Rattle.mvn_outside.specs.Shelf.{files_now}
 use Rattle.mvn_outside.specs.declared.shelf.ShelfTold.{ShelfTold}
@@ -9,14 +9,13 @@ use Rattle.build_core.specs.declared.event.Event.{Event}
 use Rattle.build_core.specs.declared.event.Event.TheVariants as event
 use Rattle.build_core.specs.declared.plan.Plan.{Plan}
 use Rattle.event_core.specs.Enabled.{Enabled, IsRun}
-use Rattle.event_core.specs.Outlines.{outline_of}
 use Rattle.event_core.specs.Runs.{IsRunOf, contents, events_of, standing_of_run}
 use Rattle.event_core.specs.Scripts.{is_there}
 use Rattle.event_core.specs.declared.entry.RunEntry.{RunEntry}
 use Rattle.event_core.specs.declared.outline.Outline.{Outline}
 use Rattle.run_law.specs.Given.{IsPresent}
 use Rattle.board.specs.Keeping.{IsBoard, Room, log_by}
-use Rattle.board.specs.Logs.{AreCarried, published_since, publishes_in, told_after}
+use Rattle.board.specs.Logs.{AreCarried, published_since, told_after}
 use Rattle.board.proofs.Carries.{carries, since_told}
 use Rattle.board.proofs.DueReads.{read_there}
 use Rattle.board.proofs.Shelves.{read_low}

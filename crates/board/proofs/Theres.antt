@@ -1,5 +1,5 @@
 -- Which files are there is what the repository tells.
-use Rattle.std.proofs.Common.{◌≡◌, ℕ, ◌<◌, ◌⊎◌, inl, inr, Bool, true, false, cond, ◌&&◌, List, [], ◌∷◌, ◌++◌, length, fold, set, Option, Some, None, IfSome, is_some, option_map, refl, arith, sym, ap, subst, ◌∙◌}
+use Rattle.std.proofs.Common.{◌≡◌, ℕ, ◌<◌, ◌⊎◌, inl, inr, Bool, true, false, cond, List, [], ◌∷◌, ◌++◌, length, fold, set, Option, Some, None, is_some, option_map, refl, arith, sym, ap, subst, ◌∙◌}
 use Rattle.std.specs.List.{list_all}
 use Rattle.std.specs.FinMap as finite
 use Rattle.std.specs.Ordering.{eq_by_cmp, nat_cmp}
@@ -20,7 +20,7 @@ use Rattle.event_core.specs.Runs.{IsRunOf, contents, events_of, put_carried, put
 use Rattle.event_core.specs.Scripts.{is_there}
 use Rattle.event_core.specs.SoundPlans.{IsSoundPlan}
 use Rattle.event_core.specs.Standing.{Standing, after, at_first, standing_of}
-use Rattle.event_core.specs.Worlds.{is_published, is_told}
+use Rattle.event_core.specs.Worlds.{is_told}
 use Rattle.event_core.specs.declared.entry.Carried.{Carried}
 use Rattle.event_core.specs.declared.entry.Carried.TheVariants as carried
 use Rattle.event_core.specs.declared.entry.RunEntry.{RunEntry}
@@ -29,10 +29,9 @@ use Rattle.event_core.proofs.Fits.{fold_more, one_more, same_or_not}
 use Rattle.run_law.specs.Given.{IsPresent}
 use Rattle.run_law.proofs.Carried.{at_insert, name_itself}
 use Rattle.run_law.proofs.Complete.{events_more}
-use Rattle.run_law.proofs.Invariants.{FilesDiffer}
 use Rattle.run_law.proofs.Once.{both}
 use Rattle.run_law.proofs.Sounds.{sound_fit}
-use Rattle.board.specs.Logs.{AreCarried, published_as, publishes_in, told_after}
+use Rattle.board.specs.Logs.{AreCarried, published_as, publishes_in}
 use Rattle.board.proofs.DueReads.{sized_after}
 
 -- ---- the log's publishes are what it puts

@@ -23,9 +23,9 @@ use Rattle.build_core.specs.Slots.{GoalsEnd, slot_bytes}
 use Rattle.event_core.specs.Enabled.{Enabled}
 use Rattle.event_core.specs.Going.{AreOn, GoesOn}
 use Rattle.event_core.specs.Outlines.{outline_of}
-use Rattle.event_core.specs.Runs.{answers_in, events_of, goals_in, module_by, standing_of_run}
+use Rattle.event_core.specs.Runs.{IsQuiet, answers_in, events_of, goals_in, module_by, standing_of_run}
 use Rattle.event_core.specs.Scripts.{is_there}
-use Rattle.event_core.specs.Standing.{Standing, is_complete, is_ready, is_skippable}
+use Rattle.event_core.specs.Standing.{Standing, course_of, is_complete, is_ready, is_skippable, module_of}
 use Rattle.event_core.specs.declared.entry.Carried.{Carried}
 use Rattle.event_core.specs.declared.entry.Carried.TheVariants as carried
 use Rattle.event_core.specs.declared.entry.RunEntry.{RunEntry}
@@ -179,3 +179,11 @@ has_failed read.Memory = false
 -- where the repository told its files at first, its faults are at least as many as the modules that ended by them and the workers that are marked
 abbrev pub AreCaused : Option ShelfTold → (before now : ℕ) → List RunEntry → List Bool → Type 0
 AreCaused told before now log marks = IfSome told (λ t. RoseBy (shelf_endings log + marked marks) before now)
+
+-- as long as no module ended by a fault or for want of memory, and no worker is marked, the repository's count stands as at first
+abbrev pub IsCalm : (before now : ℕ) → List RunEntry → List Bool → Type 0
+IsCalm before now log marks = IsQuiet log → marked marks ≡ 0 → now ≡ before
+
+-- each worker that is marked builds a module
+abbrev pub AreBusy : Standing → List Bool → Type 0
+AreBusy now marks = (w : ℕ) → slice_index_or marks w false ≡ true → is_some (module_of (course_of now w)) ≡ true

@@ -8,12 +8,13 @@ use Rattle.build_core.specs.declared.plan.Plan.{Plan}
 use Rattle.event_core.specs.Outlines.{outline_of}
 use Rattle.event_core.specs.Runs.{answers_in}
 use Rattle.event_core.specs.SoundPlans.{IsSoundPlan}
+use Rattle.event_core.specs.Standing.{standing_of}
 use Rattle.event_core.specs.declared.entry.RunEntry.{RunEntry}
 use Rattle.event_core.specs.declared.outline.Outline.{Outline}
 use Rattle.goal_answers.specs.Tables.{KeptAnswers, goal_counts}
 use Rattle.mvn_outside.specs.Shelf.{files_now}
 use Rattle.run_law.specs.Given.{IsPresent}
-use Rattle.board.specs.Builds.{AreCaused}
+use Rattle.board.specs.Builds.{AreBusy, AreCaused, IsCalm}
 use Rattle.board.specs.Logs.{log_of, published_since, told_after}
 
 -- how many events are publishes, and how many answers
@@ -33,6 +34,11 @@ is_plain (event.Publish w file) = false
 is_plain (event.Answer w goal) = false
 is_plain e = true
 
+-- an event that ends a module
+abbrev pub is_ending : Event → Bool
+is_ending (event.End w ending) = true
+is_ending e = false
+
 -- the log, by what the repository told and tells
 abbrev pub log_by : (opening now : Option ShelfTold) → List Answered → List Event → List RunEntry
 log_by opening now answers events = log_of (published_since opening now) answers events
@@ -46,7 +52,7 @@ pub record Room : Type 0 where
 abbrev pub room_of : KeptAnswers → (states : ℕ) → Room
 room_of answers states = record { answers = answers.room; goals = answers.goals; states = states }
 
--- a board's parts belong together: its events are the core's, each publish and each answer of them is told, faults are counted, `present` says
+-- a board's parts belong together: its events are the core's, each publish and each answer of them is told, faults are counted, who is marked builds a module, `present` says
 -- which files there were at the start, and there is room for more answers and for all states; `told` and `faults` are what a repository tells, and its count
 pub record IsBoard {S : Type 0} (told : S → Option ShelfTold) (faults : S → ℕ) (plan : Plan) (core : Outline × List Event) (opening shelf : S) (answers : List Answered) (marks : List Bool) (room : Room) : Type 0 where
   pub outline : core.0 ≡ outline_of plan
@@ -63,4 +69,6 @@ pub record IsBoard {S : Type 0} (told : S → Option ShelfTold) (faults : S → 
   pub states : length plan.modules ≤ room.states
   pub present : IfSome (told opening) (λ t. IsPresent plan (files_now t))
   pub caused : AreCaused (told opening) (faults opening) (faults shelf) (log_by (told opening) (told shelf) answers core.1) marks
+  pub calm : IsCalm (faults opening) (faults shelf) (log_by (told opening) (told shelf) answers core.1) marks
+  pub busy : AreBusy (standing_of core.0 core.1) marks
   pub untouched : core.1 ≡ [] → shelf ≡ opening

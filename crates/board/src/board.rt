@@ -7,7 +7,7 @@ ghost use Rattle.event_core.specs.Bounds.{most_events};
 ghost use Rattle.event_core.specs.Causes.{cause_now};
 ghost use Rattle.event_core.specs.Enabled.{Enabled, is_due};
 ghost use Rattle.event_core.specs.Outlines.{outline_of};
-ghost use Rattle.event_core.specs.Runs.{IsRunOf, answers_in, contents, events_of};
+ghost use Rattle.event_core.specs.Runs.{IsQuiet, IsRunOf, answers_in, contents, events_of, is_quiet_event};
 ghost use Rattle.event_core.specs.Scripts.{is_there};
 ghost use Rattle.event_core.specs.SoundPlans.{IsSoundPlan};
 ghost use Rattle.event_core.specs.Standing.{course_of, is_complete, standing_of};
@@ -15,8 +15,8 @@ ghost use Rattle.event_core.specs.declared.deed.Deed.TheVariants.{Take};
 ghost use Rattle.event_core.specs.declared.refused.NotEnabled.TheVariants.{Lock};
 ghost use Rattle.goal_answers.specs.Tables.{goal_counts};
 ghost use Rattle.run_law.specs.Given.{IsPresent, states_after};
-ghost use Rattle.board.specs.Builds.{AnotherGoesOn, AreCaused, HasFiles, MayCome, NoneLeft, after_next, after_try, is_marked, module_at, next_at, next_in, opened, standing_at, tried_at, with_event, with_mark};
-ghost use Rattle.board.specs.Keeping.{is_plain};
+ghost use Rattle.board.specs.Builds.{AnotherGoesOn, AreBusy, AreCaused, HasFiles, IsCalm, MayCome, NoneLeft, after_next, after_try, is_marked, module_at, next_at, next_in, opened, standing_at, tried_at, with_event, with_mark};
+ghost use Rattle.board.specs.Keeping.{is_ending, is_plain};
 ghost use Rattle.board.specs.Logs.{AreCarried, is_shelf_end, told_after};
 ghost use Rattle.board.specs.declared.board.BoardError.TheVariants.{Memory};
 ghost use Rattle.board.specs.declared.next.Next.TheVariants as next;
@@ -177,7 +177,7 @@ impl<'a, S: Shelf> Board<'a, S> {
     // An event that carries nothing, where it may come; else the first cause for which it may not, and nothing is changed.
     fn try_event(&mut self, event: Event) -> Result<(), NotEnabled>
         requires plain { is_plain event ≡ true }
-        requires quiet { is_shelf_end event ≡ false }
+        requires within { is_ending event ≡ false }
         ensures ok { OnOk result (MayCome self.old event × (self.new ≡ with_event self.old event)) }
         ensures err { IfErr result (λ why.
             (cause_now (outline_of self.old.plan) (standing_at self.old) event ≡ Some why)
@@ -189,7 +189,7 @@ impl<'a, S: Shelf> Board<'a, S> {
     // An event that carries nothing and may come.
     fn go(&mut self, event: Event)
         requires plain { is_plain event ≡ true }
-        requires quiet { is_shelf_end event ≡ false }
+        requires within { is_ending event ≡ false }
         requires may { MayCome self.old event }
         ensures { self.new ≡ with_event self.old event }
     {
@@ -245,12 +245,15 @@ impl<'a, S: Shelf> Board<'a, S> {
         self.go(Event::Free { worker, name });
     }
 
-    /// Ends the worker's module: one event. It may end by a fault of the repository only where the worker is marked; it is marked no
-    /// more. Takes no memory; costs a look at each module that it is an upstream of. Project rule.
+    /// Ends the worker's module: one event. It may end by a fault of the repository only where the worker is marked, and where it is
+    /// marked only by a fault or for want of memory; it is marked no more. Takes no memory; costs a look at each module that it is an
+    /// upstream of. Project rule.
     pub fn end(&mut self, worker: u32, ending: Ending)
         requires may { MayCome self.old (event.End worker ending) }
         requires marked { is_shelf_end (event.End worker ending) ≡ true
             → is_marked self.old worker ≡ true }
+        requires honest { is_marked self.old worker ≡ true
+            → is_quiet_event (event.End worker ending) ≡ false }
         ensures entry { self.new
             ≡ with_mark (with_event self.old (event.End worker ending)) worker false }
     {
@@ -281,14 +284,18 @@ impl<'a, S: Shelf> Board<'a, S> {
         shelf
     }
 
-    /// What the build leaves, where each module has ended or was skipped. Takes no memory; costs a look at each module.
+    /// What the build leaves, where each module has ended or was skipped. If none of them ended by a fault or for want of memory, the
+    /// repository never failed: its count of faults is as at the start. Takes no memory; costs a look at each module. Project rule.
     pub fn finish(self) -> Finished<S>
         requires complete { is_complete (standing_at self) ≡ true }
         ensures shelf { result.shelf ≡ self.entry.shelf }
         ensures trace { result.trace ≡ events_of self.entry.log }
         ensures answers { result.answers ≡ answers_in self.entry.plan self.entry.log }
         ensures states { result.states ≡ states_after self.entry.plan self.entry.log }
+        ensures calm { IsQuiet self.entry.log
+            → S.faults result.shelf ≡ S.faults self.entry.opening }
     {
+        self.core.runs_within_bound();
         let Board {
             plan,
             core,
@@ -308,8 +315,9 @@ impl<'a, S: Shelf> Board<'a, S> {
 
     /// A law: what a board keeps. Its log is a run of its plan, no longer than the plan's events, and each entry carries what it has to;
     /// what the repository tells is what it told at the start with the log's publishes behind; `present` says which of the plan's files
-    /// it had then, and `has` which it has now, as the log puts them; and where it tells, its faults are at least as many as the modules that ended by them and the workers that are
-    /// marked. Does nothing. Project rule.
+    /// it had then, and `has` which it has now, as the log puts them; where it tells, its faults are at least as many as the modules that
+    /// ended by them and the workers that are marked; where no module ended by a fault or for want of memory and none is marked, they are
+    /// as many as at the start; and who is marked builds a module. Does nothing. Project rule.
     pub fn keeps(&self)
         ensures run { IsRunOf self.now.plan self.now.log }
         ensures bound { length self.now.log ≤ self.now.plan.events }
@@ -317,6 +325,9 @@ impl<'a, S: Shelf> Board<'a, S> {
             ≡ told_after self.now.plan self.now.log (S.told self.now.opening) }
         ensures caused { AreCaused (S.told self.now.opening) (S.faults self.now.opening)
             (S.faults self.now.shelf) self.now.log self.now.marks }
+        ensures calm { IsCalm (S.faults self.now.opening) (S.faults self.now.shelf)
+            self.now.log self.now.marks }
+        ensures busy { AreBusy (standing_at self.now) self.now.marks }
         ensures marks { length self.now.marks ≡ self.now.plan.workers }
         ensures sound { IsSoundPlan self.now.plan }
         ensures present { IfSome (S.told self.now.opening)

@@ -7,7 +7,7 @@ use Rattle.event_core.specs.Runs.{answers_in}
 use Rattle.event_core.specs.Standing.{course_of, module_of, standing_of}
 use Rattle.event_core.specs.declared.entry.Carried.TheVariants as carried
 use Rattle.goal_answers.specs.Walks.{goals_of}
-use Rattle.board.specs.Builds.{Build, MayCome, answer_kept, kept_in, module_at, with_entry}
+use Rattle.board.specs.Builds.{MayCome, answer_kept, module_at, with_entry}
 use Rattle.board.specs.Keeping.{log_by, room_of}
 use Rattle.board.specs.declared.next.AnswerKept.TheVariants.{Held}
 use Rattle.board.proofs.AnswerMore.{answer_module, answer_room, answered_board, answered_build}

@@ -1,9 +1,10 @@
 use Rattle.std.proofs.Common.{◌≡◌, ◌≤◌, [], length, IfSome, is_some, ap, arith, subst}
 use Rattle.event_core.specs.Enabled.{IsRun}
+use Rattle.event_core.specs.Standing.{standing_of}
 use Rattle.mvn_outside.specs.Shelf.{files_now}
 use Rattle.event_core.specs.Runs.{IsRunOf, contents}
 use Rattle.run_law.specs.Given.{IsPresent}
-use Rattle.board.specs.Builds.{HasFiles}
+use Rattle.board.specs.Builds.{AreBusy, HasFiles, IsCalm, standing_at}
 use Rattle.board.specs.Logs.{AreCarried, published_since}
 use Rattle.board.specs.Keeping.{room_of}
 use Rattle.board.proofs.Logs.{length_is}
@@ -34,3 +35,10 @@ returns-clause-there g c = subst (λ v. IfSome (g.S.Shelf.told v.shelf) (HasFile
 pub returns-clause-contents : goal.returns-clause-contents
 returns-clause-contents g c = subst (λ v. IfSome (g.S.Shelf.told v.opening) (λ first. IfSome (g.S.Shelf.told v.shelf) (λ told. files_now told ≡ contents v.plan (files_now first) v.log))) c.self.view_is
     (contents_told g.S.Shelf.told g.S.Shelf.faults c.self.inside.plan.now c.self.inside.core c.self.inside.opening.value c.self.inside.shelf c.self.inside.answers.kept c.self.inside.marks.items (room_of c.self.inside.answers c.self.inside.states) c.self.invariant c.runs_within_bound.ensures.run)
+
+pub returns-clause-busy : goal.returns-clause-busy
+returns-clause-busy g c = subst (λ v. AreBusy (standing_at v) v.marks) c.self.view_is
+    (at_build g.S.Shelf.told g.S.Shelf.faults c.self.inside.plan.now c.self.inside.core c.self.inside.opening.value c.self.inside.shelf c.self.inside.answers.kept c.self.inside.marks.items (room_of c.self.inside.answers c.self.inside.states) c.self.invariant (λ o es. AreBusy (standing_of o es) c.self.inside.marks.items) c.self.invariant.busy)
+
+pub returns-clause-calm : goal.returns-clause-calm
+returns-clause-calm g c = subst (λ v. IsCalm (g.S.Shelf.faults v.opening) (g.S.Shelf.faults v.shelf) v.log v.marks) c.self.view_is c.self.invariant.calm

@@ -1,4 +1,4 @@
-use Rattle.std.proofs.Common.{◌≡◌, true, IfSome, is_some, length, refl, ap, arith, subst, sym, ◌∙◌}
+use Rattle.std.proofs.Common.{◌≡◌, true, IfSome, is_some, length, refl, ap, arith, subst, sym}
 use Rattle.mvn_shared.specs.Files.{file_at}
 use Rattle.mvn_outside.specs.Shelf.{files_now}
 use Rattle.build_core.specs.declared.event.Event.TheVariants as event

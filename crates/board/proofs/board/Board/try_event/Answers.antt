@@ -7,7 +7,7 @@ use Rattle.board.proofs.Steps.{build, tried_board, tried_err, tried_ok}
 use Rattle.board.proofs.board.Board.try_event.Goals as goal
 
 pub invariant_of-self : goal.invariant_of-self
-invariant_of-self g c = tried_board g.S.Shelf.told g.S.Shelf.faults c.self.inside.plan.now c.self.inside.core c.self.inside.opening.value c.self.inside.shelf c.self.inside.answers.kept c.self.inside.marks.items (room_of c.self.inside.answers c.self.inside.states) c.self.invariant c.args.event c.requires.plain c.requires.quiet c.step.new.self c.step.result c.step.ensures.ok c.step.ensures.err
+invariant_of-self g c = tried_board g.S.Shelf.told g.S.Shelf.faults c.self.inside.plan.now c.self.inside.core c.self.inside.opening.value c.self.inside.shelf c.self.inside.answers.kept c.self.inside.marks.items (room_of c.self.inside.answers c.self.inside.states) c.self.invariant c.args.event c.requires.plain c.requires.within c.step.new.self c.step.result c.step.ensures.ok c.step.ensures.err
 
 pub returns-clause-ok : goal.returns-clause-ok
 returns-clause-ok g c =

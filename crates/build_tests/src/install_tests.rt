@@ -1,4 +1,4 @@
-// An install of one POM over objects in memory, of which one call may fail (`mvn_top`).
+// Installs of one POM, and of three, over objects in memory, of which one call may fail (`mvn_top`).
 ghost use Rattle.std.specs.Prelude.{◌≡◌, length};
 
 use goal_types::{GoalAnswer, SourceFile};
@@ -14,6 +14,11 @@ use std::test::Fail;
 const POM: &[u8] =
     b"<project><modelVersion>4.0.0</modelVersion><groupId>demo</groupId><artifactId>app</artifactId><version>1.0</version></project>";
 
+// The path of a POM, and its text.
+type Pom = (&'static str, &'static [u8]);
+
+const ONE: &[Pom] = &[("pom.xml", POM)];
+
 // The object of which a call fails, and the number of that call.
 type Fault = (char, u64);
 
@@ -22,6 +27,20 @@ const NO_FAULT: Fault = ('-', 0);
 // A POM whose parent has to be looked up by its coordinates.
 const CHILD: &[u8] =
     b"<project><modelVersion>4.0.0</modelVersion><parent><groupId>g</groupId><artifactId>p</artifactId><version>1</version></parent><artifactId>app</artifactId></project>";
+
+const ALONE: &[Pom] = &[("pom.xml", CHILD)];
+
+const ROOT: &[u8] =
+    b"<project><modelVersion>4.0.0</modelVersion><groupId>demo</groupId><artifactId>root</artifactId><version>1</version><packaging>pom</packaging><modules><module>a</module><module>b</module></modules></project>";
+
+const A: &[u8] =
+    b"<project><modelVersion>4.0.0</modelVersion><parent><groupId>demo</groupId><artifactId>root</artifactId><version>1</version></parent><artifactId>a</artifactId></project>";
+
+// It needs the jar of `a`.
+const B: &[u8] =
+    b"<project><modelVersion>4.0.0</modelVersion><parent><groupId>demo</groupId><artifactId>root</artifactId><version>1</version></parent><artifactId>b</artifactId><dependencies><dependency><groupId>demo</groupId><artifactId>a</artifactId><version>1</version></dependency></dependencies></project>";
+
+const THREE: &[Pom] = &[("pom.xml", ROOT), ("a/pom.xml", A), ("b/pom.xml", B)];
 
 type Worker = Hand<MemRemote<Calls>, MemArea<Calls>, MemGate<Calls>>;
 
@@ -34,13 +53,18 @@ fn failing(alloc: Global, fault: Fault, object: char) -> Mem<List<u64>> {
     Ok(calls)
 }
 
-fn tree(alloc: Global, pom: &[u8], fault: Fault) -> Mem<MemTree<Calls>> {
-    let failing = failing(alloc, fault, 't')?;
-    let path = Text::from_str(alloc, "pom.xml")?;
-    let bytes = Bytes::from_slice(alloc, pom)?;
+fn file(alloc: Global, pom: &Pom) -> Mem<SourceFile> {
+    let path = Text::from_str(alloc, pom.0)?;
+    let bytes = Bytes::from_slice(alloc, pom.1)?;
+    Ok(SourceFile { path, bytes })
+}
+
+fn tree(alloc: Global, poms: &[Pom], fault: Fault) -> Mem<MemTree<Calls>> {
     let mut files = List::new(alloc);
-    files.push(SourceFile { path, bytes })?;
-    MemTree::new(alloc, files, &failing)
+    for pom in poms {
+        files.push(file(alloc, pom)?)?;
+    }
+    MemTree::new(alloc, files, &failing(alloc, fault, 't')?)
 }
 
 // The answer of a letter: `Done` for `d`, an error for `f`, and else a byte of output.
@@ -110,15 +134,15 @@ fn installed(
     })
 }
 
-// The same of this POM and these answers with this fault.
+// The same of these POMs and these answers with this fault.
 fn install(
     alloc: Global,
-    pom: &[u8],
+    poms: &[Pom],
     letters: &str,
     fault: Fault,
     sink: &mut MemSink<Calls>,
 ) -> Mem<Left> {
-    let mut tree = tree(alloc, pom, fault)?;
+    let mut tree = tree(alloc, poms, fault)?;
     let shelf = MemShelf::new(alloc, List::new(alloc), &failing(alloc, fault, 's')?)?;
     let mut workers = [worker(alloc, letters, fault)?];
     installed(alloc, &mut tree, shelf, &mut workers, sink)
@@ -134,7 +158,7 @@ fn check(
     text: &str,
 ) -> Mem<()> {
     let mut sink = MemSink::new(alloc, &failing(alloc, fault, 'o')?)?;
-    let left = install(alloc, POM, letters, fault, &mut sink)?;
+    let left = install(alloc, ONE, letters, fault, &mut sink)?;
     assert_eq!(rt; (left.status, left.names), (wanted.0, wanted.1), "{text}");
     assert!(rt; left.answers == wanted.2 || left.status > 2);
     assert!(rt; sink.bytes() == text.as_bytes());
@@ -198,7 +222,7 @@ fn each_call_that_fails_is_told(rt: HostRuntime) -> Result<(), Fail> {
 // An install of the POM with a parent ends with this status and this text, and leaves the repository as it was.
 fn check_child(rt: &impl Abort, alloc: Global, fault: Fault, status: u8, text: &str) -> Mem<()> {
     let mut sink = MemSink::new(alloc, &failing(alloc, fault, 'o')?)?;
-    let left = install(alloc, CHILD, "", fault, &mut sink)?;
+    let left = install(alloc, ALONE, "", fault, &mut sink)?;
     assert_eq!(rt; (left.status, left.names), (status, 0), "{text}");
     assert!(rt; sink.bytes() == text.as_bytes());
     Ok(())
@@ -212,5 +236,92 @@ fn a_look_up_that_fails_names_the_device(rt: HostRuntime) -> Result<(), Fail> {
     check_child(&rt, rt.alloc(), ('s', 0), 3, "fault shelf\n")?;
     check_child(&rt, rt.alloc(), ('r', 0), 3, "fault remote\n")?;
     check_child(&rt, rt.alloc(), NO_FAULT, 2, NO_PARENT)?;
+    Ok(())
+}
+
+// An install of the three, of which one of these calls of the object fails, ends with this status, so many names and this text.
+fn check_three(
+    rt: &impl Abort,
+    alloc: Global,
+    object: char,
+    calls: (u64, u64),
+    wanted: (u8, u64),
+    text: &str,
+) -> Mem<()> {
+    for call in calls.0..calls.1 {
+        let mut sink = MemSink::new(alloc, &failing(alloc, (object, call), 'o')?)?;
+        let left = install(alloc, THREE, "dcdtdjdcdtdj", (object, call), &mut sink)?;
+        assert_eq!(rt; (left.status, left.names), wanted, "{text}");
+        assert!(rt; sink.bytes() == text.as_bytes());
+    }
+    Ok(())
+}
+
+const ALL: &str =
+    "built demo:root:1\nbuilt demo:a:1\nbuilt demo:b:1\ntotal 3 built 3 failed 0 skipped 0\n";
+
+const GATE_A: &str =
+    "built demo:root:1\nfailed demo:a:1 fault gate\nskipped demo:b:1 after demo:a:1\ntotal 3 built 1 failed 1 skipped 1\n";
+
+const GATE_B: &str =
+    "built demo:root:1\nbuilt demo:a:1\nfailed demo:b:1 fault gate\ntotal 3 built 2 failed 1 skipped 0\n";
+
+// The goals of `a` are the first six.
+#[test]
+fn a_goal_that_fails_of_three_modules(rt: HostRuntime) -> Result<(), Fail> {
+    check_three(&rt, rt.alloc(), '-', (0, 1), (0, 5), ALL)?;
+    check_three(&rt, rt.alloc(), 'g', (0, 6), (3, 1), GATE_A)?;
+    check_three(&rt, rt.alloc(), 'g', (6, 12), (3, 3), GATE_B)?;
+    check_three(&rt, rt.alloc(), 'g', (12, 13), (0, 5), ALL)?;
+    check_three(&rt, rt.alloc(), 't', (0, 5), (3, 0), "fault tree\n")?;
+    check_three(&rt, rt.alloc(), 'o', (0, 1), (3, 5), "")?;
+    Ok(())
+}
+
+const AREA_ROOT: &str =
+    "failed demo:root:1 fault area\nskipped demo:a:1 after demo:root:1\nskipped demo:b:1 after demo:root:1\ntotal 3 built 0 failed 1 skipped 2\n";
+
+const AREA_A: &str =
+    "built demo:root:1\nfailed demo:a:1 fault area\nskipped demo:b:1 after demo:a:1\ntotal 3 built 1 failed 1 skipped 1\n";
+
+const AREA_B: &str =
+    "built demo:root:1\nbuilt demo:a:1\nfailed demo:b:1 fault area\ntotal 3 built 2 failed 1 skipped 0\n";
+
+// The area is swept, and then each of five files is begun, written and sealed.
+#[test]
+fn an_area_that_fails_below_three_modules(rt: HostRuntime) -> Result<(), Fail> {
+    check_three(&rt, rt.alloc(), 'a', (0, 1), (3, 0), "fault area\n")?;
+    check_three(&rt, rt.alloc(), 'a', (1, 4), (3, 0), AREA_ROOT)?;
+    check_three(&rt, rt.alloc(), 'a', (4, 7), (3, 1), AREA_A)?;
+    check_three(&rt, rt.alloc(), 'a', (7, 10), (3, 2), AREA_A)?;
+    check_three(&rt, rt.alloc(), 'a', (10, 13), (3, 3), AREA_B)?;
+    check_three(&rt, rt.alloc(), 'a', (13, 16), (3, 4), AREA_B)?;
+    check_three(&rt, rt.alloc(), 'a', (16, 17), (0, 5), ALL)?;
+    Ok(())
+}
+
+const SHELF_ROOT: &str =
+    "failed demo:root:1 fault shelf\nskipped demo:a:1 after demo:root:1\nskipped demo:b:1 after demo:root:1\ntotal 3 built 0 failed 1 skipped 2\n";
+
+const SHELF_A: &str =
+    "built demo:root:1\nfailed demo:a:1 fault shelf\nskipped demo:b:1 after demo:a:1\ntotal 3 built 1 failed 1 skipped 1\n";
+
+const SHELF_B: &str =
+    "built demo:root:1\nbuilt demo:a:1\nfailed demo:b:1 fault shelf\ntotal 3 built 2 failed 1 skipped 0\n";
+
+const UNSETTLED: &str =
+    "built demo:root:1\nbuilt demo:a:1\nbuilt demo:b:1\ntotal 3 built 3 failed 0 skipped 0\nfault settle\n";
+
+// It is asked for the fourteen files that the modules may have, gets five, and is settled.
+#[test]
+fn a_repository_that_fails_below_three_modules(rt: HostRuntime) -> Result<(), Fail> {
+    check_three(&rt, rt.alloc(), 's', (0, 14), (3, 0), "fault shelf\n")?;
+    check_three(&rt, rt.alloc(), 's', (14, 15), (3, 0), SHELF_ROOT)?;
+    check_three(&rt, rt.alloc(), 's', (15, 16), (3, 1), SHELF_A)?;
+    check_three(&rt, rt.alloc(), 's', (16, 17), (3, 2), SHELF_A)?;
+    check_three(&rt, rt.alloc(), 's', (17, 18), (3, 3), SHELF_B)?;
+    check_three(&rt, rt.alloc(), 's', (18, 19), (3, 4), SHELF_B)?;
+    check_three(&rt, rt.alloc(), 's', (19, 20), (3, 5), UNSETTLED)?;
+    check_three(&rt, rt.alloc(), 's', (20, 21), (0, 5), ALL)?;
     Ok(())
 }

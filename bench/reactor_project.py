@@ -3,9 +3,10 @@
 
     bench/reactor_project.py MODULES LIBRARIES
 
-The root, `gen:root:1.0`, is the parent of the others, `gen:mI:1.0`; with one module it stands alone. Each other module has ten
-dependencies, or fewer where there are fewer: without libraries on the ten modules before it, and else on the five before it and on five
-libraries. A library needs three others of a greater number. Their POMs lie in .m2/repository, with jars of one byte.
+The root, `gen:root:1.0`, is the parent of the others, `gen:mI:1.0`; with one module it stands alone. The others stand in groups of 25, of
+which none needs another, so that what a module needs doesn't grow with the project. Each has ten dependencies, or fewer where there are
+fewer: without libraries on the ten modules before it in its group, and else on the five before it there and on five libraries. A library
+needs three others of a greater number. Their POMs lie in .m2/repository, with jars of one byte.
 """
 import os
 import random
@@ -34,7 +35,8 @@ def main(modules, libraries):
     properties = "<properties>" + "".join(f"<p{i}>{i}</p{i}>" for i in range(50)) + "</properties>"
     write("pom.xml", PROJECT.format(gav("gen", "root") + "<packaging>pom</packaging>" + (f"<modules>{listed}</modules>" if listed else "") + properties))
     for i in range(1, modules):
-        own = [("gen", f"m{j}") for j in range(max(1, i - (5 if libraries else 10)), i)]
+        first = i - (i - 1) % 25
+        own = [("gen", f"m{j}") for j in range(max(first, i - (5 if libraries else 10)), i)]
         outer = [("ext", f"lib{k}") for k in sorted(rng.sample(range(libraries), 5))] if libraries else []
         write(f"m{i}/pom.xml", PROJECT.format(f"<parent>{gav('gen', 'root')}</parent><artifactId>m{i}</artifactId>" + needs(own + outer)))
         write(f"m{i}/src/main/java/A.java", f"class A{i} {{}}\n")

@@ -273,7 +273,8 @@ fn a_goal_that_fails_of_three_modules(rt: HostRuntime) -> Result<(), Fail> {
     check_three(&rt, rt.alloc(), 'g', (0, 6), (3, 1), GATE_A)?;
     check_three(&rt, rt.alloc(), 'g', (6, 12), (3, 3), GATE_B)?;
     check_three(&rt, rt.alloc(), 'g', (12, 13), (0, 5), ALL)?;
-    check_three(&rt, rt.alloc(), 't', (0, 5), (3, 0), "fault tree\n")?;
+    check_three(&rt, rt.alloc(), 't', (0, 19), (3, 0), "fault tree\n")?;
+    check_three(&rt, rt.alloc(), 't', (19, 20), (0, 5), ALL)?;
     check_three(&rt, rt.alloc(), 'o', (0, 1), (3, 5), "")?;
     Ok(())
 }

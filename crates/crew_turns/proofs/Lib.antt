@@ -1,0 +1,4 @@
+pub mod Logs
+pub mod Opening
+pub mod Taken
+pub mod Turning

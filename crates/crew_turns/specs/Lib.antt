@@ -1,0 +1,4 @@
+pub mod Came
+pub mod Seen
+pub mod Taken
+pub mod Tasks

@@ -1,0 +1,11 @@
+//! One turn of a worker each, over the board that all share, and laws of turns: functions that do nothing, each with what holds as its
+//! clauses.
+#![tactic(auto)]
+
+pub mod task;
+pub mod turned;
+pub mod turns;
+
+pub use task::Task;
+pub use turned::turns_leave;
+pub use turns::free_name;

@@ -1,3 +1,4 @@
+pub mod Ends
 pub mod Logs
 pub mod Opening
 pub mod Taken

@@ -1,4 +1,5 @@
 pub mod Came
+pub mod Ends
 pub mod Seen
 pub mod Taken
 pub mod Tasks

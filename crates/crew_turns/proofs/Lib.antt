@@ -1,5 +1,6 @@
 pub mod Ends
 pub mod Logs
+pub mod Nexts
 pub mod Opening
 pub mod Taken
 pub mod Turning

@@ -3,3 +3,4 @@ pub mod Ends
 pub mod Seen
 pub mod Taken
 pub mod Tasks
+pub mod Turned

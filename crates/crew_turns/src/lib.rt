@@ -8,4 +8,4 @@ pub mod turns;
 
 pub use task::Task;
 pub use turned::turns_leave;
-pub use turns::{end_module, free_name};
+pub use turns::{Assigned, end_module, free_name, next_task};

@@ -1,4 +1,5 @@
 pub mod Ends
+pub mod Firsts
 pub mod Logs
 pub mod Nexts
 pub mod Opening

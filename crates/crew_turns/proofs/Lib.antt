@@ -1,4 +1,7 @@
+pub mod Ends
+pub mod Firsts
 pub mod Logs
+pub mod Nexts
 pub mod Opening
 pub mod Taken
 pub mod Turning

@@ -1,5 +1,5 @@
 -- A worker that has the turn: what it knows of the board, what it may do there, and what its entry leaves of its pass.
-use Rattle.std.proofs.Common.{◌≡◌, inr, ℕ, ◌<◌, true, nat_eq, nat_lt, List, [], ◌∷◌, ◌++◌, Option, Some, arith, sym, ap, subst, ◌∙◌}
+use Rattle.std.proofs.Common.{◌≡◌, inr, ℕ, ◌<◌, true, false, nat_eq, nat_lt, List, [], ◌∷◌, ◌++◌, Option, Some, arith, sym, ap, subst, ◌∙◌}
 use Rattle.std.specs.List.{list_all}
 use Rattle.std.specs.Option.{option_map_or}
 use Rattle.std.proofs.lemmas.Bool.Decides.{nat_tests}
@@ -24,7 +24,7 @@ use Rattle.worker_law.proofs.Staying.{held_stays}
 use Rattle.atomic_table.specs.Seated.{TableId}
 use Rattle.turn_lock.specs.Passes.{with_view}
 use Rattle.turn_lock.specs.Turns.{AddsOne, IsKnown, MayAdd, given, with_turn}
-use Rattle.board.specs.Builds.{Build, MayCome, with_event}
+use Rattle.board.specs.Builds.{Build, MayCome, with_event, with_mark}
 use Rattle.board.specs.Logs.{role, role_of}
 use Rattle.board.specs.declared.kept.Opened.{Opened}
 use Rattle.crew_turns.specs.Came.{given_back}
@@ -54,6 +54,10 @@ itself w = grind (arith, nat_tests)
 -- the log with an event more, of a worker that is known by another number
 pub one_more : {S : Type 0} (b now : Build S) (e : ℕ → Event) (k w : ℕ) → now ≡ with_event b (e k) → k ≡ w → now.log ≡ b.log ++ (record { event = e w; carried = carried.Nothing }) ∷ []
 one_more {S} b now e k w is same = ap (λ (x : Build S). x.log) is ∙ ap (λ (v : ℕ). b.log ++ (record { event = e v; carried = carried.Nothing }) ∷ []) same
+
+-- and where marks changed
+pub ended_more : {S : Type 0} (b now : Build S) (e : ℕ → Event) (k w : ℕ) → now ≡ with_mark (with_event b (e k)) k false → k ≡ w → now.log ≡ b.log ++ (record { event = e w; carried = carried.Nothing }) ∷ []
+ended_more {S} b now e k w is same = ap (λ (x : Build S). x.log) is ∙ ap (λ (v : ℕ). b.log ++ (record { event = e v; carried = carried.Nothing }) ∷ []) same
 
 -- what was given back
 pub gave : (before : Told) (out log : List RunEntry) (mid pass : Told) → mid ≡ with_view before (with_turn (view before) out) → pass ≡ with_view mid (given role (view mid) log) → given_back before out log ≡ pass

@@ -80,7 +80,7 @@ module _ (plan : Plan) (lock : TableId) (w : ℕ) (before : Told) (of : IsOf pla
 -- ---- entries that fit whatever the hand tells
 
 -- of what nothing is asked, nothing is asked
-asks_nothing : {A B : Type 0} (a : Option A) (f : A → Option B) → IfSome a (λ x. IfSome (f x) (λ y. Unit {0}))
+pub asks_nothing : {A B : Type 0} (a : Option A) (f : A → Option B) → IfSome a (λ x. IfSome (f x) (λ y. Unit {0}))
 asks_nothing None f = tt
 asks_nothing (Some x) f = by (f x)
   where

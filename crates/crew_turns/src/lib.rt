@@ -2,10 +2,12 @@
 //! clauses.
 #![tactic(auto)]
 
+pub mod looks;
 pub mod task;
 pub mod turned;
 pub mod turns;
 
+pub use looks::first_absent;
 pub use task::Task;
 pub use turned::turns_leave;
-pub use turns::free_name;
+pub use turns::{Assigned, end_module, free_name, next_task};

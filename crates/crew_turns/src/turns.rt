@@ -1,15 +1,23 @@
 // One turn each, with an event that carries nothing, or none.
-ghost use Rattle.std.specs.Prelude.{◌≡◌, ℕ, true, None, Some};
+ghost use Rattle.std.specs.Prelude.{◌≡◌, ℕ, ◌<◌, Bool, true, [], None, Some, length};
 ghost use Rattle.build_core.specs.declared.event.Event.TheVariants as event;
 ghost use Rattle.build_core.specs.declared.plan.Plan.{Plan};
+ghost use Rattle.event_core.specs.Enabled.{ending_in_range, may_end_so};
 ghost use Rattle.event_core.specs.Outlines.{is_listed};
+ghost use Rattle.event_core.specs.Runs.{module_by};
+ghost use Rattle.event_core.specs.Worlds.{FitsEnd, HandTold};
+ghost use Rattle.atomic_table.specs.Seated.{TableId};
 ghost use Rattle.turn_lock.specs.Passes.{lock_of, view_of, with_view};
 ghost use Rattle.turn_lock.specs.Turns.{with_turn};
-ghost use Rattle.crew_turns.specs.Seen.{AlwaysFits, IsOf, Steps, names_by};
+ghost use Rattle.crew_turns.specs.Ends.{ends_as, marked_end, unmarked_end};
+ghost use Rattle.crew_turns.specs.Seen.{AlwaysFits, IsOf, KeepsFit, Steps, Told, course_by, names_by, seen_by};
 ghost use Rattle.crew_turns.specs.Taken.{IsOut, opened_of};
+ghost use Rattle.crew_turns.specs.Tasks.{IsTask, plan_outline, stood_by};
+ghost use Rattle.crew_turns.specs.Turned.{IsAssigned, IsIn, IsTold};
 
 use crate::task::Task;
-use board::Board;
+use board::{Board, Next};
+use build_core::{Device, Ending, Plan};
 use mvn_outside::Shelf;
 use std::sync::Wait;
 use turn_lock::{Pass, Turn, TurnLock};
@@ -50,4 +58,132 @@ pub fn free_name<'b, W: Wait, S: Shelf>(
     let mut value = taken(rt, lock, pass);
     value.free(task.worker, name);
     lock.give(pass, Turn { value });
+}
+
+// How a module ends in which the repository failed.
+fn marked_end(ending: Ending) -> Ending
+    ensures { result ≡ marked_end ending }
+{
+    match ending {
+        Ending::Fault(_) | Ending::Memory => ending,
+        _ => Ending::Fault(Device::Shelf),
+    }
+}
+
+// How one ends in which it didn't.
+fn unmarked_end(ending: Ending) -> Ending
+    ensures { result ≡ unmarked_end ending }
+{
+    match ending {
+        Ending::Fault(Device::Shelf) => Ending::Memory,
+        _ => ending,
+    }
+}
+
+// How a module ends, by whether the repository failed in it.
+fn settled_end(ending: Ending, marked: bool) -> Ending
+    ensures { result ≡ ends_as ending marked }
+{
+    if marked {
+        marked_end(ending)
+    } else {
+        unmarked_end(ending)
+    }
+}
+
+/// Ends the worker's module: a turn with that event. Whether the repository failed in the module is looked at in the turn. If it did, the
+/// module ends by that fault, unless it ends by a fault or for want of memory anyway; if it didn't, an ending by a fault of the repository
+/// becomes one for want of memory. May wait for the turn. Project rule.
+pub fn end_module<'b, W: Wait, S: Shelf>(
+    rt: &W,
+    lock: &TurnLock<Board<'b, S>>,
+    pass: &mut Pass<Board<'b, S>>,
+    task: &Task,
+    ending: Ending,
+) -> Ending
+    requires of { IsOf task.now.plan lock.now task.now.worker pass.old }
+    requires whose { module_by task.now.plan (seen_by pass.old) task.now.worker
+        ≡ Some task.now.number }
+    requires held { names_by task.now.plan task.now.worker pass.old ≡ [] }
+    requires range { ending_in_range (plan_outline task.now)
+        (course_by task.now.plan task.now.worker pass.old) ending ≡ true }
+    requires may { may_end_so (plan_outline task.now)
+        (course_by task.now.plan task.now.worker pass.old) ending ≡ true }
+    ensures settled { (marked : Bool) × (result ≡ ends_as ending marked) }
+    ensures step { Steps task.now.plan lock.now task.now.worker
+        (event.End task.now.worker result) pass.old pass.new }
+    ensures fits { (told : HandTold) → FitsEnd (stood_by task.now pass.old) told ending
+        → KeepsFit task.now.plan task.now.worker told pass.old pass.new }
+{
+    let mut value = taken(rt, lock, pass);
+    let marked = value.shelf_failed(task.worker);
+    let settled = settled_end(ending, marked);
+    value.end(task.worker, settled);
+    lock.give(pass, Turn { value });
+    settled
+}
+
+/// What an idle worker is told to do.
+#[derive(Drop)]
+pub enum Assigned<'a> {
+    /// It builds this module, which has begun.
+    Task(Task<'a>),
+    /// A module was skipped; it asks again.
+    Skipped,
+    /// Nothing may begin until another worker goes on.
+    Wait,
+    /// Each module has ended or was skipped.
+    Done,
+}
+
+// The task of a module that the plan has.
+fn task_of<'a>(plan: &'a Plan, number: u32, worker: u32) -> Task<'a>
+    requires { number < length plan.now.modules }
+    ensures task { IsTask result }
+    ensures plan { result.plan ≡ plan.now }
+    ensures number { result.number ≡ number }
+    ensures worker { result.worker ≡ worker }
+{
+    Task {
+        plan,
+        unit: &plan.modules.as_slice()[number as usize],
+        number,
+        worker,
+    }
+}
+
+// What a worker is told, by what the board said.
+fn assigned_by<'a>(plan: &'a Plan, next: Next, worker: u32) -> Assigned<'a>
+    requires within { IsIn plan.now next }
+    ensures told { (lock : TableId) (before pass : Told)
+        → IsTold plan.now lock worker next before pass
+        → IsAssigned plan.now lock worker result before pass }
+{
+    match next {
+        Next::Module(number) => Assigned::Task(task_of(plan, number, worker)),
+        Next::Skipped(_) => Assigned::Skipped,
+        Next::Wait => Assigned::Wait,
+        Next::Done => Assigned::Done,
+    }
+}
+
+/// What an idle worker does next: a turn, with the start of a module, the skip of one, or no event. May wait for the turn. Guide to
+/// Working with Multiple Modules, for what is skipped; project rule.
+pub fn next_task<'a, W: Wait, S: Shelf>(
+    rt: &W,
+    lock: &TurnLock<Board<'a, S>>,
+    pass: &mut Pass<Board<'a, S>>,
+    plan: &'a Plan,
+    worker: u32,
+) -> Assigned<'a>
+    requires of { IsOf plan.now lock.now worker pass.old }
+    requires idle { module_by plan.now (seen_by pass.old) worker ≡ None }
+    ensures turn { IsAssigned plan.now lock.now worker result pass.old pass.new }
+    ensures fits { AlwaysFits plan.now worker pass.old pass.new }
+{
+    let mut value = taken(rt, lock, pass);
+    let next = value.start(worker);
+    value.keeps();
+    lock.give(pass, Turn { value });
+    assigned_by(plan, next, worker)
 }

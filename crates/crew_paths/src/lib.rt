@@ -6,5 +6,5 @@ pub mod gathering;
 pub mod requests;
 
 pub use gathered::{Gathered, place_before};
-pub use gathering::entries_are_gathered;
+pub use gathering::{entries_are_gathered, first_entry_decides};
 pub use requests::{ask_for, needed_entries};

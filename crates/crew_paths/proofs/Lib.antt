@@ -1,0 +1,4 @@
+pub mod Beginnings
+pub mod Firsts
+pub mod Needs
+pub mod Places

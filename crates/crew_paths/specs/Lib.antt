@@ -1,0 +1,2 @@
+pub use Rattle.crew_laws.specs.Gathered
+pub mod Parts

@@ -1,0 +1,93 @@
+// What a goal of a module is asked, with the entries of its classpath that it needs.
+ghost use Rattle.std.specs.Prelude.{◌≡◌, [], ◌∷◌, ◌++◌, length, IfOk, OnOk};
+ghost use Rattle.build_core.specs.OneThread.{is_needed};
+ghost use Rattle.crew_laws.specs.Gathered.{needed_of};
+
+use build_core::{Entry, PlanModule};
+use goal_types::{GoalCall, GoalRequest, Need, PathEntry};
+use mvn_shared::{List, Mem};
+use std::alloc::Global;
+
+// Whether a goal of this need is given the entry.
+fn is_needed(need: Need, entry: &Entry) -> bool
+    ensures { result ≡ is_needed need entry.now }
+{
+    match need {
+        Need::Nothing => false,
+        Need::Compile => entry.compile,
+        Need::Runtime => entry.runtime,
+        Need::Test => entry.test,
+    }
+}
+
+fn copy_of_path(path: &PathEntry) -> Mem<PathEntry>
+    ensures { IfOk result (λ copy. copy ≡ path.now) }
+{
+    let bytes = match &path.bytes {
+        Some(bytes) => Some(bytes.clone()?),
+        None => None,
+    };
+    Ok(PathEntry {
+        name: path.name.clone()?,
+        bytes,
+    })
+}
+
+// A copy of an entry behind others.
+fn push_copy(needed: &mut List<PathEntry>, path: &PathEntry) -> Mem<()>
+    ensures { OnOk result (needed.new ≡ needed.old ++ path.now ∷ []) }
+{
+    needed.push(copy_of_path(path)?)?;
+    Ok(())
+}
+
+fn copy_of_call(call: &GoalCall) -> Mem<GoalCall>
+    ensures { IfOk result (λ copy. copy ≡ call.now) }
+{
+    Ok(call.clone()?)
+}
+
+/// Copies of the entries that a goal needs, in order, of a module's entries with their bytes. Costs their bytes. Introduction to the
+/// Dependency Mechanism.
+#[tactic(auto, using(crate::proofs::Needs::needed_all, std::proofs::lemmas::Option::slice_get_read))]
+pub fn needed_entries(
+    alloc: Global,
+    need: Need,
+    entries: &[Entry],
+    paths: &[PathEntry],
+) -> Mem<List<PathEntry>>
+    requires { length paths.now ≡ length entries.now }
+    ensures { IfOk result (λ list. list ≡ needed_of need entries.now paths.now) }
+{
+    let mut needed = List::new(alloc);
+    for at in 0..entries.len() {
+        if is_needed(need, &entries[at]) {
+            push_copy(&mut needed, &paths[at])?;
+        }
+    }
+    Ok(needed)
+}
+
+/// Makes a request that of a goal, with the outputs that it has: with the goal's call, and the entries of the classpath that it needs.
+/// Costs their bytes. Introduction to the Build Lifecycle.
+pub fn ask_for(
+    alloc: Global,
+    unit: &PlanModule,
+    paths: &[PathEntry],
+    call: &GoalCall,
+    request: &mut GoalRequest,
+) -> Mem<()>
+    requires { length paths.now ≡ length unit.now.entries }
+    ensures { OnOk result (request.new ≡ record {
+      «module» = request.old.«module»;
+      call = call.now;
+      sources = request.old.sources;
+      own = request.old.own;
+      classpath = needed_of call.now.need unit.now.entries paths.now;
+    }) }
+{
+    let path = needed_entries(alloc, call.need, unit.entries.as_slice(), paths)?;
+    request.call = copy_of_call(call)?;
+    request.classpath = path;
+    Ok(())
+}

@@ -96,7 +96,7 @@ settled_may o c e marked may = let fails = may_fail o c e may in by_settled (λ 
 -- ---- what fitted fits
 
 -- where a worker stands that may end with all files there
-abbrev IsLate : Course → Type 0
+abbrev pub IsLate : Course → Type 0
 IsLate idle = ⊥
 IsLate (on_course m script last) = nat_lt 3 (stage_of script) ≡ true
 IsLate (off_course m file gathered) = gathered ≡ true
@@ -138,7 +138,7 @@ module _ (plan : Plan) (past rest : List RunEntry) (w number : ℕ) (m : PlanMod
   all_there (on_course k script last) is own late = gathered plan past w number m script last (front plan past rest run).0 (is ∙ ap (λ (i : ℕ). on_course i script last) (some_same k number own)) at late
   all_there (off_course k file all) is own late = left_all plan past w number m file (front plan past rest run).0 (is ∙ ap (λ (i : ℕ). off_course i file all) (some_same k number own) ∙ ap (off_course number file) late) at
 
-  has_all : IsLate (course_of (standing_of_run plan past) w) → HasAll plan past m
+  pub has_all : IsLate (course_of (standing_of_run plan past) w) → HasAll plan past m
   has_all late = all_there (course_of (standing_of_run plan past) w) refl whose late
 
   -- an ending that may come and fits still fits behind others' entries
@@ -157,7 +157,7 @@ module _ (plan : Plan) (past rest : List RunEntry) (w number : ℕ) (m : PlanMod
 -- ---- in a turn
 
 -- what is shown of a module that is there holds where one is asked for
-at_module : {A : Type 0} (a : Option A) (x : A) (P : A → Type 0) → a ≡ Some x → P x → IfSome a P
+pub at_module : {A : Type 0} (a : Option A) (x : A) (P : A → Type 0) → a ≡ Some x → P x → IfSome a P
 at_module a x P is holds = subst (λ o. IfSome o P) (sym is) holds
 
 bare_end : (told : Bool) (w : ℕ) (e : Ending) → is_told told (event.End w e) carried.Nothing ≡ true

@@ -4,4 +4,5 @@ pub mod Logs
 pub mod Nexts
 pub mod Opening
 pub mod Taken
+pub mod Takes
 pub mod Turning

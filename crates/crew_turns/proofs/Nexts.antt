@@ -112,13 +112,13 @@ module _ (plan : Plan) (lock : TableId) (w : ℕ) (before : Told) (of : IsOf pla
 
     module _ (gives : pass ≡ with_view mid (given role (view mid) now.log)) (run : IsRunOf plan now.log) where
       -- nothing of the worker's
-      no_step : (has : HasCome w before now.log) → Sees plan lock w before pass
+      pub no_step : (has : HasCome w before now.log) → Sees plan lock w before pass
       no_step has = subst (Sees plan lock w before) (gave before b.log now.log mid pass took gives) (sees plan lock w before of now.log now.log has run)
 
-      no_fits : (has : HasCome w before now.log) → AlwaysFits plan w before pass
+      pub no_fits : (has : HasCome w before now.log) → AlwaysFits plan w before pass
       no_fits has = λ told fits. subst (FitsHand plan w told) (gave before b.log now.log mid pass took gives) (sees_fits plan lock w before of now.log now.log has told fits)
 
-      same_come : now.log ≡ b.log → HasCome w before now.log
+      pub same_come : now.log ≡ b.log → HasCome w before now.log
       same_come same = subst (HasCome w before) (sym same) is.came
 
       skip_come : (m : ℕ) → now ≡ after_next b w (next.Skipped m) → HasCome w before now.log

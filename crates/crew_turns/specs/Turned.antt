@@ -1,5 +1,8 @@
 -- What one turn of a worker leaves, by its answer. Project rule.
-use Rattle.std.specs.Prelude.{◌≡◌, ℕ, ◌<◌, true, [], length, None}
+use Rattle.std.specs.Prelude.{◌≡◌, ℕ, ◌<◌, Bool, true, List, [], length, Option, None}
+use Rattle.name_locks.specs.declared.mode.Mode.{Mode}
+use Rattle.name_locks.specs.declared.table.Tried.{Tried}
+use Rattle.name_locks.specs.declared.table.Tried.TheVariants.{Taken, Busy}
 use Rattle.build_core.specs.declared.event.Event.TheVariants as event
 use Rattle.build_core.specs.declared.plan.Plan.{Plan}
 use Rattle.event_core.specs.Outlines.{outline_of}
@@ -13,6 +16,9 @@ use Rattle.crew_turns.specs.Seen.{Sees, Steps, Told, course_by, names_by, seen_b
 use Rattle.crew_turns.specs.Tasks.{HasBegun, ModuleTask}
 use Rattle.crew_turns.specs.declared.turns.Assigned.{Assigned}
 use Rattle.crew_turns.specs.declared.turns.Assigned.TheVariants as assigned
+use Rattle.crew_turns.specs.declared.turns.Reached.{Reached}
+use Rattle.crew_turns.specs.declared.turns.Reached.TheVariants as reached
+use Rattle.crew_laws.specs.Absent.{IsFirstAbsent}
 
 -- a worker began the module of this task
 pub record HasStarted (plan : Plan) (lock : TableId) (worker : ℕ) (t : ModuleTask) (before pass : Told) : Type 0 where
@@ -52,3 +58,15 @@ IsTold plan lock worker next.Done before pass = IsFinished plan lock worker befo
 abbrev pub IsIn : Plan → Next → Type 0
 IsIn plan (next.Module number) = number < length plan.modules
 IsIn plan other = Unit {0}
+
+-- ---- a name is taken
+
+-- a name was taken, with the first absent file of the fetch list from a place on, or another's hold kept it from the worker
+abbrev pub IsReached : ModuleTask → TableId → (name : ℕ) → Mode → (from : ℕ) → Reached → (before pass : Told) → Type 0
+IsReached t lock name mode from reached.Busy before pass = Sees t.plan lock t.worker before pass
+IsReached t lock name mode from (reached.Taken found) before pass = Steps t.plan lock t.worker (event.Take t.worker name mode) before pass × IsFirstAbsent (there_by t.plan pass) t.unit.fetch from found
+
+-- by what the board said, and the look behind it
+abbrev pub Looks : (there : List Bool) → List ℕ → (from : ℕ) → Tried → Reached → Type 0
+Looks there files from Taken r = (found : Option ℕ) × (r ≡ reached.Taken found) × IsFirstAbsent there files from found
+Looks there files from (Busy h) r = r ≡ reached.Busy

@@ -1,11 +1,14 @@
 // One turn each, with an event that carries nothing, or none.
-ghost use Rattle.std.specs.Prelude.{◌≡◌, ℕ, ◌<◌, Bool, true, [], None, Some, length};
+ghost use Rattle.std.specs.Prelude.{◌≡◌, ℕ, ◌<◌, Bool, true, [], None, Some, length, nat_eq};
 ghost use Rattle.build_core.specs.declared.event.Event.TheVariants as event;
 ghost use Rattle.build_core.specs.declared.plan.Plan.{Plan};
-ghost use Rattle.event_core.specs.Enabled.{ending_in_range, may_end_so};
+ghost use Rattle.event_core.specs.Causes.{stage_at};
+ghost use Rattle.event_core.specs.Enabled.{ending_in_range, is_due, may_end_so};
+ghost use Rattle.event_core.specs.declared.deed.Deed.TheVariants as deed;
+ghost use Rattle.board.specs.Builds.{standing_at};
 ghost use Rattle.event_core.specs.Outlines.{is_listed};
 ghost use Rattle.event_core.specs.Runs.{module_by};
-ghost use Rattle.event_core.specs.Worlds.{FitsEnd, HandTold};
+ghost use Rattle.event_core.specs.Worlds.{FitsEnd, FitsTake, HandTold};
 ghost use Rattle.atomic_table.specs.Seated.{TableId};
 ghost use Rattle.turn_lock.specs.Passes.{lock_of, view_of, with_view};
 ghost use Rattle.turn_lock.specs.Turns.{with_turn};
@@ -13,12 +16,14 @@ ghost use Rattle.crew_turns.specs.Ends.{ends_as, marked_end, unmarked_end};
 ghost use Rattle.crew_turns.specs.Seen.{AlwaysFits, IsOf, KeepsFit, Steps, Told, course_by, names_by, seen_by};
 ghost use Rattle.crew_turns.specs.Taken.{IsOut, opened_of};
 ghost use Rattle.crew_turns.specs.Tasks.{IsTask, plan_outline, stood_by};
-ghost use Rattle.crew_turns.specs.Turned.{IsAssigned, IsIn, IsTold};
+ghost use Rattle.crew_turns.specs.Turned.{IsAssigned, IsIn, IsReached, IsTold, Looks};
 
+use crate::looks::first_absent;
 use crate::task::Task;
 use board::{Board, Next};
 use build_core::{Device, Ending, Plan};
 use mvn_outside::Shelf;
+use name_locks::{Mode, Tried};
 use std::sync::Wait;
 use turn_lock::{Pass, Turn, TurnLock};
 
@@ -186,4 +191,51 @@ pub fn next_task<'a, W: Wait, S: Shelf>(
     value.keeps();
     lock.give(pass, Turn { value });
     assigned_by(plan, next, worker)
+}
+
+/// Whether a name was taken; and then the first of some files that isn't there.
+#[derive(Clone, Copy)]
+pub enum Reached {
+    Busy,
+    Taken(Option<usize>),
+}
+
+// What a worker reached, by what the board said, with a look where it took the name.
+fn reached_by<S: Shelf>(board: &Board<S>, tried: Tried, files: &[u32], from: usize) -> Reached
+    ensures { Looks (standing_at board.now).there files.now from tried result }
+{
+    match tried {
+        Tried::Taken => Reached::Taken(first_absent(board, files, from)),
+        Tried::Busy(_) => Reached::Busy,
+    }
+}
+
+/// Takes a name that is due: a turn, with that event where no other holds the name; and in the same turn a look for the first file of
+/// the fetch list, from a place on, that isn't there. May wait for the turn, and not for the name. Resolver, "Named Locks".
+pub fn try_name<'b, W: Wait, S: Shelf>(
+    rt: &W,
+    lock: &TurnLock<Board<'b, S>>,
+    pass: &mut Pass<Board<'b, S>>,
+    task: &Task,
+    name: u32,
+    mode: Mode,
+    from: usize,
+) -> Reached
+    requires of { IsOf task.now.plan lock.now task.now.worker pass.old }
+    requires whose { module_by task.now.plan (seen_by pass.old) task.now.worker
+        ≡ Some task.now.number }
+    requires due { is_due (course_by task.now.plan task.now.worker pass.old)
+        (deed.Take mode name) ≡ true }
+    requires fits { FitsTake
+        (nat_eq (stage_at (course_by task.now.plan task.now.worker pass.old)) 6)
+        (stood_by task.now pass.old) }
+    ensures turn { IsReached task.now lock.now name mode from result pass.old pass.new }
+    ensures fits { AlwaysFits task.now.plan task.now.worker pass.old pass.new }
+{
+    let mut value = taken(rt, lock, pass);
+    let tried = value.take(task.worker, name, mode);
+    value.keeps();
+    let reached = reached_by(&value, tried, task.unit.fetch.as_slice(), from);
+    lock.give(pass, Turn { value });
+    reached
 }

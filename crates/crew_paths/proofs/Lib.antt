@@ -1,3 +1,4 @@
+pub mod Askings
 pub mod Beginnings
 pub mod Firsts
 pub mod Needs

@@ -1,2 +1,3 @@
 pub use Rattle.crew_laws.specs.Gathered
+pub mod Asking
 pub mod Parts

@@ -7,4 +7,4 @@ pub mod requests;
 
 pub use gathered::{Gathered, place_before};
 pub use gathering::{entries_are_gathered, first_entry_decides};
-pub use requests::{ask_for, needed_entries};
+pub use requests::{ask_for, first_request, needed_entries, requests_are_defined};

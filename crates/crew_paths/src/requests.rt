@@ -1,7 +1,15 @@
 // What a goal of a module is asked, with the entries of its classpath that it needs.
-ghost use Rattle.std.specs.Prelude.{◌≡◌, [], ◌∷◌, ◌++◌, length, IfOk, OnOk};
-ghost use Rattle.build_core.specs.OneThread.{is_needed};
+ghost use Rattle.std.specs.Prelude.{◌≡◌, List, [], ◌∷◌, ◌++◌, length, map, IfOk, OnOk};
+ghost use Rattle.mvn_shared.specs.Files.{Files};
+ghost use Rattle.goal_types.specs.declared.goal.GoalCall.{GoalCall};
+ghost use Rattle.goal_types.specs.declared.goal.GoalRequest.{GoalRequest};
+ghost use Rattle.goal_types.specs.declared.goal.OwnBytes.{OwnBytes};
+ghost use Rattle.goal_types.specs.declared.goal.PathEntry.{PathEntry};
+ghost use Rattle.build_core.specs.OneThread.{is_needed, path_entry, request};
+ghost use Rattle.build_core.specs.declared.plan.Plan.{Plan};
+ghost use Rattle.build_core.specs.declared.plan.PlanModule.{PlanModule};
 ghost use Rattle.crew_laws.specs.Gathered.{needed_of};
+ghost use Rattle.crew_paths.specs.Asking.{IsRequestOf, asked};
 
 use build_core::{Entry, PlanModule};
 use goal_types::{GoalCall, GoalRequest, Need, PathEntry};
@@ -68,6 +76,19 @@ pub fn needed_entries(
     Ok(needed)
 }
 
+/// A request of the module for a goal, with no classpath and no outputs yet. Costs the sources. Introduction to the Build Lifecycle.
+pub fn first_request(alloc: Global, unit: &PlanModule, call: &GoalCall) -> Mem<GoalRequest>
+    ensures { IfOk result (λ request. IsRequestOf unit.now [] request) }
+{
+    Ok(GoalRequest {
+        module: unit.gav.clone()?,
+        call: copy_of_call(call)?,
+        sources: unit.sources.clone()?,
+        own: List::new(alloc),
+        classpath: List::new(alloc),
+    })
+}
+
 /// Makes a request that of a goal, with the outputs that it has: with the goal's call, and the entries of the classpath that it needs.
 /// Costs their bytes. Introduction to the Build Lifecycle.
 pub fn ask_for(
@@ -78,16 +99,21 @@ pub fn ask_for(
     request: &mut GoalRequest,
 ) -> Mem<()>
     requires { length paths.now ≡ length unit.now.entries }
-    ensures { OnOk result (request.new ≡ record {
-      «module» = request.old.«module»;
-      call = call.now;
-      sources = request.old.sources;
-      own = request.old.own;
-      classpath = needed_of call.now.need unit.now.entries paths.now;
-    }) }
+    ensures { OnOk result (request.new ≡ asked request.old call.now
+        (needed_of call.now.need unit.now.entries paths.now)) }
 {
     let path = needed_entries(alloc, call.need, unit.entries.as_slice(), paths)?;
     request.call = copy_of_call(call)?;
     request.classpath = path;
     Ok(())
 }
+
+/// A law: where all entries of a module were gathered, a request of the module that is made a goal's is the one that the definition of the
+/// build by one hand asks, with the outputs that it has. Does nothing. Introduction to the Build Lifecycle.
+pub fn requests_are_defined()
+    ensures { (plan : Plan) (files : Files) (outputs : List (List OwnBytes)) (m : PlanModule)
+        (own : List OwnBytes) (before : GoalRequest) (call : GoalCall) (paths : List PathEntry)
+        → IsRequestOf m own before → paths ≡ map (path_entry plan files outputs) m.entries
+        → asked before call (needed_of call.need m.entries paths)
+        ≡ request plan files outputs m call own }
+{}

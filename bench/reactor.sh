@@ -1,9 +1,9 @@
 #!/usr/bin/env bash
-# How the time of `mvn` grows with the modules of a project, as ratios in one run: `validate` and `install` on projects of 125, 250, 500 and
+# How the time of `mvn` grows with the modules of a project, as ratios in one run: `validate` and `install` on projects of 1, 200 and
 # 1,000 modules, each with ten dependencies on others, and memory. Beside them `mvn -o -q validate` of Apache Maven on the same projects, if
 # it is installed: the program that MAVEN names, or the `mvn` on the PATH. Maven reads the same POMs and runs no goal.
 # usage: bench/reactor.sh [MODULES..]
-sizes=${*:-125 250 500 1000}
+sizes=${*:-1 200 1000}
 . "$(dirname "$0")/common.sh"
 maker=$PWD/bench/reactor_project.py
 memory=$PWD/bench/memory.py

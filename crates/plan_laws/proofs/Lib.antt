@@ -1,3 +1,4 @@
+pub mod Founding
 pub mod Resolving
 pub mod Selecting
 pub mod Stepping

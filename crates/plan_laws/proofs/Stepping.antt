@@ -24,7 +24,7 @@ use Rattle.build_plan.specs.Planning.IsRefused.{by_poms, by_libraries, by_circle
 use Rattle.build_plan.specs.declared.planning.PlanFault.{PlanFault}
 use Rattle.build_plan.specs.declared.planning.PlanFault.TheVariants as faults
 use Rattle.reactor_laws.proofs.Built.{one_answer as one_reactor}
-use Rattle.plan_laws.specs.Said.{IsSaid}
+use Rattle.mvn_top.specs.Found.{IsSaid}
 use Rattle.plan_laws.proofs.Resolving.{one_resolved}
 use Rattle.plan_laws.proofs.Selecting.{one_selection}
 

@@ -1,2 +1,2 @@
 pub use Rattle.build_plan.specs.Planning
-pub mod Said
+pub use Rattle.mvn_top.specs.Found

@@ -3,7 +3,9 @@ ghost use Rattle.build_plan.specs.Planning.{Plans};
 ghost use Rattle.build_plan.specs.declared.planning.PlanFault.{PlanFault};
 ghost use Rattle.cli_words.specs.declared.command_line.CommandLine.{CommandLine};
 ghost use Rattle.mvn_shared.specs.Files.{Files};
-ghost use Rattle.plan_laws.specs.Said.{IsSaid};
+ghost use Rattle.build_outcome.specs.declared.outcome.Outcome.{Outcome};
+ghost use Rattle.mvn_base.specs.declared.machine.Machine.{Machine};
+ghost use Rattle.mvn_top.specs.Found.{IsFound, IsSaid};
 ghost use Rattle.plan_numbers.specs.declared.selected.Planned.{Planned};
 ghost use Rattle.pom_source.specs.declared.found.Given.{Given};
 
@@ -16,4 +18,13 @@ pub fn one_plan()
         (one other : Result Planned PlanFault)
         → Plans tree local remote given line one → Plans tree local remote given line other
         → IsSaid one → IsSaid other → one ≡ other }
+{}
+
+/// A law of calls: what the words ask for, the files of the project's folder, of both repositories and the machine have one plan that is
+/// built, or one outcome in its place. So the outcome that `mvn` is held to is one, by the answers of its goals. Does nothing. Project
+/// rule.
+pub fn one_outcome()
+    ensures { (asked : Result CommandLine Outcome) (tree start remote : Files) (machine : Machine)
+        (one other : Result Planned Outcome) → IsFound asked tree start remote machine one
+        → IsFound asked tree start remote machine other → one ≡ other }
 {}

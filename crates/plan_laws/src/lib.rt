@@ -4,4 +4,4 @@
 
 pub mod law;
 
-pub use law::one_plan;
+pub use law::{one_outcome, one_plan};

@@ -1,7 +1,7 @@
 -- The tests that are the same for all characters past ASCII.
 use Rattle.std.proofs.Common.{◌≡◌, ℕ, ◌≤◌, ◌<◌, Bool, true, false, ◌||◌, ◌==◌, sym, ap, ◌∙◌, arith}
 use Rattle.std.proofs.lemmas.Bool.Decides.{nat_tests}
-use Rattle.std.specs.Char.{is_ascii_digit}
+use Rattle.std.specs.Char.{is_ascii_digit, is_ascii_lowercase}
 use Rattle.pom_text.specs.Characters.{is_space, is_name_start, is_name_char}
 use Rattle.pom_text.specs.Encodings.{is_ascii}
 use Rattle.pom_text.specs.Reads.{is_value}
@@ -38,6 +38,11 @@ name_flat c d a b = name_high c a ∙ sym (name_high d b)
 
 pub start_flat : IsFlat is_name_start
 start_flat c d a b = start_high c a ∙ sym (start_high d b)
+
+-- a small letter may stand in a name
+pub small_letter : (c : ℕ) → is_ascii_lowercase c ≡ true → true ≡ is_name_char c
+unfolding is_name_char is_name_start
+small_letter c is = grind (arith, nat_tests, is)
 
 value_high : (quote c : ℕ) → quote < 128 → 128 ≤ c → is_value quote c ≡ true
 unfolding is_value

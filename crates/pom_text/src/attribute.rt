@@ -1,12 +1,25 @@
-ghost use Rattle.std.specs.Prelude.{◌≡◌, option_map, IfOk};
+ghost use Rattle.std.specs.Prelude.{◌≡◌, option_and_then, option_map, IfOk};
 ghost use Rattle.std.specs.Str.{chars};
-ghost use Rattle.pom_text.specs.Reads.{attribute_of, attributes_of, names_of};
+ghost use Rattle.pom_text.specs.Reads.{attribute_of, attributes_of, name_of, names_of, skip_space, with_name};
 ghost use Rattle.pom_text.specs.Runs.{attribute_chars};
 
 use crate::cuts::{after, begins_space, name_of, quoted, skip_space};
 use crate::spelled::text_of;
 use mvn_shared::{List, Mem, Text};
 use std::alloc::Global;
+
+// An attribute behind white space or none, as its name and its value, and what follows. A call of its own, since most tags
+// have no attribute.
+#[inline(never)]
+fn named_value(text: &str) -> Option<((&str, &str), &str)>
+    ensures { option_map attribute_chars result
+        ≡ option_and_then with_name (name_of (skip_space (chars text.now))) }
+{
+    let (name, rest) = name_of(skip_space(text))?;
+    let rest = after(skip_space(rest), b"=")?;
+    let (value, rest) = quoted(skip_space(rest))?;
+    Some(((name, value), rest))
+}
 
 // An attribute with the white space before it, as its name and its value, and what follows.
 #[tactic(auto, using(crate::proofs::Firsts::some_space, crate::proofs::Firsts::no_space), unfolding(crate::specs::Reads::attribute_of))]
@@ -16,10 +29,7 @@ pub(crate) fn attribute_of(text: &str) -> Option<((&str, &str), &str)>
     if !begins_space(text) {
         return None;
     }
-    let (name, rest) = name_of(skip_space(text))?;
-    let rest = after(skip_space(rest), b"=")?;
-    let (value, rest) = quoted(skip_space(rest))?;
-    Some(((name, value), rest))
+    named_value(text)
 }
 
 // What follows all attributes that stand next.

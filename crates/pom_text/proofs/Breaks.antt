@@ -1,5 +1,5 @@
 -- A text cut at its carriage returns.
-use Rattle.std.proofs.Common.{◌≡◌, ℕ, ◌<◌, Bool, true, not, ◌&&◌, ◌==◌, nat_eq, List, [], ◌∷◌, ◌++◌, length, Some, None, refl, sym, ap, ◌∙◌, arith, append_assoc, length-append}
+use Rattle.std.proofs.Common.{◌≡◌, ℕ, ◌<◌, Bool, true, not, ◌&&◌, ◌==◌, nat_eq, List, [], ◌∷◌, ◌++◌, length, Some, None, refl, sym, ap, ◌∙◌, arith, append-nil, append_assoc, length-append}
 use Rattle.std.proofs.lemmas.Bool.Decides.{nat_tests}
 use Rattle.std.proofs.lemmas.Bool.{false≢true}
 use Rattle.std.proofs.lemmas.Str.{encode_ascii, encodes-append}
@@ -79,3 +79,7 @@ line_last returned text old feed now whole none fed one so =
 pub return_bytes : (returned : Bool) → 10 ∷ [] ≡ encode_utf8_all (line_part returned 13)
 unfolding line_part
 return_bytes returned = ap (λ l. l ++ []) (sym (encode_ascii 10 (omega arith)))
+
+-- the bytes of one character are those of the list of it
+pub one_character : (c : ℕ) → encode_utf8 c ≡ encode_utf8_all (c ∷ [])
+one_character c = sym (append-nil (encode_utf8 c))

@@ -129,16 +129,15 @@ impl Tree {
     }
 
     // A character that is referred to.
-    #[tactic(auto, unfolding(crate::specs::Tree::with_text, crate::specs::Growth::take_part))]
-    fn take_reference(&mut self, alloc: Global, c: char) -> Mem<bool>
+    #[tactic(auto, using(crate::proofs::Breaks::one_character), unfolding(crate::specs::Tree::with_text, crate::specs::Growth::take_part))]
+    fn take_reference(&mut self, c: char) -> Mem<bool>
         ensures { Takes result self.old self.new (Reference c) }
     {
         let Some(at) = self.innermost() else {
             return Ok(false);
         };
-        let mut text = String::new(alloc);
-        text.push(c)?;
-        self.add_text(at, text.as_str())?;
+        let mut bytes = [0u8; 4];
+        self.add_text(at, c.encode_utf8(bytes.as_mut_slice()))?;
         self.returned = false;
         Ok(true)
     }
@@ -231,7 +230,7 @@ impl Tree {
             }
             Part::Return => self.take_return(),
             Part::Section(inside) => self.take_section(inside),
-            Part::Reference(c) => self.take_reference(alloc, c),
+            Part::Reference(c) => self.take_reference(c),
             Part::Start(tag) => {
                 if !self.may_begin() {
                     return Ok(false);

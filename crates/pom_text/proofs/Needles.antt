@@ -1,5 +1,5 @@
 -- Marks in the bytes and in the characters of a text.
-use Rattle.std.proofs.Common.{◌≡◌, ℕ, suc, zero, ◌+◌, ◌<◌, ◌≤◌, Bool, true, false, not, ◌&&◌, ◌||◌, ◌==◌, nat_eq, List, [], ◌∷◌, ◌++◌, length, get_or, take, drop, Some, None, refl, sym, ap, ◌∙◌, arith, length-append, take-append-drop, drop_at, length-take-le, length-drop, get_or-take, get_or-drop, ext_get_or, append_assoc, get_or-append-add, option_map, if◌then◌else◌}
+use Rattle.std.proofs.Common.{◌≡◌, ℕ, suc, zero, ◌+◌, ◌<◌, ◌≤◌, Bool, true, false, cond, not, ◌&&◌, ◌||◌, ◌==◌, nat_eq, List, [], ◌∷◌, ◌++◌, length, get_or, take, drop, Some, None, refl, sym, ap, ◌∙◌, arith, length-append, take-append-drop, drop_at, length-take-le, length-drop, get_or-take, get_or-drop, ext_get_or, append_assoc, get_or-append-add, option_map, if◌then◌else◌}
 use Rattle.std.proofs.Math.ListN.{get_or-append}
 use Rattle.std.specs.Bool.{Decides}
 use Rattle.std.specs.List.{list_all, prefix_len, starts_with}
@@ -11,7 +11,7 @@ use Rattle.std.proofs.lemmas.Slice.Eq.{starts_is}
 use Rattle.std.proofs.lemmas.Str.{encodes-append, encodes-chars, scalars-chars, chars-append, length-le-encodes, IsUtf8-take, IsUtf8-drop, IsCharBoundary-start, IsCharBoundary-at_seam, IsUtf8-from_ascii, chars-IsAscii}
 use Rattle.memchr.specs.Find.{IsFirstByte, OccursAt, FindsNeedle, is_byte2, is_byte3}
 use Rattle.pom_text.specs.Encodings.{is_ascii}
-use Rattle.pom_text.specs.Reads.{after, first_of, is_value, longer, up_to}
+use Rattle.pom_text.specs.Reads.{after, begins, first_of, is_value, longer, up_to}
 use Rattle.pom_text.specs.Runs.{is_run}
 use Rattle.pom_text.proofs.Bytes.{scalars_parts}
 use Rattle.pom_text.proofs.Fronts.{and_first, and_second}
@@ -40,6 +40,11 @@ all_len p q bs is h = sym (prefix_len_is p bs (length bs) 0 (omega arith) (λ j 
 run_not : (x : ℕ) → is_run x ≡ not (is_byte3 60 38 13 x)
 unfolding is_run
 run_not x = neither3 (x == 60) (x == 38) (x == 13)
+
+-- where no run begins it has no bytes
+pub no_run : (bs : List ℕ) → begins is_run bs ≡ false → 0 ≡ prefix_len is_run bs
+no_run [] e = refl
+no_run (b ∷ bs) e = sym (ap (λ t. cond t (1 + prefix_len is_run bs) 0) e)
 
 pub run_found : (bs : List ℕ) (k : ℕ) → IsFirstByte (is_byte3 60 38 13) bs (Some k) → k ≡ prefix_len is_run bs
 run_found bs k h = found_len is_run (is_byte3 60 38 13) bs k run_not h

@@ -1,7 +1,7 @@
 ghost use Rattle.std.specs.Prelude.{◌≡◌, ◌≤◌, length, option_map};
 ghost use Rattle.std.specs.List.{list_any, prefix_len};
 ghost use Rattle.pom_text.specs.Characters.{is_space, is_name_char};
-ghost use Rattle.pom_text.specs.Reads.{after, skip_space, name_of, is_value, value_of, quoted};
+ghost use Rattle.pom_text.specs.Reads.{after, begins, skip_space, name_of, is_value, value_of, quoted};
 ghost use Rattle.pom_text.specs.Runs.{is_run, is_suspect};
 
 use crate::character::{is_name_char, is_name_start, is_space, is_suspect};
@@ -43,12 +43,32 @@ pub(crate) fn has_suspect(text: &[u8]) -> bool
     found
 }
 
-// How many bytes stand before the first `<`, `&` and carriage return.
-#[tactic(auto, using(crate::proofs::Needles::run_found, crate::proofs::Needles::run_all))]
+// Whether a byte stands in a run.
+#[tactic(auto, unfolding(crate::specs::Runs::is_run))]
+fn is_run(b: u8) -> bool
+    ensures { result ≡ is_run b }
+{
+    b != b'<' && b != b'&' && b != b'\r'
+}
+
+fn begins_run(text: &[u8]) -> bool
+    ensures { result ≡ begins is_run text.now }
+{
+    match text {
+        [b, ..] => is_run(*b),
+        [] => false,
+    }
+}
+
+// How many bytes stand before the first `<`, `&` and carriage return. Nothing is searched where one stands next.
+#[tactic(auto, using(crate::proofs::Needles::no_run, crate::proofs::Needles::run_found, crate::proofs::Needles::run_all))]
 pub(crate) fn run_len(text: &[u8]) -> usize
     ensures within { result ≤ length text.now }
     ensures len { result ≡ prefix_len is_run text.now }
 {
+    if !begins_run(text) {
+        return 0;
+    }
     match memchr3(b'<', b'&', b'\r', text) {
         Some(at) => at,
         None => text.len(),

@@ -29,6 +29,13 @@ fn non_empty(text: &str) -> Option<&str>
     if text.is_empty() { None } else { Some(text) }
 }
 
+/// The name of an element.
+pub(crate) fn name_of(node: &Node) -> &str
+    ensures { result.now ≡ node.now.name }
+{
+    node.name.as_str()
+}
+
 /// The element of a number.
 pub(crate) fn at(nodes: &[Node], k: u32) -> Option<&Node>
     ensures { option_copied result ≡ slice_get nodes.now k }
@@ -42,7 +49,7 @@ pub(crate) fn named<'a>(nodes: &'a [Node], k: u32, name: &str) -> Option<&'a Nod
     ensures { option_copied result ≡ named nodes.now name.now k }
 {
     let node = at(nodes, k)?;
-    if same(node.name.as_str(), name) {
+    if same(name_of(node), name) {
         Some(node)
     } else {
         None

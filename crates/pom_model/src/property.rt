@@ -26,7 +26,7 @@ fn pairs_of(alloc: Global, entries: IndexMap<Text, Text>) -> Mem<List<Pair>>
 fn put(alloc: Global, entries: &mut IndexMap<Text, Text>, node: &Node) -> Mem<()>
     ensures { OnOk result (entries.new.entries ≡ put_entry entries.old.entries node.now) }
 {
-    entries.insert(node.name.clone()?, own_text(alloc, node)?)?;
+    entries.insert(node.name.value().clone()?, own_text(alloc, node)?)?;
     Ok(())
 }
 

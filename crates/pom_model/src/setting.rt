@@ -17,7 +17,7 @@ fn setting(node: &Node, children: List<Setting>) -> Mem<Setting>
     ensures { (further : List ℕ → List settings.Setting) → children ≡ further node.now.children →
         IfOk result (λ setting. setting ≡ setting_of further node.now) }
 {
-    let name = node.name.clone()?;
+    let name = node.name.value().clone()?;
     let text = node.text.clone()?;
     Ok(Setting {
         name,

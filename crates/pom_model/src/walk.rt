@@ -3,7 +3,7 @@ ghost use Rattle.pom_model.specs.Faults.{begun, combines, ended, fault_within, f
 ghost use Rattle.pom_model.specs.Spans.{is_lacking};
 ghost use Rattle.pom_model.specs.Table.{row_view};
 
-use crate::element::{child, is_filled, named, text_or};
+use crate::element::{child, is_filled, name_of, named, text_or};
 use crate::fault::{Fault, Spot};
 use crate::table::{Kind, Row, Times, found, rows_under};
 use mvn_base::Rule;
@@ -23,7 +23,7 @@ fn read_child<'a>(nodes: &'a [Node], kind: Kind, k: u32) -> Option<((Kind, Times
     ensures { option_map (λ e. (e.0, e.1.now)) result ≡ read_child nodes.now kind k }
 {
     let node = nodes.get(k as usize)?;
-    Some((found(kind, node.name.as_str())?, node))
+    Some((found(kind, name_of(node))?, node))
 }
 
 // Whether one of these has this name.
@@ -79,7 +79,7 @@ fn begun(
     ensures { IfOk result (λ fault.
         fault ≡ begun nodes.now before.now read (kind, times) node.now) }
 {
-    let name = node.name.as_str();
+    let name = name_of(node);
     if !times.is_repeated() && has_name(nodes, name, before) {
         return Ok(Some(Fault::at_path(alloc, Rule::RepeatedElement, name)?));
     }
@@ -193,7 +193,7 @@ fn fault_within(
                 return Ok(Some(fault));
             }
             if let Some(fault) = fault_within(alloc, depth - 1, nodes, inner, child)? {
-                let step = times.step(alloc, read, child.name.as_str())?;
+                let step = times.step(alloc, read, name_of(child))?;
                 return Ok(Some(fault.under(alloc, step.as_str())?));
             }
             read += 1;
@@ -212,9 +212,9 @@ pub(crate) fn first_fault(alloc: Global, nodes: &[Node]) -> Mem<Option<Fault>>
         let spot = Spot::Own(Text::of(String::new(alloc)));
         return Ok(Some(Fault { rule, spot }));
     };
-    if root.name.as_str() != "project" {
+    if name_of(root) != "project" {
         let rule = Rule::RootNotProject;
-        let spot = Spot::Own(root.name.clone()?);
+        let spot = Spot::Own(root.name.value().clone()?);
         return Ok(Some(Fault { rule, spot }));
     }
     match fault_within(alloc, DEPTH, nodes, Kind::Project, root)? {

@@ -1,7 +1,13 @@
 -- An element that is changed in a list of elements.
-use Rattle.std.proofs.Common.{◌≡◌, ℕ, zero, suc, ◌<◌, ◌≤◌, List, [], ◌∷◌, length, get_or, set, refl, ap, ◌∙◌, arith}
+use Rattle.std.proofs.Common.{◌≡◌, ℕ, zero, suc, true, ◌<◌, ◌≤◌, List, [], ◌∷◌, length, get_or, set, refl, ap, ◌∙◌, arith}
+use Rattle.std.specs.Str.{bytes_eq}
+use Rattle.std.proofs.lemmas.Slice.Eq.{bytes_eq-Decides}
 use Rattle.pom_text.specs.declared.node.Node.{Node}
 use Rattle.pom_text.specs.Tree.{changed}
+
+-- names that are found equal are one
+pub same_name : (name other : List ℕ) → bytes_eq name other ≡ true → name ≡ other
+same_name name other same = (bytes_eq-Decides name other).0 same
 
 pub set_changed : (f : Node → Node) (at : ℕ) (nodes : List Node) (old now : Node) → at < length nodes → old ≡ get_or nodes at old → now ≡ f old → set nodes at now ≡ changed f at nodes
 set_changed f at [] old now low here is = absurd (omega (arith, low))

@@ -11,6 +11,7 @@ mod encoding;
 mod fault;
 mod front;
 mod law;
+mod names;
 mod node;
 mod part;
 mod piece;

@@ -1,11 +1,11 @@
-use mvn_shared::{List, Text};
+use mvn_shared::{List, Shared, Text};
 
-/// An element: its name, the names of its attributes, its own text, and the numbers of the elements directly in it. Texts
-/// are in UTF-8; the text joins what stands directly in the element, with references and CDATA resolved and each line end a
-/// line feed. XML 1.0.
+/// An element: its name, which elements of one name may share, the names of its attributes, its own text, and the numbers of the
+/// elements directly in it. Texts are in UTF-8; the text joins what stands directly in the element, with references and CDATA
+/// resolved and each line end a line feed. XML 1.0.
 #[derive(Clone, Drop)]
 pub struct Node {
-    pub name: Text,
+    pub name: Shared<Text>,
     pub attributes: List<Text>,
     pub text: Text,
     pub children: List<u32>,

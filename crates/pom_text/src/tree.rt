@@ -1,4 +1,4 @@
-ghost use Rattle.std.specs.Prelude.{◌≡◌, ◌<◌, true, length, OnOk};
+ghost use Rattle.std.specs.Prelude.{◌≡◌, ◌<◌, true, length, IfOk, IfSome, OnOk};
 ghost use Rattle.std.specs.List.{list_all};
 ghost use Rattle.std.specs.Str.{bytes_eq, chars, encode_utf8_all};
 ghost use Rattle.pom_text.specs.Growth.{HasChanged, HasGotChild, Takes, standing_of};
@@ -8,19 +8,22 @@ ghost use Rattle.pom_text.specs.Tree.{add_child, add_text, closes, ended, innerm
 
 use crate::attribute::names_in;
 use crate::cuts::{is_over, skip_space};
+use crate::names::{SLOTS, new_name, slot_of};
 use crate::node::Node;
 use crate::part::{Part, Tag};
 use crate::spelled::{behind_feed, push_lines, text_of};
-use mvn_shared::{List, Mem, Text};
+use mvn_shared::{List, Mem, Shared, Text};
 use std::alloc::Global;
 
 /// The elements that have begun, the numbers of those that have not ended, outermost first, and whether a carriage return in
-/// text stands directly before.
+/// text stands directly before. Of the elements whose names have one slot it remembers the last, so that the next of that name
+/// shares it.
 #[derive(Drop)]
 pub(crate) struct Tree {
     pub(crate) nodes: Vec<Node>,
     pub(crate) path: Vec<u32>,
     pub(crate) returned: bool,
+    pub(crate) recent: [u32; SLOTS],
 }
 
 // A text more in an element's text, each of its line ends as a line feed.
@@ -47,6 +50,7 @@ impl Tree {
             nodes: Vec::new(alloc),
             path: Vec::new(alloc),
             returned: false,
+            recent: [0; SLOTS],
         }
     }
 
@@ -173,6 +177,30 @@ impl Tree {
         }
     }
 
+    // The element that is remembered in a slot, where it has this name.
+    #[tactic(auto, using(crate::proofs::Trees::same_name))]
+    fn remembered(&self, slot: usize, name: &str) -> Option<&Node>
+        requires { slot < 64 }
+        ensures { IfSome result (λ node. node.now.name ≡ encode_utf8_all (chars name.now)) }
+    {
+        let node = self.nodes.get(self.recent[slot] as usize)?;
+        if !is_named(node, name) {
+            return None;
+        }
+        Some(node)
+    }
+
+    // A name for an element, shared where the one that is remembered in its slot has it.
+    fn name_in(&self, alloc: Global, slot: usize, name: &str) -> Mem<Shared<Text>>
+        requires { slot < 64 }
+        ensures { IfOk result (λ copy. copy ≡ encode_utf8_all (chars name.now)) }
+    {
+        match self.remembered(slot, name) {
+            Some(node) => node.name.share(),
+            None => new_name(alloc, name),
+        }
+    }
+
     // An element begins, by its name and a text that begins with its attributes.
     #[tactic(auto, unfolding(crate::specs::Tree::begun))]
     fn begin(&mut self, alloc: Global, tag: Tag<'_>) -> Mem<()>
@@ -180,7 +208,8 @@ impl Tree {
         ensures { OnOk result (standing_of self.new ≡ begun_by tag.entry self.old) }
     {
         let number = self.nodes.len() as u32;
-        let name = text_of(alloc, tag.name)?;
+        let slot = slot_of(tag.name);
+        let name = self.name_in(alloc, slot, tag.name)?;
         let attributes = names_in(alloc, tag.attributes)?;
         self.add_to_innermost(number)?;
         self.nodes.push(Node {
@@ -190,6 +219,7 @@ impl Tree {
             children: List::new(alloc),
         })?;
         self.path.push(number)?;
+        self.recent[slot] = number;
         self.returned = false;
         Ok(())
     }

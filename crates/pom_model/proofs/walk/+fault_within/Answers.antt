@@ -18,11 +18,11 @@ returns-in-Some-2 t c =
 pub returns-in-Some-3 : goal.returns-in-Some-3
 returns-in-Some-3 t c =
     let children = c.as_slice-children.result.now in
-    within_refused c.args.depth c.args.nodes.now c.args.kind c.args.node.now children c.loop-i.i c.loop-i.read c.in-Some.inner c.in-Some.times c.in-Some.child.now c.split_at.result.0.now c.as_str.result.now c.in_ok-fault.field-0 c.in_ok-fault-2.field-0 c.in-Some-3.fault c.in_ok-under.field-0
+    within_refused c.args.depth c.args.nodes.now c.args.kind c.args.node.now children c.loop-i.i c.loop-i.read c.in-Some.inner c.in-Some.times c.in-Some.child.now c.split_at.result.0.now c.name_of.result.now c.in_ok-fault.field-0 c.in_ok-fault-2.field-0 c.in-Some-3.fault c.in_ok-under.field-0
     (record { some = c.if-depth-eq0.false; whole = c.as_slice-children.ensures; same = c.loop-i.invariant.same; counted = c.loop-i.invariant.counted })
     (record { low = c.loop-i-test.true; is = read_seen c.args.nodes.now c.args.kind _ c.in-Some.inner c.in-Some.times c.in-Some.child c.read_child.result c.in-Some.is c.read_child.ensures })
-    c.split_at.ensures.front c.in_ok-fault.ensures c.in_default-2.is c.in_ok-fault-2.ensures c.in-Some-3.is c.as_str.ensures.value
-    (c.in_ok-under.ensures ∙ ap (λ s. under s c.in-Some-3.fault) (c.as_str-in-Some-3.ensures.value ∙ c.in_ok-step.ensures))
+    c.split_at.ensures.front c.in_ok-fault.ensures c.in_default-2.is c.in_ok-fault-2.ensures c.in-Some-3.is c.name_of.ensures
+    (c.in_ok-under.ensures ∙ ap (λ s. under s c.in-Some-3.fault) (c.as_str.ensures.value ∙ c.in_ok-step.ensures))
 
 pub returns : goal.returns
 returns t c =

@@ -5,8 +5,8 @@ use crate::spelled::text_of;
 use mvn_shared::{Mem, Shared, Text};
 use std::alloc::Global;
 
-/// How many slots there are for names.
-pub(crate) const SLOTS: usize = 64;
+/// How many names are remembered. A prime number, so that each part of a key counts.
+pub(crate) const SLOTS: usize = 127;
 
 // A byte, or 0 for none.
 fn code_of(byte: Option<&u8>) -> usize
@@ -18,14 +18,21 @@ fn code_of(byte: Option<&u8>) -> usize
     }
 }
 
-/// The slot of a name, by its length and two of its bytes. The factors keep names apart that stand beside one another in
-/// dependencies and plugins; two names may have one slot.
-pub(crate) fn slot_of(name: &str) -> usize
-    ensures { result < 64 }
+/// Three bytes of a name and its length as one number, which tells most names apart.
+pub(crate) fn key_of(name: &str) -> usize
+    ensures { result < 4294967296 }
 {
     let bytes = name.as_bytes();
-    let ends = code_of(bytes.first()) * 2 + code_of(bytes.last()) * 9;
-    (ends + bytes.len() % SLOTS * 15) % SLOTS
+    let n = bytes.len();
+    let ends = code_of(bytes.first()) + code_of(bytes.last()) * 0x100;
+    ends + code_of(bytes.get(n.wrapping_sub(2))) * 0x1_0000 + n % 0x100 * 0x100_0000
+}
+
+/// The slot of a key.
+pub(crate) fn slot_of(key: usize) -> usize
+    ensures { result < 127 }
+{
+    key % SLOTS
 }
 
 /// A copy of a name, for any number of owners.

@@ -8,7 +8,7 @@ ghost use Rattle.pom_text.specs.Tree.{add_child, add_text, closes, ended, innerm
 
 use crate::attribute::names_in;
 use crate::cuts::{is_over, skip_space};
-use crate::names::{SLOTS, new_name, slot_of};
+use crate::names::{SLOTS, key_of, new_name, slot_of};
 use crate::node::Node;
 use crate::part::{Part, Tag};
 use crate::spelled::{behind_feed, push_lines, text_of};
@@ -16,13 +16,14 @@ use mvn_shared::{List, Mem, Shared, Text};
 use std::alloc::Global;
 
 /// The elements that have begun, the numbers of those that have not ended, outermost first, and whether a carriage return in
-/// text stands directly before. Of the elements whose names have one slot it remembers the last, so that the next of that name
-/// shares it.
+/// text stands directly before. Of the elements whose names have one slot it remembers the last, by the key of its name and its
+/// number, so that the next of that name shares it.
 #[derive(Drop)]
 pub(crate) struct Tree {
     pub(crate) nodes: Vec<Node>,
     pub(crate) path: Vec<u32>,
     pub(crate) returned: bool,
+    pub(crate) keys: [usize; SLOTS],
     pub(crate) recent: [u32; SLOTS],
 }
 
@@ -50,6 +51,7 @@ impl Tree {
             nodes: Vec::new(alloc),
             path: Vec::new(alloc),
             returned: false,
+            keys: [0; SLOTS],
             recent: [0; SLOTS],
         }
     }
@@ -179,10 +181,13 @@ impl Tree {
 
     // The element that is remembered in a slot, where it has this name.
     #[tactic(auto, using(crate::proofs::Trees::same_name))]
-    fn remembered(&self, slot: usize, name: &str) -> Option<&Node>
-        requires { slot < 64 }
+    fn remembered(&self, slot: usize, key: usize, name: &str) -> Option<&Node>
+        requires { slot < 127 }
         ensures { IfSome result (λ node. node.now.name ≡ encode_utf8_all (chars name.now)) }
     {
+        if self.keys[slot] != key {
+            return None;
+        }
         let node = self.nodes.get(self.recent[slot] as usize)?;
         if !is_named(node, name) {
             return None;
@@ -191,11 +196,11 @@ impl Tree {
     }
 
     // A name for an element, shared where the one that is remembered in its slot has it.
-    fn name_in(&self, alloc: Global, slot: usize, name: &str) -> Mem<Shared<Text>>
-        requires { slot < 64 }
+    fn name_in(&self, alloc: Global, slot: usize, key: usize, name: &str) -> Mem<Shared<Text>>
+        requires { slot < 127 }
         ensures { IfOk result (λ copy. copy ≡ encode_utf8_all (chars name.now)) }
     {
-        match self.remembered(slot, name) {
+        match self.remembered(slot, key, name) {
             Some(node) => node.name.share(),
             None => new_name(alloc, name),
         }
@@ -208,8 +213,9 @@ impl Tree {
         ensures { OnOk result (standing_of self.new ≡ begun_by tag.entry self.old) }
     {
         let number = self.nodes.len() as u32;
-        let slot = slot_of(tag.name);
-        let name = self.name_in(alloc, slot, tag.name)?;
+        let key = key_of(tag.name);
+        let slot = slot_of(key);
+        let name = self.name_in(alloc, slot, key, tag.name)?;
         let attributes = names_in(alloc, tag.attributes)?;
         self.add_to_innermost(number)?;
         self.nodes.push(Node {
@@ -219,6 +225,7 @@ impl Tree {
             children: List::new(alloc),
         })?;
         self.path.push(number)?;
+        self.keys[slot] = key;
         self.recent[slot] = number;
         self.returned = false;
         Ok(())

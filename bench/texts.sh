@@ -1,7 +1,7 @@
 #!/usr/bin/env bash
 # How fast texts are read, in MB/s of the built program `bench_elements`, each of 1 MiB or just below: a POM like those that
-# people write, elements in 63 others, one long text, white space, references alone, empty elements of three attributes, and
-# one comment that doesn't end. A tenth of each is measured beside it: ten times its time is what linear costs. Where xmllint
+# people write, elements in 63 others, one long text, white space, references alone, empty elements of three attributes,
+# properties that each have a name of their own, and one comment that doesn't end. A tenth of each is measured beside it: ten times its time is what linear costs. Where xmllint
 # is installed, its SAX reader runs beside it on the same bytes, and the ratio is told, in which 0.5 is half of its speed; and
 # where GNU time is, the most memory that was resident. The last lines tell what the model of a POM costs beside its text: the same
 # program reads both of a POM of dependencies, and the time of the text alone is taken off.
@@ -38,6 +38,7 @@ unfinished() { printf '<r><!--'; head -c $(($1 - 8)) /dev/zero | tr '\0' '-'; }
 
 white() { printf '<r>'; head -c $(($1 - 8)) /dev/zero | tr '\0' ' '; printf '</r>'; }
 attributes() { awk -v most="$1" 'BEGIN { printf "<r>"; for (i = 0; (i + 1) * 47 + 7 < most; i++) printf "<b name=\"one\" second=\"two\" third=\"%010d\"/>", i; printf "</r>" }'; }
+properties() { awk -v most="$1" 'BEGIN { printf "<r>\n"; for (i = 0; (i + 1) * 62 < most; i++) printf "    <some.property-%06d>value %06d</some.property-%06d>\n", i, i, i; printf "</r>" }'; }
 
 # A POM whose dependencies stand in profiles of 1,000, since a list has at most 1,024 items
 modelled() {
@@ -58,7 +59,7 @@ reader=own
 base=$(least 15)
 reader=sax
 if command -v xmllint > xmllint.path; then sax_base=$(least 15); else sax_base=; fi
-for kind in dependencies nested long white references attributes unfinished; do
+for kind in dependencies nested long white references attributes properties unfinished; do
   for most in 104857 1048576; do
     "$kind" "$most" > in
     reader=own

@@ -27,8 +27,8 @@ use name_locks::{Mode, Tried};
 use std::sync::Wait;
 use turn_lock::{Pass, Turn, TurnLock};
 
-// The board, when no other turn is out. May wait.
-fn taken<'b, W: Wait, S: Shelf>(
+/// The board, when no other turn is out: the turn of a worker begins. May wait. Project rule.
+pub fn taken<'b, W: Wait, S: Shelf>(
     rt: &W,
     lock: &TurnLock<Board<'b, S>>,
     pass: &mut Pass<Board<'b, S>>,

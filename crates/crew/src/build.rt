@@ -1,0 +1,72 @@
+// A whole build: a board is made, the crew works, and the board is finished.
+ghost use Rattle.std.specs.Prelude.{◌≡◌, ◌<◌, ℕ, length, slice_index_or, IfErr, IfOk, IfSome, List, OnErr};
+ghost use Rattle.mvn_outside.specs.Shelf.{files_now};
+ghost use Rattle.mvn_outside.specs.declared.hand.Hand.{Hand};
+ghost use Rattle.event_core.specs.SoundPlans.{IsSoundPlan};
+ghost use Rattle.event_core.specs.declared.entry.RunEntry.{RunEntry};
+ghost use Rattle.run_law.specs.Given.{IsPresent};
+ghost use Rattle.crew_stages.specs.Hands.{state_by};
+ghost use Rattle.crew.specs.Whole.{IsBuilt, IsWorkedBy};
+ghost use Rattle.crew.specs.declared.build.BuildError.TheVariants.{Memory};
+
+use crate::crew::{Crew, run_crew};
+use board::{Board, BoardError, Finished};
+use build_core::Plan;
+use mvn_outside::{Gate, Hand, Remote, Shelf};
+use std::alloc::Global;
+use std::snapshot::Snapshot;
+use std::sync::Wait;
+use std::thread::Threads;
+use turn_lock::{NewError, TurnLock};
+
+/// There was no memory to begin; the repository comes back as it was given. Project rule.
+#[derive(Drop)]
+pub enum BuildError<S> {
+    Memory(S),
+}
+
+/// Builds a plan by as many hands as it has workers, which may be one, each in a thread of its own: what the build leaves is a complete run
+/// of the plan, in which the entries of each worker fit what its hand tells, with its answers, states and publishes. Where there is no
+/// memory to begin, nothing is done. May wait. The repository isn't settled and areas aren't swept. Project rule.
+pub fn build_all<W: Threads + Wait + Sync, S: Shelf + Send, R: Remote + Send, G: Gate + Send>(
+    rt: &W,
+    alloc: Global,
+    plan: &Plan,
+    shelf: S,
+    hands: &mut [Hand<R, S::Area, G>],
+) -> Result<Finished<S>, BuildError<S>>
+where
+    S::Area: Send,
+    requires sound { IsSoundPlan plan.now }
+    requires hands { length hands.old ≡ plan.now.workers }
+    requires present { IfSome (S.told shelf) (λ told. IsPresent plan.now (files_now told)) }
+    ensures built { IfOk result (λ end. (run : List RunEntry)
+        × IsBuilt S.told S.faults plan.now shelf run end
+        × ((i : ℕ) (d : Hand R S.Area G) → i < length hands.old → IsWorkedBy plan.now
+        (S.told shelf) run i
+        (state_by R.files R.faults S.Area.contents S.Area.faults S.Area.pieces G.answers G.faults
+        (slice_index_or hands.old i d))
+        (state_by R.files R.faults S.Area.contents S.Area.faults S.Area.pieces G.answers G.faults
+        (slice_index_or hands.new i d)))) }
+    ensures err { IfErr result (λ error. error ≡ Memory shelf) }
+    ensures unused { OnErr result (hands.new ≡ hands.old) }
+{
+    let opening = Snapshot::of(&shelf);
+    let board = match Board::new(alloc, plan, shelf) {
+        Ok(board) => board,
+        Err(BoardError::Memory(shelf)) => return Err(BuildError::Memory(shelf)),
+    };
+    let (lock, pass) = match TurnLock::new(alloc, board) {
+        Ok(made) => made,
+        Err(NewError::Memory(board)) => return Err(BuildError::Memory(board.give_up())),
+    };
+    let crew = Crew {
+        plan,
+        opening,
+        alloc,
+    };
+    let pass = run_crew(rt, &lock, &crew, hands, 0, pass);
+    let board = lock.close(pass);
+    board.keeps();
+    Ok(board.finish())
+}

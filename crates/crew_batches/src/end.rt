@@ -1,0 +1,41 @@
+// A module is ended in which names are held.
+ghost use Rattle.std.specs.Prelude.{◌≡◌, Bool, [], ◌∷◌};
+ghost use Rattle.event_core.specs.Worlds.{HandTold};
+ghost use Rattle.crew_stages.specs.Hands.{IsWorked, state_by};
+ghost use Rattle.crew_turns.specs.Ends.{ends_as};
+ghost use Rattle.crew_turns.specs.Seen.{IsOf, KeepsFit, names_by};
+ghost use Rattle.crew_turns.specs.Tasks.{HasBegun};
+ghost use Rattle.crew_stages.specs.Stops.{HasEnded, MayEnd, MayStop};
+
+use board::Board;
+use build_core::Ending;
+use crew_files::make_ready;
+use crew_goals::answer_goals;
+use crew_installing::install;
+use crew_reading::gather;
+use crew_turns::{Task, end_module};
+use mvn_outside::{Gate, Hand, Remote, Shelf};
+use std::alloc::Global;
+use std::sync::Wait;
+use turn_lock::{Pass, TurnLock};
+
+/// Ends a module in which the worker holds these names: they are freed first. May wait.
+pub fn end_holding<'b, W: Wait, S: Shelf>(
+    rt: &W,
+    lock: &TurnLock<Board<'b, S>>,
+    pass: &mut Pass<Board<'b, S>>,
+    task: &Task,
+    names: &[u32],
+    ending: Ending,
+) -> Ending
+    requires of { IsOf task.now.plan lock.now task.now.worker pass.old }
+    requires held { names_by task.now.plan task.now.worker pass.old ≡ names.now }
+    requires may { MayEnd task.now ending pass.old }
+    ensures ended { HasEnded task.now lock.now result pass.old pass.new }
+    ensures settled { (marked : Bool) × (result ≡ ends_as ending marked) }
+    ensures fits { (told : HandTold) → MayStop task.now told ending pass.old
+        → KeepsFit task.now.plan task.now.worker told pass.old pass.new }
+{
+    free_all(rt, lock, pass, task, names);
+    end_module(rt, lock, pass, task, ending)
+}

@@ -1,0 +1,4 @@
+//! A module's goals are asked in order, and their answers kept.
+#![tactic(auto)]
+
+pub mod goals;

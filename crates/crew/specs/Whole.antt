@@ -6,7 +6,7 @@ use Rattle.mvn_outside.specs.declared.shelf.ShelfTold.{ShelfTold}
 use Rattle.board.specs.Logs.{AreCarried, shelf_endings, told_after}
 use Rattle.board.specs.declared.board.Finished.{Finished}
 use Rattle.build_core.specs.declared.plan.Plan.{Plan}
-use Rattle.event_core.specs.Runs.{IsComplete, IsRunOf, answers_in, events_of}
+use Rattle.event_core.specs.Runs.{IsComplete, IsQuiet, IsRunOf, answers_in, events_of}
 use Rattle.event_core.specs.declared.entry.RunEntry.{RunEntry}
 use Rattle.run_law.specs.Given.{states_after}
 use Rattle.worker_law.specs.Hands.{OwnFit}
@@ -24,6 +24,7 @@ pub record IsBuilt {S : Type 0} (told : S → Option ShelfTold) (faults : S → 
   pub publishes : told left.shelf ≡ told_after plan run (told opening)
   pub carried : AreCarried (is_some (told opening)) run
   pub caused : IfSome (told opening) (λ t. RoseBy (shelf_endings run) (faults opening) (faults left.shelf))
+  pub calm : IsQuiet run → faults left.shelf ≡ faults opening
 
 -- the worker's entries in the run fit what its hand told, and its hand was worked with as its modules ended
 pub record IsWorkedBy (plan : Plan) (opening : Option ShelfTold) (run : List RunEntry) (worker : ℕ) (before now : HandState) : Type 0 where

@@ -23,7 +23,8 @@ ghost use Rattle.crew_stages.specs.Stages.{HasAnswered};
 ghost use Rattle.crew_events.specs.Looked.{LooksBehind};
 
 use board::{AnswerKept, Board};
-use crew_turns::{Task, first_absent, taken};
+use crew_turns::turns::taken;
+use crew_turns::{Task, first_absent};
 use goal_types::{GoalAnswer, Slot};
 use mvn_outside::{DeviceFault, ReadFault, Shelf};
 use mvn_shared::{Bytes, Mem};

@@ -2,3 +2,5 @@
 #![tactic(auto)]
 
 pub mod goals;
+
+pub use goals::answer_goals;

@@ -8,19 +8,22 @@ ghost use Rattle.mvn_outside.specs.declared.fault.ReadFault.TheVariants.{TooLarg
 ghost use Rattle.build_core.specs.OneThread.{instead_of, name_of, output_of};
 ghost use Rattle.build_core.specs.declared.event.Event.TheVariants as event;
 ghost use Rattle.event_core.specs.Enabled.{is_due};
+ghost use Rattle.event_core.specs.Runs.{module_by};
 ghost use Rattle.event_core.specs.Worlds.{FitsAnswer, HandTold};
 ghost use Rattle.event_core.specs.declared.deed.Deed.TheVariants as deed;
 ghost use Rattle.event_core.specs.declared.entry.Carried.TheVariants as carried;
-ghost use Rattle.board.specs.Builds.{answer_kept};
 ghost use Rattle.run_law.specs.Given.{outputs_after};
-ghost use Rattle.crew_turns.specs.Seen.{AlwaysFits, IsOf, KeepsFit, Sees, Steps, course_by, seen_by, there_by};
-ghost use Rattle.crew_stages.specs.Stages.{HasAnswered};
+ghost use Rattle.board.specs.Builds.{answer_kept, standing_at};
 ghost use Rattle.crew_laws.specs.Absent.{IsFirstAbsent};
+ghost use Rattle.crew_turns.specs.Seen.{AlwaysFits, IsOf, KeepsFit, Sees, Steps, course_by, seen_by, there_by};
 ghost use Rattle.crew_turns.specs.Tasks.{stood_by};
-ghost use Rattle.crew_stages.specs.Pieces.{FitsPiece};
 ghost use Rattle.crew_stages.specs.Asked.{goals_with};
+ghost use Rattle.crew_stages.specs.Pieces.{FitsPiece};
+ghost use Rattle.crew_stages.specs.Stages.{HasAnswered};
+ghost use Rattle.crew_events.specs.Looked.{LooksBehind};
 
 use board::{AnswerKept, Board};
+use crew_turns::turns::taken;
 use crew_turns::{Task, first_absent};
 use goal_types::{GoalAnswer, Slot};
 use mvn_outside::{DeviceFault, ReadFault, Shelf};
@@ -28,7 +31,9 @@ use mvn_shared::{Bytes, Mem};
 use std::sync::Wait;
 use turn_lock::{Pass, Turn, TurnLock};
 
-/// Reads a file that is due, of at most `limit` bytes: a turn, with that event where the bytes come. May wait.
+/// Reads a file that is due, of at most `limit` bytes: a turn, with that event where the bytes come. The bytes are those that the
+/// repository has by the log; of a file with more than `limit` nothing is read. An `Err` is no event. May wait for the turn. Costs what
+/// the repository's read costs. Introduction to the Dependency Mechanism, for what is read; project rule for the turn.
 pub fn read_file<'b, W: Wait, S: Shelf>(
     rt: &W,
     lock: &TurnLock<Board<'b, S>>,
@@ -38,6 +43,7 @@ pub fn read_file<'b, W: Wait, S: Shelf>(
     limit: u64,
 ) -> Result<Bytes, ReadFault>
     requires of { IsOf task.now.plan lock.now task.now.worker pass.old }
+    requires file { file < length task.now.plan.files }
     requires due { is_due (course_by task.now.plan task.now.worker pass.old)
         (deed.Read file) ≡ true }
     ensures ok { OnOk result (Steps task.now.plan lock.now task.now.worker
@@ -51,13 +57,15 @@ pub fn read_file<'b, W: Wait, S: Shelf>(
         (file_at files (name_of task.now.plan file)) (λ bytes. limit < length bytes))) }
     ensures fits { AlwaysFits task.now.plan task.now.worker pass.old pass.new }
 {
-    let Turn { mut value } = lock.take(rt, pass);
+    let mut value = taken(rt, lock, pass);
     let read = value.read(task.worker, file, limit);
+    value.keeps();
     lock.give(pass, Turn { value });
     read
 }
 
-/// A copy of what an upstream keeps in a slot, or in the slot that stands for it: a turn without an event. May wait.
+/// A copy of what an upstream keeps in a slot, or in the slot that stands for it: a turn without an event. May wait for the turn. Costs
+/// the bytes. Guide to Working with Multiple Modules; project rule for the slots.
 pub fn copy_output<'b, W: Wait, S: Shelf>(
     rt: &W,
     lock: &TurnLock<Board<'b, S>>,
@@ -72,7 +80,7 @@ pub fn copy_output<'b, W: Wait, S: Shelf>(
         ≡ output_of (outputs_after task.now.plan (seen_by pass.new) number) slot) }
     ensures fits { AlwaysFits task.now.plan task.now.worker pass.old pass.new }
 {
-    let Turn { value } = lock.take(rt, pass);
+    let value = taken(rt, lock, pass);
     let copied = output_in(&value, number, slot);
     lock.give(pass, Turn { value });
     copied
@@ -100,8 +108,24 @@ fn instead_of(slot: Slot) -> Slot
     }
 }
 
+// A look for the first of some files, from a place on, that isn't there, behind a publish.
+fn look_behind<S: Shelf>(
+    board: &Board<S>,
+    published: Result<(), DeviceFault>,
+    files: &[u32],
+    from: usize,
+) -> Result<Option<usize>, DeviceFault>
+    ensures { LooksBehind (standing_at board.now).there files.now from published result }
+{
+    match published {
+        Ok(()) => Ok(first_absent(board, files, from)),
+        Err(fault) => Err(fault),
+    }
+}
+
 /// Publishes a sealed piece as a file that is due: a turn, with that event where the repository takes it; and in the same turn a look for
-/// the first file of the fetch list, from a place on, that isn't there. An `Err` is no event. May wait.
+/// the first file of the fetch list, from a place on, that isn't there. An `Err` is no event, and leaves the piece. May wait for the
+/// turn. Costs what the repository's publish costs, and a look at each file. Project rule.
 pub fn publish_piece<'b, W: Wait, S: Shelf>(
     rt: &W,
     lock: &TurnLock<Board<'b, S>>,
@@ -113,6 +137,8 @@ pub fn publish_piece<'b, W: Wait, S: Shelf>(
     from: usize,
 ) -> Result<Option<usize>, DeviceFault>
     requires of { IsOf task.now.plan lock.now task.now.worker pass.old }
+    requires whose { module_by task.now.plan (seen_by pass.old) task.now.worker
+        ≡ Some task.now.number }
     requires due { is_due (course_by task.now.plan task.now.worker pass.old)
         (deed.Publish file) ≡ true }
     requires sealed { map.get (S.Area.pieces area.old) piece ≡ Some true }
@@ -131,17 +157,17 @@ pub fn publish_piece<'b, W: Wait, S: Shelf>(
         × (S.Area.contents area.new ≡ S.Area.contents area.old)) }
     ensures area { S.Area.faults area.new ≡ S.Area.faults area.old }
 {
-    let Turn { mut value } = lock.take(rt, pass);
-    let published = match value.publish(task.worker, file, area, piece) {
-        Ok(()) => Ok(first_absent(&value, task.unit.fetch.as_slice(), from)),
-        Err(DeviceFault::Failed) => Err(DeviceFault::Failed),
-        Err(DeviceFault::Memory) => Err(DeviceFault::Memory),
-    };
+    let mut value = taken(rt, lock, pass);
+    let published = value.publish(task.worker, file, area, piece);
+    value.keeps();
+    let looked = look_behind(&value, published, task.unit.fetch.as_slice(), from);
     lock.give(pass, Turn { value });
-    published
+    looked
 }
 
-/// Keeps what a goal answered: a turn with that event. Says whether its output is kept within the module's budget. May wait.
+/// Keeps what the module's next goal answered: a turn with that event. Says whether its output is kept within the module's budget. May
+/// wait for the turn. Costs a look at each goal of the module, and copies no bytes. Introduction to the Build Lifecycle, for the order
+/// of goals; project rule for the budget.
 pub fn keep_answer<'b, W: Wait, S: Shelf>(
     rt: &W,
     lock: &TurnLock<Board<'b, S>>,
@@ -162,8 +188,9 @@ pub fn keep_answer<'b, W: Wait, S: Shelf>(
         → FitsAnswer (stood_by task.now pass.old) told goal (carried.Answered answer)
         → KeepsFit task.now.plan task.now.worker told pass.old pass.new }
 {
-    let Turn { mut value } = lock.take(rt, pass);
+    let mut value = taken(rt, lock, pass);
     let kept = value.answer(task.worker, goal, answer);
+    value.keeps();
     lock.give(pass, Turn { value });
     kept
 }

@@ -3,3 +3,6 @@
 
 pub mod events;
 pub mod staging;
+
+pub use events::{copy_output, keep_answer, publish_piece, read_file};
+pub use staging::{publish_end, stage_bytes};

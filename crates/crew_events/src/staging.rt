@@ -1,31 +1,17 @@
 // Bytes are staged as a sealed piece, and what a failed device ends a module with.
-ghost use Rattle.std.specs.Prelude.{◌≡◌, ◌<◌, true, None, Some, is_some, length, Option, IfErr, IfOk, IfSome};
+ghost use Rattle.std.specs.Prelude.{◌≡◌, true, None, is_some, IfErr, IfOk};
 ghost use Rattle.std.specs.FinMap as map;
 ghost use Rattle.mvn_shared.specs.Cause.{HasCause};
-ghost use Rattle.build_core.specs.OneThread.{name_of, remote_bytes};
 ghost use Rattle.build_core.specs.declared.ending.Device.TheVariants as device;
-ghost use Rattle.build_core.specs.declared.ending.Ending.TheVariants.{Missing};
 ghost use Rattle.local_repo.specs.Staged.{staged};
-ghost use Rattle.name_locks.specs.declared.mode.Mode.TheVariants.{Exclusive};
-ghost use Rattle.crew_stages.specs.Endings.{IsFetchEnd, IsStageEnd, fails_by, is_quiet_end, publish_end};
-ghost use Rattle.crew_stages.specs.Hands.{IsFetchedBy, Test, told_by};
-ghost use Rattle.crew_turns.specs.Seen.{Follows, IsOf, KeepsFit, names_by};
-ghost use Rattle.crew_turns.specs.Tasks.{HasBegun};
-ghost use Rattle.crew_stages.specs.Stages.{IsReading, IsTaken, LacksFile};
-ghost use Rattle.crew_stages.specs.Stops.{MayStop};
+ghost use Rattle.crew_stages.specs.Endings.{IsStageEnd, fails_by, publish_end};
 
-use board::Board;
 use build_core::{Device, Ending};
-use crew_batches::{free_all, take_batch};
-use crew_turns::Task;
 use local_repo::stage;
-use mvn_outside::{Area, DeviceFault, ReadFault, Remote, Shelf};
-use mvn_shared::Bytes;
-use name_locks::Mode;
-use std::sync::Wait;
-use turn_lock::{Pass, TurnLock};
+use mvn_outside::{Area, DeviceFault};
 
-/// A new sealed piece with these bytes; or how the module ends that needs it.
+/// A new sealed piece with these bytes; or how the module ends that needs it: by a fault of its area, or for want of memory. Costs what
+/// the area's appends cost. Project rule.
 pub fn stage_bytes<A: Area>(area: &mut A, bytes: &[u8]) -> Result<u64, Ending>
     ensures fresh { IfOk result (λ piece. map.get (A.pieces area.old) piece ≡ None) }
     ensures sealed { IfOk result (λ piece.
@@ -43,7 +29,7 @@ pub fn stage_bytes<A: Area>(area: &mut A, bytes: &[u8]) -> Result<u64, Ending>
     }
 }
 
-/// What a failed publish ends the module with.
+/// What a failed publish ends the module with: a fault of the repository, or want of memory. Constant time. Project rule.
 pub fn publish_end(fault: DeviceFault) -> Ending
     ensures { result ≡ publish_end fault }
 {

@@ -43,6 +43,7 @@ pub fn read_file<'b, W: Wait, S: Shelf>(
     limit: u64,
 ) -> Result<Bytes, ReadFault>
     requires of { IsOf task.now.plan lock.now task.now.worker pass.old }
+    requires file { file < length task.now.plan.files }
     requires due { is_due (course_by task.now.plan task.now.worker pass.old)
         (deed.Read file) ≡ true }
     ensures ok { OnOk result (Steps task.now.plan lock.now task.now.worker

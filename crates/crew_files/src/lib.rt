@@ -2,3 +2,6 @@
 #![tactic(auto)]
 
 pub mod fetching;
+pub mod pieces;
+
+pub use fetching::make_ready;

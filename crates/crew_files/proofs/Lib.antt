@@ -1,0 +1,6 @@
+mod Fitting
+mod Lasting
+mod Leaving
+mod Placing
+mod Staging
+mod Stopping

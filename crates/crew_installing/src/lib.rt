@@ -2,3 +2,5 @@
 #![tactic(auto)]
 
 pub mod installing;
+
+pub use installing::install;

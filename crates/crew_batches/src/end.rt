@@ -1,25 +1,20 @@
 // A module is ended in which names are held.
-ghost use Rattle.std.specs.Prelude.{◌≡◌, Bool, [], ◌∷◌};
+ghost use Rattle.std.specs.Prelude.{◌≡◌, Bool};
 ghost use Rattle.event_core.specs.Worlds.{HandTold};
-ghost use Rattle.crew_stages.specs.Hands.{IsWorked, state_by};
 ghost use Rattle.crew_turns.specs.Ends.{ends_as};
 ghost use Rattle.crew_turns.specs.Seen.{IsOf, KeepsFit, names_by};
-ghost use Rattle.crew_turns.specs.Tasks.{HasBegun};
 ghost use Rattle.crew_stages.specs.Stops.{HasEnded, MayEnd, MayStop};
 
+use crate::batch::free_all;
 use board::Board;
 use build_core::Ending;
-use crew_files::make_ready;
-use crew_goals::answer_goals;
-use crew_installing::install;
-use crew_reading::gather;
 use crew_turns::{Task, end_module};
-use mvn_outside::{Gate, Hand, Remote, Shelf};
-use std::alloc::Global;
+use mvn_outside::Shelf;
 use std::sync::Wait;
 use turn_lock::{Pass, TurnLock};
 
-/// Ends a module in which the worker holds these names: they are freed first. May wait.
+/// Ends a module in which the worker holds these names: they are freed first. The answer is how it ended. May wait. Costs a turn for each
+/// name, and one. Project rule.
 pub fn end_holding<'b, W: Wait, S: Shelf>(
     rt: &W,
     lock: &TurnLock<Board<'b, S>>,
@@ -36,6 +31,8 @@ pub fn end_holding<'b, W: Wait, S: Shelf>(
     ensures fits { (told : HandTold) → MayStop task.now told ending pass.old
         → KeepsFit task.now.plan task.now.worker told pass.old pass.new }
 {
+    // Read so that the task's invariant is known: it is a module of its plan.
+    let _number = task.number;
     free_all(rt, lock, pass, task, names);
     end_module(rt, lock, pass, task, ending)
 }

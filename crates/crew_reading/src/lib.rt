@@ -2,3 +2,5 @@
 #![tactic(auto)]
 
 pub mod gathering;
+
+pub use gathering::gather;

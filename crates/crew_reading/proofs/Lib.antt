@@ -1,0 +1,4 @@
+pub mod Entries
+pub mod Leaving
+pub mod Repeats
+pub mod Standings

@@ -63,7 +63,7 @@ caused_less : (told : Option ShelfTold) (before now : ℕ) (log : List RunEntry)
 caused_less None before now log marks is = tt
 caused_less (Some t) before now log marks is = rose_less (shelf_endings log) (marked marks) before now is
 
-module _ {S : Type 0} (told : S → Option ShelfTold) (faults : S → ℕ) (plan : Plan) (shelf : S) (b : Build S) (left : Finished S) (fixed : Some (opened_of told faults b) ≡ Some (opened_by told faults plan shelf)) where
+module _ {S : Type 0} (told : S → Option ShelfTold) (faults : S → ℕ) (plan : Plan) (shelf : S) (b : Build S) (fixed : Some (opened_of told faults b) ≡ Some (opened_by told faults plan shelf)) where
   same : opened_of told faults b ≡ opened_by told faults plan shelf
   same = ap (λ (x : Option Opened). option_map_or (λ o. o) x (opened_of told faults b)) fixed
 
@@ -77,11 +77,11 @@ module _ {S : Type 0} (told : S → Option ShelfTold) (faults : S → ℕ) (plan
   faults_same = ap (λ (o : Opened). o.faults) same
 
   -- what is left is the run's
-  pub built : IsRunOf b.plan b.log → IsComplete plan b.log → told b.shelf ≡ told_after b.plan b.log (told b.opening) → AreCarried (is_some (told b.opening)) b.log
+  pub built : (left : Finished S) → IsRunOf b.plan b.log → IsComplete plan b.log → told b.shelf ≡ told_after b.plan b.log (told b.opening) → AreCarried (is_some (told b.opening)) b.log
       → AreCaused (told b.opening) (faults b.opening) (faults b.shelf) b.log b.marks
       → left.shelf ≡ b.shelf → left.trace ≡ events_of b.log → left.answers ≡ answers_in b.plan b.log → left.states ≡ states_after b.plan b.log → (IsQuiet b.log → faults left.shelf ≡ faults b.opening)
       → IsBuilt told faults plan shelf b.log left
-  built run complete tells carried caused shelf_is trace answers states calm = record {
+  built left run complete tells carried caused shelf_is trace answers states calm = record {
     follows = subst (λ p. IsRunOf p b.log) same_plan run;
     complete = complete;
     trace = trace;

@@ -2,6 +2,7 @@
 use Rattle.std.proofs.Common.{◌≡◌, ℕ, ◌+◌, ◌-◌, ◌/◌, ◌<◌, ◌≤◌, Bool, true, false, nat_le, List, [], ◌∷◌, ◌++◌, drop, length, Option, Some, None, option_and_then, option_map, if◌then◌else◌, refl, arith, sym, ap, subst, ◌∙◌}
 use Rattle.std.proofs.lemmas.List.{append-nil}
 use Rattle.mvn_outside.specs.Shelf.{files_now}
+use Rattle.build_core.specs.declared.plan.Plan.{Plan}
 use Rattle.event_core.specs.declared.entry.RunEntry.{RunEntry}
 use Rattle.event_core.specs.Runs.{IsComplete, IsRunOf, module_by}
 use Rattle.event_core.specs.SoundPlans.{IsSoundPlan}
@@ -184,3 +185,10 @@ ready_first opened lock count pass sound own is all =
       over = record { fixed = ap (λ v. v.fixed) is; sound = sound; run = subst (IsRunOf opened.plan) (sym seen) tt };
       fresh = λ k from to. ap (entries_of role k) seen;
     }
+
+-- as many hands as a plan has workers: one at least, and few
+pub some_hand : (plan : Plan) (count : ℕ) → IsSoundPlan plan → count ≡ plan.workers → 0 < count
+some_hand plan count sound all = let least = sound.workers.0 in omega (arith, least, all)
+
+pub few_hands : (plan : Plan) (count : ℕ) → IsSoundPlan plan → count ≡ plan.workers → 0 + count < 4294967296
+few_hands plan count sound all = let most = sound.workers.1 in omega (arith, most, all)

@@ -61,7 +61,7 @@ fn finished<'a, S: Shelf>(
 ) -> Finished<S>
     requires { IsDone (opened_by S.told S.faults crew.now.plan.now crew.now.opening.value)
         lock 0 crew.now.plan.now.workers pass }
-    ensures { (run : List RunEntry) × (run ≡ seen_by pass) × IsRunOf crew.now.plan.now run
+    ensures { (run : List RunEntry) × (run ≡ seen_by pass.entry) × IsRunOf crew.now.plan.now run
         × IsBuilt S.told S.faults crew.now.plan.now crew.now.opening.value run result }
 {
     let board = lock.close(pass);

@@ -27,7 +27,7 @@ returns g c =
       b.log,
       c.close-board.ensures.log,
       subst (λ p. IsRunOf p b.log) same c.keeps.ensures.run,
-      built g.S.Shelf.told g.S.Shelf.faults plan shelf b c.finish.result fixed c.keeps.ensures.run
+      built g.S.Shelf.told g.S.Shelf.faults plan shelf b fixed c.finish.result c.keeps.ensures.run
           (subst (IsComplete plan) (sym c.close-board.ensures.log) c.requires.complete)
           c.keeps.ensures.told c.keeps.ensures.carried c.keeps.ensures.caused c.finish.ensures.shelf c.finish.ensures.trace c.finish.ensures.answers c.finish.ensures.states c.finish.ensures.calm,
     )

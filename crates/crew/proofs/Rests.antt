@@ -1,5 +1,5 @@
 -- Passes of a crew, before the work and behind it, cut in two and made one.
-use Rattle.std.proofs.Common.{◌≡◌, ℕ, ◌+◌, ◌-◌, ◌/◌, ◌<◌, ◌≤◌, Bool, true, false, nat_le, List, [], ◌∷◌, ◌++◌, drop, length, Option, Some, None, option_and_then, option_map, if◌then◌else◌, refl, arith, sym, ap, subst, ◌∙◌}
+use Rattle.std.proofs.Common.{◌≡◌, ℕ, ◌+◌, ◌-◌, ◌/◌, ◌<◌, Bool, true, false, nat_le, List, [], drop, length, None, option_and_then, option_map, if◌then◌else◌, refl, arith, sym, ap, subst, ◌∙◌}
 use Rattle.std.proofs.lemmas.List.{append-nil}
 use Rattle.mvn_outside.specs.Shelf.{files_now}
 use Rattle.build_core.specs.declared.plan.Plan.{Plan}
@@ -23,7 +23,7 @@ use Rattle.crew_stages.specs.Endings.{endings_of, endings_since}
 use Rattle.crew_stages.specs.Hands.{HandState, IsWorked}
 use Rattle.crew_turns.proofs.Logs.{behind}
 use Rattle.crew_turns.specs.Seen.{FitsHand, Follows, IsOf, Told, seen_by, start_by, view}
-use Rattle.crew.specs.Crews.{HasLeft, IsDone, IsOver, IsReady, start_of}
+use Rattle.crew.specs.Crews.{HasLeft, IsDone, IsReady}
 
 -- ---- one worker
 

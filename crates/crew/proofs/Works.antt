@@ -1,12 +1,10 @@
 -- A worker between two modules: what it knows of its pass, and what its hand is left as.
-use Rattle.std.proofs.Common.{◌≡◌, ℕ, List, [], ◌∷◌, ◌++◌, None, length, drop, refl, sym, ap, subst, ◌∙◌}
+use Rattle.std.proofs.Common.{◌≡◌, ℕ, [], ◌∷◌, ◌++◌, None, length, drop, refl, sym, ap, subst, ◌∙◌}
 use Rattle.std.proofs.lemmas.List.{append-nil}
 use Rattle.build_core.specs.declared.ending.Ending.{Ending}
-use Rattle.build_core.specs.declared.event.Event.TheVariants as event
 use Rattle.build_core.specs.declared.plan.Plan.{Plan}
-use Rattle.event_core.specs.declared.entry.RunEntry.{RunEntry}
-use Rattle.event_core.specs.Runs.{module_by, standing_of_run}
-use Rattle.event_core.specs.Standing.{course_of, module_of}
+use Rattle.event_core.specs.Runs.{module_by}
+use Rattle.event_core.specs.Standing.{module_of}
 use Rattle.atomic_table.specs.Seated.{TableId}
 use Rattle.worker_law.proofs.Staying.{course_stays}
 use Rattle.crew_modules.proofs.Ended.{follows_all, sees_ends_none, since_more, start_ends_none}
@@ -14,7 +12,7 @@ use Rattle.crew_stages.proofs.Counting.{since, worked_more, worked_none}
 use Rattle.crew_stages.specs.Endings.{endings_of, endings_since}
 use Rattle.crew_stages.specs.Hands.{HandState, IsWorked}
 use Rattle.crew_stages.specs.Stops.{HasEnded}
-use Rattle.crew_turns.specs.Seen.{AlwaysFits, FitsHand, Follows, IsOf, KeepsFit, Sees, Steps, Told, seen_by, view}
+use Rattle.crew_turns.specs.Seen.{AlwaysFits, FitsHand, Follows, IsOf, KeepsFit, Sees, Told, seen_by, view}
 use Rattle.crew_turns.specs.Tasks.{ModuleTask}
 use Rattle.crew_turns.specs.Turned.{HasStarted}
 use Rattle.crew.specs.Between.{IsBetween}

@@ -1,8 +1,7 @@
 -- What a hand is left as by a module, stage by stage.
-use Rattle.std.proofs.Common.{◌≡◌, ℕ, ◌+◌, ◌≤◌, Bool, true, false, List, [], ◌∷◌, length, filter, Option, None, Some, is_some, Result, Ok, Err, refl, arith, sym, ap, subst, ◌∙◌, if◌then◌else◌}
-use Rattle.std.specs.List.{list_all}
+use Rattle.std.proofs.Common.{◌≡◌, ℕ, Bool, true, false, [], ◌∷◌, length, Option, None, Some, is_some, refl, arith, sym, ap, subst, ◌∙◌, if◌then◌else◌}
 use Rattle.std.proofs.lemmas.Bool.{false≢true}
-use Rattle.mvn_shared.specs.Cause.{HasCause, HasRisen, RoseBy}
+use Rattle.mvn_shared.specs.Cause.{HasCause}
 use Rattle.mvn_shared.specs.Files.{Files}
 use Rattle.mvn_outside.specs.Pieces.{Contents, Pieces}
 use Rattle.mvn_outside.specs.declared.hand.Hand.{Hand}
@@ -11,7 +10,6 @@ use Rattle.build_core.specs.declared.ending.Device.TheVariants as device
 use Rattle.build_core.specs.declared.ending.Ending.{Ending}
 use Rattle.build_core.specs.declared.ending.Ending.TheVariants as ending
 use Rattle.event_core.proofs.Climbs.{both}
-use Rattle.run_law.proofs.Basics.{and_is}
 use Rattle.crew_stages.specs.Endings.{faults_of, is_fault_of, is_gather_end, is_goal_end, is_install_end, is_quiet_end}
 use Rattle.crew_stages.specs.Hands.{HandState, IsAreaLeft, IsCounted, IsFetchedBy, IsWorked, Test, state_by}
 use Rattle.crew_turns.specs.Ends.{ends_as}

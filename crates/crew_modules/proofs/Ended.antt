@@ -1,7 +1,7 @@
 -- When a worker's module has ended, and what a worker's endings are behind its turns.
-use Rattle.std.proofs.Common.{◌≡◌, ℕ, Bool, true, false, not, nat_eq, List, [], ◌∷◌, ◌++◌, drop, length, Option, Some, None, refl, sym, ap, subst, ◌∙◌, if◌then◌else◌}
+use Rattle.std.proofs.Common.{◌≡◌, ℕ, Bool, true, false, not, nat_eq, List, [], ◌∷◌, ◌++◌, drop, length, Some, None, refl, sym, ap, subst, ◌∙◌, if◌then◌else◌}
 use Rattle.std.specs.List.{cons_option, list_all}
-use Rattle.std.proofs.lemmas.Bool.{eqb-true, false≢true}
+use Rattle.std.proofs.lemmas.Bool.{false≢true}
 use Rattle.std.proofs.lemmas.List.{append-nil, append_assoc}
 use Rattle.std.proofs.Math.Seq.{drop-append_seam}
 use Rattle.build_core.specs.declared.ending.Ending.{Ending}
@@ -10,7 +10,6 @@ use Rattle.build_core.specs.declared.event.Event.TheVariants as event
 use Rattle.build_core.specs.declared.plan.Plan.{Plan}
 use Rattle.event_core.specs.declared.entry.RunEntry.{RunEntry}
 use Rattle.event_core.specs.Runs.{IsRunOf, module_by}
-use Rattle.event_core.specs.Worlds.{FitsEnd, HandTold}
 use Rattle.event_core.proofs.Climbs.{both}
 use Rattle.event_core.proofs.Fits.{fold_more}
 use Rattle.atomic_table.specs.Seated.{TableId}
@@ -23,7 +22,7 @@ use Rattle.crew_stages.specs.Endings.{ending_of, endings_of, endings_since}
 use Rattle.crew_stages.specs.Stops.{HasEnded}
 use Rattle.crew_turns.proofs.Opening.{open_is}
 use Rattle.crew_turns.proofs.Taken.{itself}
-use Rattle.crew_turns.specs.Seen.{Follows, IsOf, Sees, Steps, Told, seen_by, view}
+use Rattle.crew_turns.specs.Seen.{Follows, IsOf, Sees, Steps, Told, seen_by}
 use Rattle.crew_turns.specs.Tasks.{ModuleTask}
 
 -- ---- logs

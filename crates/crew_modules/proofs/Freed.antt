@@ -1,5 +1,5 @@
 -- A batch is freed whose files are read: then the module's goals come, and its classpath is what it was.
-use Rattle.std.proofs.Common.{◌≡◌, ℕ, ◌≤◌, Bool, true, false, List, [], ◌∷◌, ◌++◌, drop, length, map, take, slice_get, Option, Some, None, IfSome, option_and_then, refl, arith, sym, ap, subst, ◌∙◌, if◌then◌else◌}
+use Rattle.std.proofs.Common.{◌≡◌, ℕ, Bool, true, false, List, [], ◌∷◌, ◌++◌, drop, length, map, take, Option, Some, None, IfSome, option_and_then, refl, arith, sym, ap, subst, ◌∙◌, if◌then◌else◌}
 use Rattle.std.specs.List.{list_all}
 use Rattle.std.proofs.Math.Seq.{take-length}
 use Rattle.std.specs.Option.{option_map}
@@ -10,7 +10,6 @@ use Rattle.goal_types.specs.declared.goal.PathEntry.{PathEntry}
 use Rattle.name_locks.specs.Locks.{below}
 use Rattle.name_locks.specs.declared.mode.Mode.TheVariants.{Exclusive}
 use Rattle.build_core.specs.OneThread.{path_entry}
-use Rattle.build_core.specs.declared.plan.Plan.{Plan}
 use Rattle.event_core.specs.declared.entry.RunEntry.{RunEntry}
 use Rattle.event_core.specs.declared.outline.ModuleOutline.{ModuleOutline}
 use Rattle.event_core.specs.declared.outline.Outline.{Outline}
@@ -18,8 +17,8 @@ use Rattle.event_core.specs.declared.script_place.ScriptPlace.TheVariants as pla
 use Rattle.event_core.specs.Outlines.{files_read}
 use Rattle.event_core.specs.Runs.{IsRunOf, contents, module_by, outputs_in, standing_of_run}
 use Rattle.event_core.specs.ScriptPlaces.{rest_of}
-use Rattle.event_core.specs.Scripts.{Script, answer_script, answers, answers_left, frees, install_script, is_there, read_script, reads, release_script, settled, step, steps, takes, own_script, whole}
-use Rattle.event_core.specs.Standing.{Course, after_free, is_empty, module_of, on_course}
+use Rattle.event_core.specs.Scripts.{answer_script, answers, answers_left, frees, install_script, is_there, reads, release_script, settled, step, steps, takes, own_script, whole}
+use Rattle.event_core.specs.Standing.{after_free, is_empty, module_of, on_course}
 use Rattle.event_core.specs.Worlds.{IsWithin, is_good, stood}
 use Rattle.event_core.proofs.Climbs.{both}
 use Rattle.run_law.proofs.Basics.{and_is}
@@ -28,9 +27,8 @@ use Rattle.worker_law.specs.Others.{HasAll}
 use Rattle.atomic_table.specs.Seated.{TableId}
 use Rattle.crew_laws.proofs.Answering.{begun}
 use Rattle.crew_laws.proofs.Ending.{within}
-use Rattle.crew_laws.proofs.Orders.{AreInOrder, read_left, settled_order}
+use Rattle.crew_laws.proofs.Orders.{read_left}
 use Rattle.crew_laws.proofs.Settling.{late}
-use Rattle.crew_laws.specs.Placed.{IsPlacedAt}
 use Rattle.crew_paths.specs.Parts.{IsPart}
 use Rattle.crew_stages.specs.Paths.{IsPath}
 use Rattle.crew_stages.specs.Stages.{HasAnswered, IsReading}

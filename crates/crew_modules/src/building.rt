@@ -4,7 +4,7 @@ ghost use Rattle.crew_stages.specs.Hands.{IsWorked, state_by};
 ghost use Rattle.crew_stages.specs.Paths.{IsPath};
 ghost use Rattle.crew_stages.specs.Stages.{HasAnswered, IsReading};
 ghost use Rattle.crew_stages.specs.Stops.{HasEnded};
-ghost use Rattle.crew_turns.specs.Seen.{IsOf, KeepsFit, names_by};
+ghost use Rattle.crew_turns.specs.Seen.{IsOf, KeepsFit};
 ghost use Rattle.crew_turns.specs.Tasks.{HasBegun};
 
 use board::Board;

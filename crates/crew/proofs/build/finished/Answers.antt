@@ -1,4 +1,4 @@
-use Rattle.std.proofs.Common.{◌≡◌, Some, subst, sym, ap, ◌∙◌}
+use Rattle.std.proofs.Common.{subst, sym, ◌∙◌}
 use Rattle.event_core.specs.Runs.{IsComplete, IsRunOf}
 use Rattle.crew.proofs.Closing.{built, same_plan}
 use Rattle.crew.proofs.build.finished.Goals as goal

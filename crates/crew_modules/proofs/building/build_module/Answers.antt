@@ -1,4 +1,4 @@
-use Rattle.std.proofs.Common.{◌≡◌, ◌∷◌, [], None, is_some, refl, sym, ap, subst, ◌∙◌}
+use Rattle.std.proofs.Common.{◌∷◌, [], None, refl, sym, ap, subst, ◌∙◌}
 use Rattle.event_core.specs.Standing.{module_of}
 use Rattle.crew_modules.proofs.Counts.{not_ready, ready}
 use Rattle.crew_modules.proofs.Ended.{ended_later}

@@ -2,6 +2,9 @@
 #![tactic(auto)]
 
 pub mod build;
-pub mod building;
-pub mod crew;
+pub mod halves;
 pub mod worker;
+
+pub use build::{BuildError, build_all};
+pub use halves::{Crew, run_crew};
+pub use worker::work_on;

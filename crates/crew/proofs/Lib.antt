@@ -1,0 +1,4 @@
+pub mod Closing
+pub mod Rests
+pub mod Sharing
+pub mod Works

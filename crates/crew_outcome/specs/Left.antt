@@ -1,5 +1,6 @@
 -- What a build leaves of the repository, and of the hands' devices. Project rules.
 use Rattle.std.specs.Prelude.{◌≡◌, ◌⊎◌, ◌<◌, ◌+◌, ℕ, List, [], length, map, Option, IfSome}
+use Rattle.std.specs.FinMap as finite
 use Rattle.mvn_shared.specs.Cause.{HasRisen, RoseBy}
 use Rattle.mvn_outside.specs.Shelf.{MaySettle}
 use Rattle.mvn_outside.specs.declared.shelf.ShelfTold.{ShelfTold}
@@ -10,7 +11,7 @@ use Rattle.event_core.specs.Runs.{IsQuiet, answers_in, events_of}
 use Rattle.event_core.specs.declared.entry.RunEntry.{RunEntry}
 use Rattle.board.specs.Logs.{shelf_endings, told_after}
 use Rattle.crew_stages.specs.Hands.{HandState}
-use Rattle.outcome_laws.specs.Crews.{IsCrewRun, hand_of}
+use Rattle.outcome_laws.specs.Crews.{IsCrewRun, hand_of, told_of}
 
 -- what the repository tells and counts, and the hands
 pub record Outside : Type 0 where
@@ -20,6 +21,15 @@ pub record Outside : Type 0 where
 
 abbrev pub outside_by : {S H : Type 0} → (S → Option ShelfTold) → (S → ℕ) → (H → HandState) → S → List H → Outside
 outside_by told faults state shelf hands = record { shelf = told shelf; faults = faults shelf; hands = map state hands }
+
+-- each hand tells what it told
+pub record TellAsBefore (before now : List HandState) : Type 0 where
+  pub many : length now ≡ length before
+  pub each : (w : ℕ) → w < length before → told_of now w ≡ told_of before w
+
+-- no area has a piece
+abbrev pub AreEmpty : List HandState → Type 0
+AreEmpty hands = (w : ℕ) → w < length hands → (hand_of hands w).pieces ≡ finite.empty
 
 -- ---- what was done
 

@@ -20,7 +20,6 @@ use crew::{BuildError, build_all};
 use local_repo::settle;
 use mvn_outside::{DeviceFault, Gate, Hand, Remote, Shelf};
 use mvn_shared::{Bytes, List, Mem, OutOfMemory};
-use outcome_laws::{crew_builds_as_one, faults_are_counted, names_are_published_once};
 use std::alloc::Global;
 use std::sync::Wait;
 use std::thread::Threads;
@@ -119,9 +118,6 @@ where
         S.Area.pieces G.answers G.faults) result.shelf hands.new)
         result.trace result.answers result.outcome }
 {
-    crew_builds_as_one();
-    faults_are_counted();
-    names_are_published_once();
     match build_all(rt, alloc, plan, shelf, hands) {
         Ok(left) => finish(alloc, plan, details, left),
         Err(BuildError::Memory(shelf)) => nothing(alloc, shelf, Err(OutOfMemory)),

@@ -39,7 +39,7 @@ IsIdle before now trace answers = (trace ≡ []) × (answers ≡ []) × (now.she
 
 -- a run by the crew: these are its events and its answers, and its publishes stand behind those that the repository told, of which some more
 -- may be settled
-pub record IsRunOf (plan : Plan) (before now : Outside) (trace : List Event) (answers : List Answered) (run : List RunEntry) : Type 0 where
+pub record IsCallRun (plan : Plan) (before now : Outside) (trace : List Event) (answers : List Answered) (run : List RunEntry) : Type 0 where
   pub crew : IsCrewRun plan before.shelf before.hands now.hands run
   pub events : trace ≡ events_of run
   pub kept : answers ≡ answers_in plan run
@@ -47,7 +47,7 @@ pub record IsRunOf (plan : Plan) (before now : Outside) (trace : List Event) (an
 
 -- at every status, and for want of memory too
 abbrev pub HasHistory : Plan → (before now : Outside) → List Event → List Answered → Type 0
-HasHistory plan before now trace answers = IsIdle before now trace answers ⊎ ((run : List RunEntry) × IsRunOf plan before now trace answers run)
+HasHistory plan before now trace answers = IsIdle before now trace answers ⊎ ((run : List RunEntry) × IsCallRun plan before now trace answers run)
 
 -- ---- which device failed
 

@@ -4,7 +4,7 @@ pub use Rattle.build_core.specs.OneThread
 pub use Rattle.build_report.specs.Rows
 pub use Rattle.crew_stages.specs.Hands
 pub use Rattle.outcome_laws.specs.Crews
-pub mod Answers
+pub mod Answering
 pub mod Finished
 pub mod Left
 pub mod Once

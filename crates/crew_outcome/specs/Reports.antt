@@ -6,7 +6,7 @@ use Rattle.build_core.specs.declared.event.Answered.{Answered}
 use Rattle.build_core.specs.declared.event.Event.{Event}
 use Rattle.build_core.specs.declared.plan.Plan.{Plan}
 use Rattle.build_report.specs.declared.details.Details.{Details}
-use Rattle.crew_outcome.specs.Answers.{AnswersBuild, BuildsAsOne}
+use Rattle.crew_outcome.specs.Answering.{AnswersBuild, BuildsAsOne}
 use Rattle.crew_outcome.specs.Left.{AllStill, AreEmpty, HasHistory, Outside, SomeFailed, TellAsBefore}
 use Rattle.crew_outcome.specs.Once.{PublishesOnce}
 use Rattle.crew_outcome.specs.declared.outcome.Outcome.{Outcome}

@@ -69,7 +69,7 @@ fn finish<S: Shelf>(
     left: Finished<S>,
 ) -> Call<S>
     requires named { NamesFiles plan.now left.states }
-    ensures { Finishes S.told S.faults plan.now details left.entry result }
+    ensures { Finishes S.told S.faults plan.now details left result }
 {
     let Finished {
         shelf,

@@ -24,7 +24,7 @@ use Rattle.outcome_laws.proofs.Counts.{counted, counted_last, one_of}
 
 -- ---- sums
 
-total_append : {A : Type 0} (f : A → ℕ) (xs ys : List A) → total f (xs ++ ys) ≡ total f xs + total f ys
+pub total_append : {A : Type 0} (f : A → ℕ) (xs ys : List A) → total f (xs ++ ys) ≡ total f xs + total f ys
 total_append f [] ys = omega arith
 total_append f (x ∷ xs) ys = let again = total_append f xs ys in omega (arith, again)
 

@@ -11,7 +11,7 @@ use Rattle.build_report.specs.declared.details.Details.{Details}
 use Rattle.event_core.specs.declared.entry.RunEntry.{RunEntry}
 use Rattle.run_law.specs.Given.{states_after}
 use Rattle.outcome_laws.specs.Crews.{AllTellFiles}
-use Rattle.crew_outcome.specs.Left.{AreaFailed, IsIdle, IsRunOf, IsShelfCounted, Outside}
+use Rattle.crew_outcome.specs.Left.{AreaFailed, IsIdle, IsCallRun, IsShelfCounted, Outside}
 use Rattle.crew_outcome.specs.Outcomes.{area_fault, ran, run_outcome, unsettled_outcome}
 use Rattle.crew_outcome.specs.declared.outcome.Outcome.{Outcome}
 
@@ -33,4 +33,4 @@ IsAnswerOf plan details run before now answers answer = ((answer ≡ run_outcome
 -- over any devices: an area couldn't be swept and nothing was done, or what is answered is of a run
 abbrev pub AnswersBuild : Plan → List Details → (before now : Outside) → List Event → List Answered → Outcome → Type 0
 AnswersBuild plan details before now trace answers answer = (IsIdle before now trace answers × (answer ≡ area_fault) × AreaFailed before.hands now.hands)
-    ⊎ ((run : List RunEntry) × IsRunOf plan before now trace answers run × IsAnswerOf plan details run before now answers answer)
+    ⊎ ((run : List RunEntry) × IsCallRun plan before now trace answers run × IsAnswerOf plan details run before now answers answer)

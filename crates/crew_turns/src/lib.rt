@@ -10,4 +10,4 @@ pub mod turns;
 pub use looks::first_absent;
 pub use task::Task;
 pub use turned::turns_leave;
-pub use turns::{Assigned, Reached, end_module, free_name, next_task, taken, try_name};
+pub use turns::{Assigned, Reached, end_module, free_name, next_task, try_name};

@@ -1,5 +1,5 @@
 -- What a run that is finished answers and leaves.
-use Rattle.std.proofs.Common.{◌≡◌, ◌≢◌, ◌⊎◌, inl, inr, ◌<◌, ◌≤◌, ◌+◌, ℕ, Bool, true, false, List, [], ◌∷◌, ◌++◌, map, length, filter, filter_map, Option, Some, None, Result, Ok, Err, IfOk, IfSome, OnOk, OnErr, refl, sym, ap, subst, ◌∙◌, arith}
+use Rattle.std.proofs.Common.{◌≡◌, ◌≢◌, ◌⊎◌, inl, inr, ◌<◌, ◌≤◌, ◌+◌, ℕ, Bool, true, false, List, [], ◌∷◌, ◌++◌, map, length, filter, filter_map, get_or, Option, Some, None, Result, Ok, Err, IfOk, IfSome, OnOk, OnErr, refl, sym, ap, subst, ◌∙◌, arith}
 use Rattle.std.specs.List.{list_all}
 use Rattle.std.proofs.lemmas.Bool.{false≢true}
 use Rattle.std.proofs.lemmas.Result.{IfOk-weaker}
@@ -32,7 +32,8 @@ use Rattle.board.specs.Logs.{publishes_in, shelf_endings, told_after}
 use Rattle.board.specs.declared.board.Finished.{Finished}
 use Rattle.run_law.specs.Given.{Extends, IsPresent, states_after}
 use Rattle.run_law.proofs.Extending.{extends_itself}
-use Rattle.crew.specs.Whole.{IsBuilt}
+use Rattle.run_law.proofs.Stored.{length_map}
+use Rattle.crew.specs.Whole.{IsBuilt, IsWorkedBy}
 use Rattle.crew_stages.specs.Hands.{HandState}
 use Rattle.outcome_laws.specs.AsOne.{EndsAsOne, IsSupplyOf, are_calm}
 use Rattle.outcome_laws.specs.Crews.{AllTellFiles, IsCrewRun, hand_of}
@@ -40,13 +41,14 @@ use Rattle.outcome_laws.proofs.Counts.{calm}
 use Rattle.outcome_laws.proofs.Names as names
 use Rattle.outcome_laws.proofs.Sides.{as_one}
 use Rattle.crew_outcome.specs.Answering.{AnswersBuild, BuildsAsOne, IsAnswerOf, RanSo}
-use Rattle.crew_outcome.specs.Finished.{Finishes}
-use Rattle.crew_outcome.specs.Left.{AllStill, AreEmpty, IsCallRun, IsShelfCounted, Outside, SomeFailed, TellAsBefore}
+use Rattle.crew_outcome.specs.Finished.{AreSwept, Finishes}
+use Rattle.crew_outcome.specs.Left.{AllStill, AreEmpty, IsCallRun, IsShelfCounted, Outside, SomeFailed, TellAsBefore, outside_by}
 use Rattle.crew_outcome.specs.Once.{PublishesOnce}
 use Rattle.crew_outcome.specs.Outcomes.{IsRunAnswer, is_clean, ran, run_outcome, run_report, run_status}
 use Rattle.crew_outcome.specs.Reports.{Reports}
 use Rattle.crew_outcome.specs.declared.build.Call.{Call}
 use Rattle.crew_outcome.specs.declared.outcome.Outcome.{Outcome}
+use Rattle.crew_outcome.proofs.Crew.{by_states, crew_run}
 use Rattle.crew_outcome.proofs.Endings.{answer_bound, calm_status, clean_answer, clean_both, low_clean, three_faulty}
 use Rattle.crew_outcome.proofs.Faulty.{failed_so, more_of, no_fault_still, quiet_endings}
 
@@ -199,3 +201,17 @@ module _ (plan : Plan) (details : List Details) (before now : Outside) (trace : 
     tells = record { many = many; each = λ w here. (e.of.crew.used w (worker w here)).told };
     once = once_of before.shelf e.of.published;
   }
+
+-- all that is known of a build by hands that were swept
+pub build_reported : {S H : Type 0} (told : S → Option ShelfTold) (faults : S → ℕ) (state : H → HandState) (plan : Plan) (details : List Details) (opening : S) (old new : List H) (before : List HandState) (left : Finished S) (call : Call S)
+    → IsSoundPlan plan → length old ≡ plan.workers → IfSome (told opening) (λ t. IsPresent plan (files_now t)) → AreSwept before (map state old) → length new ≡ length old → IfSome (told left.shelf) (λ t. t.settled ≤ length t.publishes)
+    → ((run : List RunEntry) × IsBuilt told faults plan opening run left × ((i : ℕ) (d : H) → i < length old → IsWorkedBy plan (told opening) run i (state (get_or old i d)) (state (get_or new i d))))
+    → Finishes told faults plan details left call
+    → Reports plan details (record { shelf = told opening; faults = faults opening; hands = before }) (outside_by told faults state call.shelf new) call.trace call.answers call.outcome
+build_reported told faults state plan details opening old new before left call sound many present swept long within (run, built, each) fin =
+    let old_long = length_map state old in
+    let new_long = length_map state new in
+    let crew = crew_run plan (told opening) before (map state old) (map state new) run built.follows built.complete built.carried swept (old_long ∙ many) (λ w low. by_states state plan (told opening) run old new long each w (omega (arith, low, old_long))) in
+    let size : length (map state new) ≡ length before = new_long ∙ long ∙ sym old_long ∙ swept.many in
+    reported plan details (record { shelf = told opening; faults = faults opening; hands = before }) (outside_by told faults state call.shelf new) call.trace call.answers call.outcome run fin.settled sound present size
+    (ended told faults plan details opening run left call before (map state new) built fin within crew)

@@ -1,5 +1,5 @@
 -- Where nothing is built.
-use Rattle.std.proofs.Common.{◌≡◌, inl, inr, ◌<◌, ℕ, List, [], ◌++◌, Option, Some, None, Result, Ok, Err, IfOk, refl, sym, ap, subst, arith}
+use Rattle.std.proofs.Common.{◌≡◌, inl, inr, ◌<◌, ℕ, List, [], ◌++◌, map, Option, Some, None, Result, Ok, Err, IfOk, refl, sym, ap, subst, arith}
 use Rattle.std.proofs.lemmas.List.{append-nil}
 use Rattle.mvn_shared.specs.declared.memory.OutOfMemory.{OutOfMemory}
 use Rattle.mvn_outside.specs.declared.shelf.Published.{Published}
@@ -10,10 +10,11 @@ use Rattle.build_core.specs.declared.plan.Plan.{Plan}
 use Rattle.build_report.specs.declared.details.Details.{Details}
 use Rattle.crew_stages.specs.Hands.{HandState}
 use Rattle.crew_outcome.specs.Finished.{AreSwept}
-use Rattle.crew_outcome.specs.Left.{AreaFailed, IsIdle, Outside, TellAsBefore}
+use Rattle.crew_outcome.specs.Left.{AreaFailed, IsIdle, Outside, TellAsBefore, outside_by}
 use Rattle.crew_outcome.specs.Once.{PublishesOnce}
 use Rattle.crew_outcome.specs.Outcomes.{area_fault}
 use Rattle.crew_outcome.specs.Reports.{Reports}
+use Rattle.crew_outcome.specs.declared.build.Call.{Call}
 use Rattle.crew_outcome.specs.declared.outcome.Outcome.{Outcome}
 use Rattle.crew_outcome.proofs.Endings.{not_low, of_three}
 
@@ -50,3 +51,11 @@ module _ (plan : Plan) (details : List Details) (before now : Outside) (trace : 
 -- swept hands tell what they told
 pub swept_tell : (before now : List HandState) → AreSwept before now → TellAsBefore before now
 swept_tell before now is = record { many = is.many; each = λ w low. ap (λ (h : HandState). h.told) (is.each w low) }
+
+-- there was no memory to begin: the repository comes back, and the hands are as they were swept
+pub nothing_built : {S H : Type 0} (told : S → Option ShelfTold) (faults : S → ℕ) (state : H → HandState) (plan : Plan) (details : List Details) (opening : S) (old new : List H) (before : List HandState) (call : Call S) (e : OutOfMemory)
+    → AreSwept before (map state old) → new ≡ old → call.shelf ≡ opening → call.trace ≡ [] → call.answers ≡ [] → call.outcome ≡ Err e
+    → Reports plan details (record { shelf = told opening; faults = faults opening; hands = before }) (outside_by told faults state call.shelf new) call.trace call.answers call.outcome
+nothing_built {H = H} told faults state plan details opening old new before call e swept same shelf trace answers outcome =
+    without_memory plan details (record { shelf = told opening; faults = faults opening; hands = before }) (outside_by told faults state call.shelf new) call.trace call.answers (trace, answers, ap told shelf)
+    (subst (λ (hands : List H). TellAsBefore before (map state hands)) (sym same) (swept_tell before (map state old) swept)) call.outcome e outcome

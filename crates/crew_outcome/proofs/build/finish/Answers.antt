@@ -1,13 +1,20 @@
-use Rattle.std.proofs.Common.{refl}
+use Rattle.std.proofs.Common.{List, IfOk, refl, subst}
+use Rattle.build_core.specs.declared.ending.State.{State}
+use Rattle.build_core.specs.declared.event.Answered.{Answered}
+use Rattle.crew_outcome.specs.Outcomes.{IsRunAnswer}
 use Rattle.crew_outcome.proofs.build.finish.Goals as goal
 
 pub returns : goal.returns
-returns g c = record {
-  settled = c.settle-settled.result;
-  ok = c.settle-settled.ensures.ok;
-  err = c.settle-settled.ensures.err;
-  cause = c.settle-settled.ensures.cause;
-  answer = c.outcome_of-outcome.ensures;
-  events = refl;
-  kept = refl;
-}
+returns g c =
+    let outcome = c.outcome_of-outcome.result in
+    let settled = c.settle-settled.result in
+    record {
+      settled = settled;
+      ok = c.settle-settled.ensures.ok;
+      err = c.settle-settled.ensures.err;
+      cause = c.settle-settled.ensures.cause;
+      answer = subst (λ (answers : List Answered). IfOk outcome (IsRunAnswer c.args.plan.now c.args.details answers c.args.left.states settled)) c.as_slice.ensures
+          (subst (λ (states : List State). IfOk outcome (IsRunAnswer c.args.plan.now c.args.details c.as_slice.result.now states settled)) c.as_slice-2.ensures c.outcome_of-outcome.ensures);
+      events = refl;
+      kept = refl;
+    }

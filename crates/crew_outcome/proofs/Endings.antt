@@ -1,11 +1,13 @@
 -- What is answered of a run, by how its modules stand.
-use Rattle.std.proofs.Common.{◌≡◌, ◌≢◌, ◌<◌, ◌≤◌, ℕ, Bool, true, false, cond, List, [], ◌∷◌, ◌++◌, codes, map, length, nat_lt, Result, Ok, Err, IfOk, refl, sym, ap, subst, ◌∙◌, arith}
+use Rattle.std.proofs.Common.{◌≡◌, ◌≢◌, ◌<◌, ◌≤◌, ℕ, Bool, true, false, cond, List, [], ◌∷◌, ◌++◌, codes, map, length, nat_lt, Option, Some, None, IfSome, Result, Ok, Err, IfOk, OnOk, OnErr, refl, sym, ap, subst, ◌∙◌, arith}
 use Rattle.std.specs.List.{list_all, list_any}
 use Rattle.std.proofs.lemmas.Bool.{false≢true, lt-ltb}
 use Rattle.name_locks.specs.Locks.{below}
 use Rattle.mvn_shared.specs.declared.memory.OutOfMemory.{OutOfMemory}
+use Rattle.mvn_outside.specs.Shelf.{MaySettle, settled_all}
 use Rattle.mvn_outside.specs.declared.fault.DeviceFault.{DeviceFault}
 use Rattle.mvn_outside.specs.declared.fault.DeviceFault.TheVariants as fault
+use Rattle.mvn_outside.specs.declared.shelf.ShelfTold.{ShelfTold}
 use Rattle.build_core.specs.OneThread.{is_built}
 use Rattle.build_core.specs.declared.ending.Ending.{Ending}
 use Rattle.build_core.specs.declared.ending.Ending.TheVariants as ending
@@ -128,3 +130,11 @@ named_all plan f each (n ∷ ns) = and_is (names_file plan (f n)) (list_all (nam
 -- so behind a run
 pub run_named : (plan : Plan) (run : List RunEntry) → IsSoundPlan plan → IsRunOf plan run → NamesFiles plan (states_after plan run)
 run_named plan run sound is = named_all plan (state_after plan run) (λ m. named plan (state_after plan run m) (λ file at. missing plan run m file sound is at)) (below (length plan.modules))
+
+-- ---- settling
+
+-- what is settled may be settled
+pub may_settle : (middle now : Option ShelfTold) (settled : Result (Unit {0}) DeviceFault) → IfSome middle (λ t. t.settled ≤ length t.publishes) → OnOk settled (now ≡ settled_all middle) → OnErr settled (MaySettle middle now) → MaySettle middle now
+may_settle None now (Ok done) within ok err = ok
+may_settle (Some t) now (Ok done) within ok err = (length t.publishes, within, omega arith, ok)
+may_settle middle now (Err f) within ok err = err

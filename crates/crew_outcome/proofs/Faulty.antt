@@ -1,5 +1,5 @@
 -- Which device failed.
-use Rattle.std.proofs.Common.{◌≡◌, ◌⊎◌, inl, inr, ◌<◌, ◌≤◌, ◌+◌, ℕ, zero, suc, Bool, true, false, not, ◌&&◌, ◌||◌, nat_eq, List, [], ◌∷◌, ◌++◌, filter, length, Option, Some, None, IfSome, Result, Ok, Err, refl, sym, ap, subst, ◌∙◌, arith}
+use Rattle.std.proofs.Common.{◌≡◌, ◌⊎◌, inl, inr, ◌<◌, ◌≤◌, ◌+◌, ℕ, zero, suc, Bool, true, false, not, ◌&&◌, ◌||◌, nat_eq, List, [], ◌∷◌, ◌++◌, filter, length, Option, Some, None, unwrap_or, IfSome, Result, Ok, Err, refl, sym, ap, subst, ◌∙◌, arith}
 use Rattle.std.specs.List.{list_all, list_any}
 use Rattle.std.proofs.lemmas.Bool.{false≢true}
 use Rattle.name_locks.specs.Locks.{below}
@@ -23,6 +23,7 @@ use Rattle.event_core.specs.Runs.{IsQuiet, is_quiet_event}
 use Rattle.event_core.specs.declared.entry.Carried.{Carried}
 use Rattle.event_core.specs.declared.entry.RunEntry.{RunEntry}
 use Rattle.event_core.proofs.Climbs.{both}
+use Rattle.event_core.proofs.Weights.{nothing_is}
 use Rattle.board.specs.Logs.{shelf_endings}
 use Rattle.run_law.specs.Given.{is_fault, states_after}
 use Rattle.run_law.proofs.Basics.{and_is}
@@ -57,26 +58,22 @@ quiet_end w v (ending.Fault d) q = absurd (false≢true q)
 quiet_end w v ending.Memory q = absurd (false≢true q)
 
 some_is : (x y : Ending) → Some x ≡ Some y → x ≡ y
-some_is x y e = ap value e
-  where
-    value : Option Ending → Ending
-    value (Some z) = z
-    value None = ending.Memory
+some_is x y e = ap (λ o. unwrap_or o x) e
 
 -- so each ending of a worker in a quiet run
 quiet_of : (w : ℕ) (e : Event) (x : Ending) → ending_of w e ≡ Some x → is_quiet_event e ≡ true → is_quiet_end x ≡ true
-quiet_of w (event.Start v m) x is q = cc
-quiet_of w (event.Skip m) x is q = cc
-quiet_of w (event.Take v n mode) x is q = cc
-quiet_of w (event.Free v n) x is q = cc
-quiet_of w (event.Read v f) x is q = cc
-quiet_of w (event.Publish v f) x is q = cc
-quiet_of w (event.Answer v g) x is q = cc
+quiet_of w (event.Start v m) x is q = absurd (nothing_is x is)
+quiet_of w (event.Skip m) x is q = absurd (nothing_is x is)
+quiet_of w (event.Take v n mode) x is q = absurd (nothing_is x is)
+quiet_of w (event.Free v n) x is q = absurd (nothing_is x is)
+quiet_of w (event.Read v f) x is q = absurd (nothing_is x is)
+quiet_of w (event.Publish v f) x is q = absurd (nothing_is x is)
+quiet_of w (event.Answer v g) x is q = absurd (nothing_is x is)
 quiet_of w (event.End v y) x is q = by (nat_eq v w) refl
   where
     by : (b : Bool) → nat_eq v w ≡ b → is_quiet_end x ≡ true
     by true e = let here : ending_of w (event.End v y) ≡ Some y = rw e refl in subst (λ z. is_quiet_end z ≡ true) (some_is y x (sym here ∙ is)) (quiet_end w v y q)
-    by false e = let here : ending_of w (event.End v y) ≡ None = rw e refl in let gone : None ≡ Some x = sym here ∙ is in cc
+    by false e = let here : ending_of w (event.End v y) ≡ None = rw e refl in absurd (nothing_is x (sym here ∙ is))
 
 pub quiet_endings : (w : ℕ) (run : List RunEntry) → IsQuiet run → list_all is_quiet_end (endings_of w run) ≡ true
 quiet_endings w [] quiet = refl

@@ -52,12 +52,6 @@ use Rattle.crew_outcome.proofs.Crew.{by_states, crew_run}
 use Rattle.crew_outcome.proofs.Endings.{answer_bound, calm_status, clean_answer, clean_both, low_clean, three_faulty}
 use Rattle.crew_outcome.proofs.Faulty.{failed_so, more_of, no_fault_still, quiet_endings}
 
--- what is settled may be settled
-may : (middle now : Option ShelfTold) (settled : Result (Unit {0}) DeviceFault) → IfSome middle (λ t. t.settled ≤ length t.publishes) → OnOk settled (now ≡ settled_all middle) → OnErr settled (MaySettle middle now) → MaySettle middle now
-may None now (Ok done) within ok err = ok
-may (Some t) now (Ok done) within ok err = (length t.publishes, within, omega arith, ok)
-may middle now (Err f) within ok err = err
-
 rose_still : (n f0 f1 f2 : ℕ) → RoseBy n f0 f1 → f2 ≡ f1 → RoseBy (n + 0) f0 f2
 rose_still n f0 f1 f2 r e = let low = r.no_fall in let high = r.rise in record { no_fall = omega (arith, low, e); rise = omega (arith, high, e) }
 
@@ -89,7 +83,7 @@ pub record IsEnd (plan : Plan) (details : List Details) (before now : Outside) (
   counted : IsShelfCounted run (more_of settled) before now
 
 module _ {S : Type 0} (told : S → Option ShelfTold) (faults : S → ℕ) (plan : Plan) (details : List Details) (opening : S) (run : List RunEntry) (left : Finished S) (call : Call S) (before now : List HandState)
-    (built : IsBuilt told faults plan opening run left) (fin : Finishes told faults plan details left call) (within : IfSome (told left.shelf) (λ t. t.settled ≤ length t.publishes)) (crew : IsCrewRun plan (told opening) before now run) where
+    (built : IsBuilt told faults plan opening run left) (fin : Finishes told faults plan details left call) (crew : IsCrewRun plan (told opening) before now run) where
   abbrev first : Outside
   first = record { shelf = told opening; faults = faults opening; hands = before }
 
@@ -106,7 +100,7 @@ module _ {S : Type 0} (told : S → Option ShelfTold) (faults : S → ℕ) (plan
       crew = crew;
       events = fin.events ∙ built.trace;
       kept = fin.kept ∙ built.answers;
-      published = subst (λ t. MaySettle t (told call.shelf)) built.publishes (may (told left.shelf) (told call.shelf) fin.settled within fin.ok fin.err);
+      published = subst (λ t. MaySettle t (told call.shelf)) built.publishes fin.may;
     };
     ok = subst (λ t. OnOk fin.settled (told call.shelf ≡ settled_all t)) built.publishes fin.ok;
     answer = subst (λ (answers : List Answered). IfOk call.outcome (IsRunAnswer plan details answers (states_after plan run) fin.settled)) same.0
@@ -204,14 +198,14 @@ module _ (plan : Plan) (details : List Details) (before now : Outside) (trace : 
 
 -- all that is known of a build by hands that were swept
 pub build_reported : {S H : Type 0} (told : S → Option ShelfTold) (faults : S → ℕ) (state : H → HandState) (plan : Plan) (details : List Details) (opening : S) (old new : List H) (before : List HandState) (left : Finished S) (call : Call S)
-    → IsSoundPlan plan → length old ≡ plan.workers → IfSome (told opening) (λ t. IsPresent plan (files_now t)) → AreSwept before (map state old) → length new ≡ length old → IfSome (told left.shelf) (λ t. t.settled ≤ length t.publishes)
+    → IsSoundPlan plan → length old ≡ plan.workers → IfSome (told opening) (λ t. IsPresent plan (files_now t)) → AreSwept before (map state old) → length new ≡ length old
     → ((run : List RunEntry) × IsBuilt told faults plan opening run left × ((i : ℕ) (d : H) → i < length old → IsWorkedBy plan (told opening) run i (state (get_or old i d)) (state (get_or new i d))))
     → Finishes told faults plan details left call
     → Reports plan details (record { shelf = told opening; faults = faults opening; hands = before }) (outside_by told faults state call.shelf new) call.trace call.answers call.outcome
-build_reported told faults state plan details opening old new before left call sound many present swept long within (run, built, each) fin =
+build_reported told faults state plan details opening old new before left call sound many present swept long (run, built, each) fin =
     let old_long = length_map state old in
     let new_long = length_map state new in
     let crew = crew_run plan (told opening) before (map state old) (map state new) run built.follows built.complete built.carried swept (old_long ∙ many) (λ w low. by_states state plan (told opening) run old new long each w (omega (arith, low, old_long))) in
     let size : length (map state new) ≡ length before = new_long ∙ long ∙ sym old_long ∙ swept.many in
     reported plan details (record { shelf = told opening; faults = faults opening; hands = before }) (outside_by told faults state call.shelf new) call.trace call.answers call.outcome run fin.settled sound present size
-    (ended told faults plan details opening run left call before (map state new) built fin within crew)
+    (ended told faults plan details opening run left call before (map state new) built fin crew)

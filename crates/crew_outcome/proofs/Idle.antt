@@ -8,6 +8,7 @@ use Rattle.build_core.specs.declared.event.Answered.{Answered}
 use Rattle.build_core.specs.declared.event.Event.{Event}
 use Rattle.build_core.specs.declared.plan.Plan.{Plan}
 use Rattle.build_report.specs.declared.details.Details.{Details}
+use Rattle.crew.specs.declared.build.BuildError.TheVariants.{Memory}
 use Rattle.crew_stages.specs.Hands.{HandState}
 use Rattle.crew_outcome.specs.Finished.{AreSwept}
 use Rattle.crew_outcome.specs.Left.{AreaFailed, IsIdle, Outside, TellAsBefore, outside_by}
@@ -32,6 +33,11 @@ module _ (plan : Plan) (details : List Details) (before now : Outside) (trace : 
   without_memory outcome e is = subst (λ o. Reports plan details before now trace answers o) (sym is)
       (record { as_one = tt; settled = tt; areas = tt; quiet = tt; fault = tt; bound = tt; comes = tt; history = inl idle; tells = tells; once = once })
 
+  -- so where there is no answer
+  pub no_answer : (outcome : Result Outcome OutOfMemory) → IfOk outcome (λ answer. ⊥) → Reports plan details before now trace answers outcome
+  no_answer (Ok answer) none = absurd none
+  no_answer (Err e) none = without_memory (Err e) e refl
+
   -- an area couldn't be swept
   pub area_told : (outcome : Result Outcome OutOfMemory) → IfOk outcome (λ answer. answer ≡ area_fault) → IfOk outcome (λ answer. answer.status ≡ 3) → AreaFailed before.hands now.hands → Reports plan details before now trace answers outcome
   area_told (Err e) is three failed = without_memory (Err e) e refl
@@ -52,10 +58,14 @@ module _ (plan : Plan) (details : List Details) (before now : Outside) (trace : 
 pub swept_tell : (before now : List HandState) → AreSwept before now → TellAsBefore before now
 swept_tell before now is = record { many = is.many; each = λ w low. ap (λ (h : HandState). h.told) (is.each w low) }
 
+-- the repository that comes back is the one that was given
+pub memory_is : {S : Type 0} (x y : S) → Memory x ≡ Memory y → x ≡ y
+memory_is x y e = cc
+
 -- there was no memory to begin: the repository comes back, and the hands are as they were swept
-pub nothing_built : {S H : Type 0} (told : S → Option ShelfTold) (faults : S → ℕ) (state : H → HandState) (plan : Plan) (details : List Details) (opening : S) (old new : List H) (before : List HandState) (call : Call S) (e : OutOfMemory)
-    → AreSwept before (map state old) → new ≡ old → call.shelf ≡ opening → call.trace ≡ [] → call.answers ≡ [] → call.outcome ≡ Err e
+pub nothing_built : {S H : Type 0} (told : S → Option ShelfTold) (faults : S → ℕ) (state : H → HandState) (plan : Plan) (details : List Details) (opening : S) (old new : List H) (before : List HandState) (call : Call S)
+    → AreSwept before (map state old) → new ≡ old → call.shelf ≡ opening → call.trace ≡ [] → call.answers ≡ [] → IfOk call.outcome (λ answer. ⊥)
     → Reports plan details (record { shelf = told opening; faults = faults opening; hands = before }) (outside_by told faults state call.shelf new) call.trace call.answers call.outcome
-nothing_built {H = H} told faults state plan details opening old new before call e swept same shelf trace answers outcome =
-    without_memory plan details (record { shelf = told opening; faults = faults opening; hands = before }) (outside_by told faults state call.shelf new) call.trace call.answers (trace, answers, ap told shelf)
-    (subst (λ (hands : List H). TellAsBefore before (map state hands)) (sym same) (swept_tell before (map state old) swept)) call.outcome e outcome
+nothing_built told faults state plan details opening old new before call swept same shelf trace answers none =
+    no_answer plan details (record { shelf = told opening; faults = faults opening; hands = before }) (outside_by told faults state call.shelf new) call.trace call.answers (trace, answers, ap told shelf)
+    (subst (λ hands. TellAsBefore before (map state hands)) (sym same) (swept_tell before (map state old) swept)) call.outcome none

@@ -1,6 +1,6 @@
 -- What finishes a build: what was published is settled, or the repository says why not, and the answer is made of it; and how areas are swept.
 -- Project rules.
-use Rattle.std.specs.Prelude.{◌≡◌, ◌<◌, ℕ, List, length, Option, Result, IfOk, OnOk, OnErr}
+use Rattle.std.specs.Prelude.{◌≡◌, ◌<◌, ℕ, List, length, Option, Result, IfOk, OnOk}
 use Rattle.std.specs.FinMap as map
 use Rattle.mvn_shared.specs.Cause.{HasCause}
 use Rattle.mvn_outside.specs.Faults.{device_failed}
@@ -18,7 +18,7 @@ use Rattle.crew_outcome.specs.declared.build.Call.{Call}
 pub record Finishes {S : Type 0} (told : S → Option ShelfTold) (faults : S → ℕ) (plan : Plan) (details : List Details) (left : Finished S) (call : Call S) : Type 0 where
   pub settled : Result (Unit {0}) DeviceFault
   pub ok : OnOk settled (told call.shelf ≡ settled_all (told left.shelf))
-  pub err : OnErr settled (MaySettle (told left.shelf) (told call.shelf))
+  pub may : MaySettle (told left.shelf) (told call.shelf)
   pub cause : HasCause (faults left.shelf) (faults call.shelf) (device_failed settled)
   pub answer : IfOk call.outcome (IsRunAnswer plan details left.answers left.states settled)
   pub events : call.trace ≡ left.trace

@@ -4,6 +4,7 @@ ghost use Rattle.mvn_outside.specs.Shelf.{files_now};
 ghost use Rattle.build_report.specs.Rows.{NamesFiles};
 ghost use Rattle.event_core.specs.SoundPlans.{IsSoundPlan};
 ghost use Rattle.run_law.specs.Given.{IsPresent};
+ghost use Rattle.crew.specs.declared.build.BuildError.TheVariants.{Memory};
 ghost use Rattle.crew_stages.specs.Hands.{HandState, state_by};
 ghost use Rattle.crew_outcome.specs.Finished.{AreSwept, Finishes};
 ghost use Rattle.crew_outcome.specs.Left.{outside_by};
@@ -45,6 +46,18 @@ pub fn nothing<S>(alloc: Global, shelf: S, outcome: Mem<Outcome>) -> Call<S>
         shelf,
         trace: List::new(alloc),
         answers: List::new(alloc),
+    }
+}
+
+// The answer where there was no memory to begin; the repository is as it was given.
+fn given_back<S>(alloc: Global, error: BuildError<S>) -> Call<S>
+    ensures outcome { IfOk result.outcome (λ answer. ⊥) }
+    ensures shelf { error ≡ Memory result.shelf }
+    ensures trace { result.trace ≡ [] }
+    ensures answers { result.answers ≡ [] }
+{
+    match error {
+        BuildError::Memory(shelf) => nothing(alloc, shelf, Err(OutOfMemory)),
     }
 }
 
@@ -120,7 +133,7 @@ where
 {
     match build_all(rt, alloc, plan, shelf, hands) {
         Ok(left) => finish(alloc, plan, details, left),
-        Err(BuildError::Memory(shelf)) => nothing(alloc, shelf, Err(OutOfMemory)),
+        Err(error) => given_back(alloc, error),
     }
 }
 

@@ -1,0 +1,12 @@
+pub use Rattle.mvn_shared.specs.Cause
+pub use Rattle.mvn_shared.specs.Files
+pub use Rattle.build_core.specs.OneThread
+pub use Rattle.build_report.specs.Rows
+pub use Rattle.crew_stages.specs.Hands
+pub use Rattle.outcome_laws.specs.Crews
+pub mod Answering
+pub mod Finished
+pub mod Left
+pub mod Once
+pub mod Outcomes
+pub mod Reports

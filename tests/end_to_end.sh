@@ -240,5 +240,15 @@ chmod 555 .m2/repository/demo
 got=$("${as_nobody[@]}" "$mvn" install 2>&1; echo "status $?")
 if [ "$got" = $'failed demo:app:1.0 fault shelf\ntotal 1 built 0 failed 1 skipped 0\nstatus 3' ] \
   && [ -z "$(find .m2/repository/demo -mindepth 1)" ]; then pass 'no permission to publish'; else fail 'no permission to publish' "$got"; fi
-chmod 755 .m2/repository/demo
+chmod 777 .m2/repository/demo
+mkdir -p .m2/remote/x/y/1
+echo '<project><modelVersion>4.0.0</modelVersion><groupId>x</groupId><artifactId>y</artifactId><version>1</version></project>' > .m2/remote/x/y/1/y-1.pom
+: > .m2/remote/x/y/1/y-1.jar
+chmod 000 .m2/remote/x/y/1/y-1.jar
+printf '%s' "${pom%</project>}<dependencies><dependency><groupId>x</groupId><artifactId>y</artifactId><version>1</version></dependency></dependencies></project>" > pom.xml
+got=$("${as_nobody[@]}" "$mvn" install 2>&1; echo "status $?")
+if [ "$got" = $'failed demo:app:1.0 fault remote\ntotal 1 built 0 failed 1 skipped 0\nstatus 3' ]; then pass 'no permission to fetch'; else fail 'no permission to fetch' "$got"; fi
+chmod 644 .m2/remote/x/y/1/y-1.jar
+got=$("${as_nobody[@]}" "$mvn" install 2>&1; echo "status $?")
+if [ "$got" = "${report}status 0" ]; then pass 'and then with it'; else fail 'and then with it' "$got"; fi
 tell

@@ -1,7 +1,8 @@
 #!/usr/bin/env bash
-# Shows that a killed install leaves no torn file: kills installs of a project of three modules, each of which needs the one before it, at
-# random moments, up to half as late again as one install takes, and checks after each that every POM and every jar is absent, or has all
-# its old bytes or all its new ones. At the end one more install, undisturbed, leaves what it leaves in a new repository.
+# Shows that a killed install leaves no torn file: kills installs by two workers of a project of three modules, each of which needs the one
+# before it, and a library that is fetched, at random moments, up to half as late again as one install takes, and checks after each that
+# every POM and every jar is absent, or has all its old bytes or all its new ones, and the library's files those of the remote repository.
+# At the end one more install, undisturbed, leaves what it leaves in a new repository.
 # usage: kill_install.sh [KILLS], 100 if absent. The program is the one that MVN names, or bin/mvn.
 . "$(dirname "$0")/cases.sh"
 find_program
@@ -9,13 +10,17 @@ kills=${1-100}
 [[ $kills =~ ^[1-9][0-9]*$ ]] || stop "usage: kill_install.sh [KILLS]"
 cd "$work" || exit 1
 modules=(base core app)
-export MVN_REPO=$work/repository
+export MVN_REPO=$work/repository MVN_REMOTE=$work/remote
 
 # NAME, TEXT: the POM of this artifact, with more in it
 pom() { printf '<project><modelVersion>4.0.0</modelVersion><groupId>demo</groupId><artifactId>%s</artifactId><version>1.0</version>%s</project>' "$1" "$2"; }
 
 pom root "<packaging>pom</packaging><modules>$(printf '<module>%s</module>' "${modules[@]}")</modules>" > pom.xml
-needs=
+library=x/y/1/y-1
+mkdir -p "$MVN_REMOTE/x/y/1"
+head -c 3000000 /dev/urandom > "$MVN_REMOTE/$library.jar"
+echo '<project><modelVersion>4.0.0</modelVersion><groupId>x</groupId><artifactId>y</artifactId><version>1</version></project>' > "$MVN_REMOTE/$library.pom"
+needs='<dependencies><dependency><groupId>x</groupId><artifactId>y</artifactId><version>1</version></dependency></dependencies>'
 for module in "${modules[@]}"; do
   mkdir -p "$module/src/main/java"
   pom "$module" "$needs" > "$module/pom.xml"
@@ -30,7 +35,7 @@ write_sources() {
   done
 }
 
-install() { "$mvn" install; }
+install() { "$mvn" install -T 2; }
 
 # MODULE, KIND: the file's path
 file() { echo "$MVN_REPO/demo/$1/1.0/$1-1.0.$2"; }
@@ -72,6 +77,9 @@ for ((i = 0; i < kills; i++)); do
       [ ! -e "$name" ] || cmp -s "$name" "old.$module.$kind" || cmp -s "$name" "new.$module.$kind" || torn=$((torn + 1))
     done
   done
+  for kind in pom jar; do
+    [ ! -e "$MVN_REPO/$library.$kind" ] || cmp -s "$MVN_REPO/$library.$kind" "$MVN_REMOTE/$library.$kind" || torn=$((torn + 1))
+  done
 done 2> /dev/null
 
 # Where no install was killed, or none came as far as a jar, nothing is shown.
@@ -88,6 +96,7 @@ differ=
 for module in "${modules[@]}"; do
   for kind in pom jar; do cmp -s "$(file "$module" "$kind")" "new.$module.$kind" || differ+=" $module-1.0.$kind"; done
 done
+for kind in pom jar; do cmp -s "$MVN_REPO/$library.$kind" "$MVN_REMOTE/$library.$kind" || differ+=" y-1.$kind"; done
 if [ "$last" = "$wanted" ] && [ -z "$differ" ]; then
   pass 'the next install ends like an undisturbed one'
 else

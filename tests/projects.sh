@@ -90,6 +90,6 @@ project "$app<packaging>pom</packaging><modules><module>a</module></modules>"
 want 'a module that is nowhere' 2 $'refused pom.xml rule 15 ModuleNotFound at a\n' validate
 project "$app<dependencies><dependency><groupId>g</groupId><artifactId>a</artifactId><version>1</version></dependency></dependencies>"
 want 'a dependency whose POM is missing' 0 $'built demo:app:1\n  note missing g:a:1'"$built" validate
-want 'a dependency whose file a goal reads' 2 $'not built yet\n' install
+want 'a dependency whose file a goal reads' 1 $'failed demo:app:1 missing g/a/1/a-1.jar\n  note missing g:a:1'"$unbuilt" install
 cd "$work" || exit 1
 tell

@@ -402,23 +402,81 @@ mkdir -p .m2/repository/x/y/1
 echo '<project>' > .m2/repository/x/y/1/y-1.pom
 want 'a library whose POM is refused' 0 $'built demo:root:1.0\nbuilt demo:a:1.0\n  note refused x:y:1 rule 3\ntotal 2 built 2 failed 0 skipped 0\n' validate
 
-# --- what isn't built yet: a goal reads the file of a dependency that isn't built in this run
+# --- libraries: a file that a module's classpath needs is that of the local repository, or is fetched from the remote one
 project 'a b c p'
 child a "$(lib x y 1)"
 child b "$(on a)"
 child c
 child p "<packaging>pom</packaging>$(lib x y 1)"
 stored .m2/repository x y 1 ''
-: > .m2/repository/x/y/1/y-1.jar
-refused 'a library' 'not built yet' install
-refused 'its file is read by the first goal with a classpath' 'not built yet' compile
+lost=$'built demo:root:1.0\nfailed demo:a:1.0 missing x/y/1/y-1.jar\nskipped demo:b:1.0 after demo:a:1.0\nbuilt demo:c:1.0\nbuilt demo:p:1.0\ntotal 5 built 3 failed 1 skipped 1\n'
+want 'a library that is nowhere ends its module alone' 1 "$lost" install
+want 'its file is read by the first goal with a classpath' 1 "$lost" compile
+want 'by any number of workers' 1 "$lost" install -T 4
 order 'no goal before it reads a file' 'root a b c p' process-resources
-refused 'a module that stands on a library' 'not built yet' install -pl a,b
-refused 'a module that is not built in this run' 'not built yet' compile -pl b
+want 'a module that is not built in this run' 1 $'failed demo:b:1.0 missing demo/a/1.0/a-1.0.pom\ntotal 1 built 0 failed 1 skipped 0\n' compile -pl b
 order 'nor is it needed before' 'b' process-resources -pl b
 order 'others are built' 'root c' install -pl c,:root
 order 'a POM module has no goal that reads it' 'p' install -pl p
 refused 'the word comes first' 'word 2 UnknownModule' install -pl :zz
+: > .m2/repository/x/y/1/y-1.jar
+order 'a library of the local repository' 'root a b c p' install
+order 'a module of an earlier run, by its files in the repository' 'b' install -pl b
+
+project 'a b c'
+child a "$(lib x y 1)"
+child b "$(on a)"
+child c "$(lib x y 1)"
+stored .m2/remote x y 1 ''
+echo 'a library' > .m2/remote/x/y/1/y-1.jar
+order 'a library of the remote repository' 'root a b c' install
+for file in x/y/1/y-1.pom x/y/1/y-1.jar; do
+  cmp -s ".m2/remote/$file" ".m2/repository/$file" && pass "it is fetched as it is: $file" || fail "it is fetched as it is: $file" 'another'
+done
+first=$(sums)
+for count in 2 4 16; do
+  rm -r .m2/repository
+  order "fetched by $count workers" 'root a b c' install -T "$count"
+  same "the same bytes of $count workers" "$first" "$(sums)"
+done
+echo 'another' > .m2/remote/x/y/1/y-1.jar
+order 'a file that is there is not fetched again' 'root a b c' install
+same 'it stays' "$first" "$(sums)"
+rm -r .m2/remote
+order 'nor is the remote repository needed then' 'root a b c' install
+same 'all stays' "$first" "$(sums)"
+
+# the first goal removes the remote repository: c has what a fetched
+stored .m2/remote x y 1 ''
+echo 'a library' > .m2/remote/x/y/1/y-1.jar
+rm -r .m2/repository
+printf '#!/bin/sh\nrm -rf .m2/remote\ncat > /dev/null\necho '\''{"answer":"done"}'\''\n' > goals
+chmod +x goals
+export MVN_GATE=./goals
+order 'what a module fetched the next one has' 'root a b c' test
+unset MVN_GATE
+
+project 'a b c'
+child a "$(lib x y 1)"
+child b "$(on a)"
+child c
+stored .m2/remote x y 1 ''
+truncate -s 134217729 .m2/remote/x/y/1/y-1.jar
+want 'a library over the limit' 1 $'built demo:root:1.0\nfailed demo:a:1.0 missing x/y/1/y-1.jar\nskipped demo:b:1.0 after demo:a:1.0\nbuilt demo:c:1.0\ntotal 4 built 2 failed 1 skipped 1\n' install
+same 'it is not fetched' '' "$(ls .m2/repository/x/y/1 | grep jar)"
+project 'a'
+child a "$(lib x y 1)"
+mkdir -p .m2/remote/x/y/1
+echo 'a library' > .m2/remote/x/y/1/y-1.jar
+want 'a library without a POM' 0 $'built demo:root:1.0\nbuilt demo:a:1.0\n  note missing x:y:1\ntotal 2 built 2 failed 0 skipped 0\n' compile
+project 'a c'
+child a
+child c "<dependencies><dependency><groupId>x</groupId><artifactId>y</artifactId><version>1</version></dependency><dependency><groupId>x</groupId><artifactId>z</artifactId><version>1</version></dependency></dependencies>"
+stored .m2/remote x y 1 ''
+stored .m2/remote x z 1 ''
+truncate -s 134217728 .m2/remote/x/y/1/y-1.jar
+truncate -s 1 .m2/remote/x/z/1/z-1.jar
+want 'files over the limit of a classpath' 1 $'built demo:root:1.0\nbuilt demo:a:1.0\nfailed demo:c:1.0 classpath too large\ntotal 3 built 2 failed 1 skipped 0\n' compile
 
 # --- the full report
 project 'a b'

@@ -1,15 +1,21 @@
 #!/usr/bin/env bash
 # Shows that two installs at once into one repository don't disturb each other: runs pairs of installs of one artifact, from two folders
-# with different sources and POMs, and checks after each pair what the two answered and that no file is torn: POM and jar have all bytes of
-# the one or of the other. Then the same with one of the two killed at a random moment: the other has to answer as if it were alone. Last,
-# one more install is not hindered by a leftover staged file, and leaves none. usage: two_builds.sh [PAIRS], of each kind; if absent, as
-# many as there is time for in 15 seconds. The program is the one that MVN names, or bin/mvn.
+# with different sources and POMs, both of which need a library that is fetched, and checks after each pair what the two answered and that
+# no file is torn: POM and jar have all bytes of the one or of the other, and the library's files those of the remote repository. Then the
+# same with one of the two killed at a random moment: the other has to answer as if it were alone. Last, one more install is not hindered
+# by a leftover staged file, and leaves none. usage: two_builds.sh [PAIRS], of each kind; if absent, as many as there is time for in 15
+# seconds. The program is the one that MVN names, or bin/mvn.
 . "$(dirname "$0")/cases.sh"
 find_program
 pairs=${1-}
 [[ $pairs =~ ^[0-9]*$ ]] || stop "usage: two_builds.sh [PAIRS]"
 cd "$work" || exit 1
-export MVN_REPO=$work/repository
+export MVN_REPO=$work/repository MVN_REMOTE=$work/remote
+library=x/y/1/y-1
+mkdir -p "$MVN_REMOTE/x/y/1"
+head -c 3000000 /dev/urandom > "$MVN_REMOTE/$library.jar"
+echo '<project><modelVersion>4.0.0</modelVersion><groupId>x</groupId><artifactId>y</artifactId><version>1</version></project>' > "$MVN_REMOTE/$library.pom"
+needs='<dependencies><dependency><groupId>x</groupId><artifactId>y</artifactId><version>1</version></dependency></dependencies>'
 folder=$MVN_REPO/demo/app/1.0
 report=$'built demo:app:1.0\ntotal 1 built 1 failed 0 skipped 0'
 
@@ -17,8 +23,8 @@ report=$'built demo:app:1.0\ntotal 1 built 1 failed 0 skipped 0'
 for side in old new; do
   mkdir -p "$side/src/main/java"
   head -c 2000000 /dev/zero | tr '\0' "${side:0:1}" > "$side/src/main/java/App.java"
-  printf '<project><!-- %s --><modelVersion>4.0.0</modelVersion><groupId>demo</groupId><artifactId>app</artifactId><version>1.0</version></project>' \
-    "$([ "$side" = old ] && echo old || head -c 5000 /dev/zero | tr '\0' n)" > "$side/pom.xml"
+  printf '<project><!-- %s --><modelVersion>4.0.0</modelVersion><groupId>demo</groupId><artifactId>app</artifactId><version>1.0</version>%s</project>' \
+    "$([ "$side" = old ] && echo old || head -c 5000 /dev/zero | tr '\0' n)" "$needs" > "$side/pom.xml"
   rm -rf "$MVN_REPO"
   begun=$(date +%s%N)
   (cd "$side" && "$mvn" install > /dev/null) || stop "the install of $side failed"
@@ -43,11 +49,12 @@ answered() {
   [ "$2" = 0 ] && [ "$(cat "$1.said")" = "$report" ] || { wrong=$((wrong + 1)); said="status $2, $(tail -n 2 "$1.said" | tr '\n' ' ')"; }
 }
 
-# counts each name that has neither the one's bytes nor the other's
+# counts each name that has neither the one's bytes nor the other's, or not the remote repository's
 look() {
   local kind
   for kind in pom jar; do
     cmp -s "$folder/app-1.0.$kind" "old.$kind" || cmp -s "$folder/app-1.0.$kind" "new.$kind" || torn=$((torn + 1))
+    cmp -s "$MVN_REPO/$library.$kind" "$MVN_REMOTE/$library.$kind" || torn=$((torn + 1))
   done
 }
 

@@ -4,8 +4,10 @@
 --
 -- 1: the POMs of the project. 2: their effective models. 3: no two of the same coordinates. 4: what their dependencies lead to. 5: the
 -- order of all modules. 6: those that the command line selects. 7: the sources of these. 8: the plan, unless it is too large.
-use Rattle.std.specs.Prelude.{◌≡◌, ◌≤◌, ℕ, Bool, false, List, Contains, filter_map, map, slice_get, Some, Result, Ok, Err}
+use Rattle.std.specs.Prelude.{◌≡◌, ◌≤◌, ℕ, Bool, false, List, Contains, filter_map, map, slice_get, Option, Some, Result, Ok, Err, IfSome}
 use Rattle.mvn_shared.specs.Files.{Files}
+use Rattle.mvn_outside.specs.Shelf.{files_now}
+use Rattle.mvn_outside.specs.declared.shelf.ShelfTold.{ShelfTold}
 use Rattle.mvn_base.specs.declared.fault.ModelError.TheVariants as errors
 use Rattle.mvn_base.specs.declared.refusal.Refusal.{Refusal}
 use Rattle.goal_types.specs.declared.goal.SourceFile.{SourceFile}
@@ -28,7 +30,7 @@ use Rattle.reactor_modules.specs.declared.modules.ReactorModules.{ReactorModules
 use Rattle.reactor_modules.specs.declared.modules.ReactorFault.{ReactorFault}
 use Rattle.reactor_modules.specs.declared.modules.ReactorFault.TheVariants as reactor
 use Rattle.module_sources.specs.Modules.{module_sources}
-use Rattle.plan_numbers.specs.Plans.{IsNumbered, numbered}
+use Rattle.plan_numbers.specs.Plans.{IsNumbered, numbered, present_in}
 use Rattle.plan_numbers.specs.declared.selected.Planned.{Planned}
 use Rattle.plan_numbers.specs.declared.selected.SelectedModule.{SelectedModule}
 use Rattle.plan_law.specs.Ready.{AreOrdered}
@@ -114,6 +116,15 @@ module _ (tree local remote : Files) (given : Given) (line : CommandLine) where
   Plans (Err (faults.Build Memory)) = Unit {0}
   Plans (Err (faults.Unknown place)) = IsUnknownWord place
 
+-- planning says neither that a device failed nor that memory ran out
+abbrev pub IsSaid : Result Planned PlanFault → Type 0
+IsSaid (Ok planned) = Unit {0}
+IsSaid (Err (faults.Build (Refused refusal))) = Unit {0}
+IsSaid (Err (faults.Build Absent)) = Unit {0}
+IsSaid (Err (faults.Build Source)) = ⊥
+IsSaid (Err (faults.Build Memory)) = ⊥
+IsSaid (Err (faults.Unknown place)) = Unit {0}
+
 -- what any plan is, whatever is told of the files: that of some modules with lawful models, in the order of the build, up to the phase
 -- and for the workers of the command line; it is sound, and has so many events at most
 pub record IsPlan (line : CommandLine) (p : Planned) : Type 0 where
@@ -123,6 +134,10 @@ pub record IsPlan (line : CommandLine) (p : Planned) : Type 0 where
   pub numbered : IsNumbered line.phase line.workers modules p
   pub sound : IsSoundPlan p.plan
   pub few : p.plan.events ≤ 4194304
+
+-- a plan says of each of its files whether the local repository has it, wherever that tells
+abbrev pub KnowsFiles : Option ShelfTold → Planned → Type 0
+KnowsFiles shelf p = IfSome shelf (λ told. p.plan.present ≡ present_in (files_now told) p.plan.files)
 
 -- a word that is said to mean no module is one of those of the line that name modules
 abbrev pub NamesWord : CommandLine → Result Planned PlanFault → Type 0

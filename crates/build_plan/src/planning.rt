@@ -9,7 +9,7 @@ ghost use Rattle.model_resolver.specs.Finding.{world_of};
 ghost use Rattle.project_models.specs.Models.{AreModules};
 ghost use Rattle.project_models.specs.Telling.{IfTold};
 ghost use Rattle.reactor_modules.specs.Reactor.{Answers, AreInOrder};
-ghost use Rattle.build_plan.specs.Planning.{plan_failed, plan_fault, AreResolved, IsPlan, IsProject, NamesWord, Plans};
+ghost use Rattle.build_plan.specs.Planning.{plan_failed, plan_fault, AreResolved, IsPlan, IsProject, KnowsFiles, NamesWord, Plans};
 
 use crate::reading::{Reactor, plan_built};
 use classpaths::Resolution;
@@ -93,6 +93,7 @@ fn plan_resolved<T: Tree, S: Shelf>(
         (record { poms = project.poms; models = project.models }) project.resolutions
         → Plans files local there given.now line.now result) }
     ensures made { IfOk result (IsPlan line.now) }
+    ensures present { IfOk result (KnowsFiles (S.told shelf.old)) }
     ensures word { NamesWord line.now result }
     ensures tree { T.files tree.new ≡ T.files tree.old }
     ensures shelf { S.told shelf.new ≡ S.told shelf.old }
@@ -141,6 +142,7 @@ fn plan_found<T: Tree, S: Shelf, R: Remote>(
         (record { poms = found.poms; models = found.models })
         → Plans files local there given.now line.now result) }
     ensures made { IfOk result (IsPlan line.now) }
+    ensures present { IfOk result (KnowsFiles (S.told shelf.old)) }
     ensures word { NamesWord line.now result }
     ensures tree { T.files tree.new ≡ T.files tree.old }
     ensures shelf { S.told shelf.new ≡ S.told shelf.old }
@@ -194,6 +196,7 @@ fn plan_counted<T: Tree, S: Shelf, R: Remote>(
     ensures says { IfTold (T.files tree.old) (S.told shelf.old) (R.files remote.old)
         (λ files local there. Plans files local there given.now line.now result) }
     ensures made { IfOk result (IsPlan line.now) }
+    ensures present { IfOk result (KnowsFiles (S.told shelf.old)) }
     ensures word { NamesWord line.now result }
     ensures tree { T.files tree.new ≡ T.files tree.old }
     ensures shelf { S.told shelf.new ≡ S.told shelf.old }
@@ -232,6 +235,7 @@ pub fn plan_build<T: Tree, S: Shelf, R: Remote>(
         IfSome (R.files remote.old) (λ there.
         Plans files (files_now told) there given.now line.now result.answer))) }
     ensures made { IfOk result.answer (IsPlan line.now) }
+    ensures present { IfOk result.answer (KnowsFiles (S.told shelf.old)) }
     ensures word { NamesWord line.now result.answer }
     ensures tree { T.files tree.new ≡ T.files tree.old }
     ensures shelf { S.told shelf.new ≡ S.told shelf.old }

@@ -10,7 +10,7 @@ ghost use Rattle.project_models.specs.Telling.{IfTold};
 ghost use Rattle.reactor_order.specs.Graph.{AreBelow};
 ghost use Rattle.module_sources.specs.Modules.{module_sources};
 ghost use Rattle.built_modules.specs.Selected.{AreSelected};
-ghost use Rattle.build_plan.specs.Planning.{built_models, plan_failed, sources_of, IsPlan, IsReactor, NamesWord, Plans};
+ghost use Rattle.build_plan.specs.Planning.{built_models, plan_failed, sources_of, IsPlan, IsReactor, KnowsFiles, NamesWord, Plans};
 
 use crate::planning::PlanFault;
 use built_modules::selected_modules;
@@ -115,6 +115,7 @@ fn plan_read<S: Shelf>(
         (record { poms = reactor.poms; models = reactor.models }) reactor.built ≡ Ok sources
         → Plans files local there given line.now result) }
     ensures made { IfOk result (IsPlan line.now) }
+    ensures present { IfOk result (KnowsFiles (S.told shelf.old)) }
     ensures word { NamesWord line.now result }
     ensures same { S.told shelf.new ≡ S.told shelf.old }
     ensures counted { (tree remote : ℕ) → Counted failures.old.first failures.new.first
@@ -160,6 +161,7 @@ pub(crate) fn plan_built<T: Tree, S: Shelf>(
         (record { poms = reactor.poms; models = reactor.models }) reactor.resolutions reactor.built
         → Plans files local there given.now line.now result) }
     ensures made { IfOk result (IsPlan line.now) }
+    ensures present { IfOk result (KnowsFiles (S.told shelf.old)) }
     ensures word { NamesWord line.now result }
     ensures tree { T.files tree.new ≡ T.files tree.old }
     ensures shelf { S.told shelf.new ≡ S.told shelf.old }

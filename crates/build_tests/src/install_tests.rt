@@ -1,28 +1,30 @@
 // Installs of one POM, and of three, over objects in memory, of which one call may fail (`mvn_top`).
-ghost use Rattle.std.specs.Prelude.{◌≡◌, length};
+ghost use Rattle.std.specs.Prelude.{◌≤◌, length};
 
 use goal_types::{GoalAnswer, SourceFile};
 use mvn_base::Machine;
 use mvn_outside::Hand;
 use mvn_shared::{Bytes, List, Mem, Text};
 use mvn_top::mvn;
-use outside_mem::{Calls, MemArea, MemGate, MemRemote, MemShelf, MemSink, MemTree};
+use outside_mem::{Calls, MemArea, MemFile, MemGate, MemRemote, MemShelf, MemSink, MemTree};
 use std::alloc::Global;
 use std::process::Abort;
+use std::sync::Wait;
 use std::test::Fail;
+use std::thread::Threads;
 
 const POM: &[u8] =
     b"<project><modelVersion>4.0.0</modelVersion><groupId>demo</groupId><artifactId>app</artifactId><version>1.0</version></project>";
 
 // The path of a POM, and its text.
-type Pom = (&'static str, &'static [u8]);
+pub(crate) type Pom = (&'static str, &'static [u8]);
 
 const ONE: &[Pom] = &[("pom.xml", POM)];
 
 // The object of which a call fails, and the number of that call.
-type Fault = (char, u64);
+pub(crate) type Fault = (char, u64);
 
-const NO_FAULT: Fault = ('-', 0);
+pub(crate) const NO_FAULT: Fault = ('-', 0);
 
 // A POM whose parent has to be looked up by its coordinates.
 const CHILD: &[u8] =
@@ -40,12 +42,12 @@ const A: &[u8] =
 const B: &[u8] =
     b"<project><modelVersion>4.0.0</modelVersion><parent><groupId>demo</groupId><artifactId>root</artifactId><version>1</version></parent><artifactId>b</artifactId><dependencies><dependency><groupId>demo</groupId><artifactId>a</artifactId><version>1</version></dependency></dependencies></project>";
 
-const THREE: &[Pom] = &[("pom.xml", ROOT), ("a/pom.xml", A), ("b/pom.xml", B)];
+pub(crate) const THREE: &[Pom] = &[("pom.xml", ROOT), ("a/pom.xml", A), ("b/pom.xml", B)];
 
 type Worker = Hand<MemRemote<Calls>, MemArea<Calls>, MemGate<Calls>>;
 
 // The calls of an object that fail.
-fn failing(alloc: Global, fault: Fault, object: char) -> Mem<List<u64>> {
+pub(crate) fn failing(alloc: Global, fault: Fault, object: char) -> Mem<List<u64>> {
     let mut calls = List::new(alloc);
     if fault.0 == object {
         calls.push(fault.1)?;
@@ -59,7 +61,7 @@ fn file(alloc: Global, pom: &Pom) -> Mem<SourceFile> {
     Ok(SourceFile { path, bytes })
 }
 
-fn tree(alloc: Global, poms: &[Pom], fault: Fault) -> Mem<MemTree<Calls>> {
+pub(crate) fn tree(alloc: Global, poms: &[Pom], fault: Fault) -> Mem<MemTree<Calls>> {
     let mut files = List::new(alloc);
     for pom in poms {
         files.push(file(alloc, pom)?)?;
@@ -84,8 +86,14 @@ fn gate(alloc: Global, letters: &str, fault: Fault) -> Mem<MemGate<Calls>> {
     MemGate::new(alloc, answers, &failing(alloc, fault, 'g')?)
 }
 
-fn worker(alloc: Global, letters: &str, fault: Fault) -> Mem<Worker> {
-    let remote = MemRemote::new(alloc, List::new(alloc), &failing(alloc, fault, 'r')?)?;
+// A worker whose remote has these files.
+pub(crate) fn worker(
+    alloc: Global,
+    files: List<MemFile>,
+    letters: &str,
+    fault: Fault,
+) -> Mem<Worker> {
+    let remote = MemRemote::new(alloc, files, &failing(alloc, fault, 'r')?)?;
     let area = MemArea::new(alloc, &failing(alloc, fault, 'a')?)?;
     let gate = gate(alloc, letters, fault)?;
     Ok(Hand { remote, area, gate })
@@ -108,25 +116,26 @@ fn machine(alloc: Global) -> Mem<Machine> {
 
 // What an install leaves.
 #[derive(Drop)]
-struct Left {
-    status: u8,
-    names: u64,
-    answers: usize,
+pub(crate) struct Left {
+    pub(crate) status: u8,
+    pub(crate) names: u64,
+    pub(crate) answers: usize,
 }
 
-// An install by one worker.
-fn installed(
+// What these words leave, by these workers.
+pub(crate) fn installed<W: Threads + Wait + Sync>(
+    rt: &W,
     alloc: Global,
+    words: &[Bytes],
     tree: &mut MemTree<Calls>,
     shelf: MemShelf<Calls>,
     workers: &mut [Worker],
     sink: &mut MemSink<Calls>,
 ) -> Mem<Left>
-    requires { length workers.old ≡ 1 }
+    requires { (1 ≤ length workers.old) × (length workers.old ≤ 16) }
 {
-    let words = [Bytes::from_slice(alloc, b"install")?];
     let machine = machine(alloc)?;
-    let ended = mvn(alloc, &words, machine, tree, shelf, workers, sink);
+    let ended = mvn(rt, alloc, words, machine, tree, shelf, workers, sink);
     Ok(Left {
         status: ended.status,
         names: ended.shelf.names(),
@@ -134,8 +143,9 @@ fn installed(
     })
 }
 
-// The same of these POMs and these answers with this fault.
-fn install(
+// An install by one worker of these POMs, with these answers and this fault.
+fn install<W: Threads + Wait + Sync>(
+    rt: &W,
     alloc: Global,
     poms: &[Pom],
     letters: &str,
@@ -144,13 +154,14 @@ fn install(
 ) -> Mem<Left> {
     let mut tree = tree(alloc, poms, fault)?;
     let shelf = MemShelf::new(alloc, List::new(alloc), &failing(alloc, fault, 's')?)?;
-    let mut workers = [worker(alloc, letters, fault)?];
-    installed(alloc, &mut tree, shelf, &mut workers, sink)
+    let mut workers = [worker(alloc, List::new(alloc), letters, fault)?];
+    let words = [Bytes::from_slice(alloc, b"install")?];
+    installed(rt, alloc, &words, &mut tree, shelf, &mut workers, sink)
 }
 
 // Such an install ends with this status, so many names in the repository and so many answers, and writes this text.
-fn check(
-    rt: &impl Abort,
+fn check<W: Abort + Threads + Wait + Sync>(
+    rt: &W,
     alloc: Global,
     letters: &str,
     fault: Fault,
@@ -158,14 +169,14 @@ fn check(
     text: &str,
 ) -> Mem<()> {
     let mut sink = MemSink::new(alloc, &failing(alloc, fault, 'o')?)?;
-    let left = install(alloc, ONE, letters, fault, &mut sink)?;
+    let left = install(rt, alloc, ONE, letters, fault, &mut sink)?;
     assert_eq!(rt; (left.status, left.names), (wanted.0, wanted.1), "{text}");
     assert!(rt; left.answers == wanted.2 || left.status > 2);
     assert!(rt; sink.bytes() == text.as_bytes());
     Ok(())
 }
 
-const BUILT: &str = "built demo:app:1.0\ntotal 1 built 1 failed 0 skipped 0\n";
+pub(crate) const BUILT: &str = "built demo:app:1.0\ntotal 1 built 1 failed 0 skipped 0\n";
 
 const GOAL: &str =
     "failed demo:app:1.0 goal maven-compiler-plugin:compile default-compile: 1 error\ntotal 1 built 0 failed 1 skipped 0\n";
@@ -182,8 +193,8 @@ fn an_install_runs_six_goals_and_puts_two_files(rt: HostRuntime) -> Result<(), F
 }
 
 // An install of which one of these calls of the object fails ends with status 3, so many names and this text.
-fn check_fault(
-    rt: &impl Abort,
+fn check_fault<W: Abort + Threads + Wait + Sync>(
+    rt: &W,
     alloc: Global,
     object: char,
     calls: (u64, u64),
@@ -196,13 +207,17 @@ fn check_fault(
     Ok(())
 }
 
-const AREA: &str = "failed demo:app:1.0 fault area\ntotal 1 built 0 failed 1 skipped 0\n";
+pub(crate) const AREA: &str =
+    "failed demo:app:1.0 fault area\ntotal 1 built 0 failed 1 skipped 0\n";
 
-const GATE: &str = "failed demo:app:1.0 fault gate\ntotal 1 built 0 failed 1 skipped 0\n";
+pub(crate) const GATE: &str =
+    "failed demo:app:1.0 fault gate\ntotal 1 built 0 failed 1 skipped 0\n";
 
-const SHELF: &str = "failed demo:app:1.0 fault shelf\ntotal 1 built 0 failed 1 skipped 0\n";
+pub(crate) const SHELF: &str =
+    "failed demo:app:1.0 fault shelf\ntotal 1 built 0 failed 1 skipped 0\n";
 
-const SETTLE: &str = "built demo:app:1.0\ntotal 1 built 1 failed 0 skipped 0\nfault settle\n";
+pub(crate) const SETTLE: &str =
+    "built demo:app:1.0\ntotal 1 built 1 failed 0 skipped 0\nfault settle\n";
 
 #[test]
 fn each_call_that_fails_is_told(rt: HostRuntime) -> Result<(), Fail> {
@@ -220,9 +235,15 @@ fn each_call_that_fails_is_told(rt: HostRuntime) -> Result<(), Fail> {
 }
 
 // An install of the POM with a parent ends with this status and this text, and leaves the repository as it was.
-fn check_child(rt: &impl Abort, alloc: Global, fault: Fault, status: u8, text: &str) -> Mem<()> {
+fn check_child<W: Abort + Threads + Wait + Sync>(
+    rt: &W,
+    alloc: Global,
+    fault: Fault,
+    status: u8,
+    text: &str,
+) -> Mem<()> {
     let mut sink = MemSink::new(alloc, &failing(alloc, fault, 'o')?)?;
-    let left = install(alloc, ALONE, "", fault, &mut sink)?;
+    let left = install(rt, alloc, ALONE, "", fault, &mut sink)?;
     assert_eq!(rt; (left.status, left.names), (status, 0), "{text}");
     assert!(rt; sink.bytes() == text.as_bytes());
     Ok(())
@@ -240,8 +261,8 @@ fn a_look_up_that_fails_names_the_device(rt: HostRuntime) -> Result<(), Fail> {
 }
 
 // An install of the three, of which one of these calls of the object fails, ends with this status, so many names and this text.
-fn check_three(
-    rt: &impl Abort,
+fn check_three<W: Abort + Threads + Wait + Sync>(
+    rt: &W,
     alloc: Global,
     object: char,
     calls: (u64, u64),
@@ -250,14 +271,14 @@ fn check_three(
 ) -> Mem<()> {
     for call in calls.0..calls.1 {
         let mut sink = MemSink::new(alloc, &failing(alloc, (object, call), 'o')?)?;
-        let left = install(alloc, THREE, "dcdtdjdcdtdj", (object, call), &mut sink)?;
+        let left = install(rt, alloc, THREE, "dcdtdjdcdtdj", (object, call), &mut sink)?;
         assert_eq!(rt; (left.status, left.names), wanted, "{text}");
         assert!(rt; sink.bytes() == text.as_bytes());
     }
     Ok(())
 }
 
-const ALL: &str =
+pub(crate) const ALL: &str =
     "built demo:root:1\nbuilt demo:a:1\nbuilt demo:b:1\ntotal 3 built 3 failed 0 skipped 0\n";
 
 const GATE_A: &str =

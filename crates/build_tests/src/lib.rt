@@ -2,4 +2,6 @@
 #![tactic(auto)]
 
 #[cfg(test)]
+mod fetch_tests;
+#[cfg(test)]
 mod install_tests;

@@ -16,6 +16,8 @@ use mvn_top::{FAULT, NO_MEMORY, mvn};
 use outside_real::{RealArea, RealRemote, RealShelf, RealSink, RealTree};
 use std::os::fd::AsFd;
 use std::process::{ChildStdin, ExitCode};
+use std::sync::Wait;
+use std::thread::Threads;
 use words::{asks_for_help, asks_for_version};
 
 /// How many hands there are at most.
@@ -44,7 +46,7 @@ Options:
   -rf MODULE      leaves out the modules before this one, in the order of the build
   -P LIST         profiles, with commas between: id or +id is on, -id or !id is off
   -D NAME=VALUE   a property; its value is true if =VALUE is left out
-  -T NUMBER       how many workers may build, 1 to 16; one builds so far
+  -T NUMBER       how many workers build at once, 1 to 16 (by default 1)
   --full          the report tells each module's effective model and classpaths too
   -fae, -B, -ntp  as it is done anyway
   -h, --help      print this help
@@ -58,7 +60,7 @@ What Maven takes and this program doesn't, and what to do instead:
   clean           remove the folder .m2/repository of the project; there is no target
   site, deploy    nothing stands for them
   PLUGIN:GOAL     bind the goal to a phase in the POM
-  -o              leave it out: nothing is fetched over a network
+  -o              leave it out: the remote repository is a folder, not a network
   -f FILE         change to the folder of the POM
   -T 1C           write a number
   -pl !MODULE     name the modules that are wanted; none can be excluded
@@ -68,21 +70,23 @@ The goals are built in and do not compile: the output of a goal is a SHA-256 dig
 its input. Don't point MVN_REPO at a repository that Maven uses. A program that
 MVN_GATE names runs the goals in their place.
 
-Nothing is fetched yet. The answer is `not built yet` if a module that is built needs
-the file of a dependency that isn't built in the same run. A phase whose goals read no
-classpath, such as validate, needs none. The POMs of parents, imports and dependencies
-are looked up in the project, in the local repository and in the remote one.
+A file of a dependency that the local repository hasn't is copied there from the remote
+one, if a goal reads it. A module fails of which such a file is in neither, or is larger
+than 128 MiB in the remote one: its line in the report says `missing` and names the
+file. A phase whose goals read no classpath, such as validate, needs none. The POMs of
+parents, imports and dependencies are looked up in the project, in the local repository
+and in the remote one.
 
 Environment:
   MVN_REPO        the local repository (by default .m2/repository in the project)
   MVN_REMOTE      a folder that stands for a remote repository (by default .m2/remote
-                  in the project); POMs are read from it
+                  in the project); POMs and files are read from it
   MVN_GATE        a program that runs the goals, once for each (by default the
                   built-in goals)
   MVN_JDK         the version of the JDK, for profiles that ask for it
 
-Exit status: 0 all modules built, 1 a module failed, 2 refused or not built yet, 3
-reading or writing failed, 4 out of memory.
+Exit status: 0 all modules built, 1 a module failed, 2 refused, 3 reading or writing
+failed, 4 out of memory.
 
 Example:
   cd examples/shop && mvn install
@@ -139,8 +143,13 @@ fn hands<'a>(
     Ok(hands)
 }
 
-// Builds the project in the current folder.
-fn build<O: Sink>(rt: &HostRuntime, words: &[Bytes], out: &mut O) -> Mem<u8> {
+// Builds the project in the current folder, in threads that `threads` starts.
+fn build<W: Threads + Wait + Sync, O: Sink>(
+    rt: &HostRuntime,
+    threads: &W,
+    words: &[Bytes],
+    out: &mut O,
+) -> Mem<u8> {
     let alloc = rt.alloc();
     let variables = variables(rt, alloc)?;
     let machine = machine(alloc, &variables)?;
@@ -151,12 +160,14 @@ fn build<O: Sink>(rt: &HostRuntime, words: &[Bytes], out: &mut O) -> Mem<u8> {
     let mut hands = hands(rt, &repository, &remote, &process, &program)?;
     let mut tree = RealTree::new(rt, Text::from_str(alloc, ".")?);
     let shelf = RealShelf::new(rt, repository);
-    let ended = mvn(alloc, words, machine, &mut tree, shelf, &mut hands, out);
+    let ended = mvn(
+        threads, alloc, words, machine, &mut tree, shelf, &mut hands, out,
+    );
     Ok(ended.status)
 }
 
 // The exit status of a run.
-fn run(rt: &HostRuntime) -> Mem<u8> {
+fn run<W: Threads + Wait + Sync>(rt: &HostRuntime, threads: &W) -> Mem<u8> {
     let alloc = rt.alloc();
     let words = words(rt, alloc)?;
     // A duplicate that is written without a signal where nobody reads: a closed pipe is then a fault.
@@ -170,9 +181,9 @@ fn run(rt: &HostRuntime) -> Mem<u8> {
     if asks_for_version(&words) {
         return Ok(status_of_text(&mut sink, VERSION));
     }
-    build(rt, &words, &mut sink)
+    build(rt, threads, &words, &mut sink)
 }
 
 fn main(rt: HostRuntime) -> ExitCode {
-    ExitCode::from(run(&rt).unwrap_or(NO_MEMORY))
+    ExitCode::from(run(&rt, &rt).unwrap_or(NO_MEMORY))
 }

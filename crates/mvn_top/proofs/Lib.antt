@@ -1,5 +1,9 @@
+pub mod Building
 pub mod Calling
+pub mod Cut
+pub mod First
 pub mod Planned
+pub mod Present
 pub mod Statuses
 pub mod Stops
 pub mod Telling

@@ -1,22 +1,17 @@
 -- The statuses of what is answered without a build.
-use Rattle.std.proofs.Common.{◌≡◌, ℕ, ◌<◌, ◌≤◌, Bool, true, false, if◌then◌else◌, Result, Ok, Err, refl, ap, ◌∙◌, arith}
+use Rattle.std.proofs.Common.{◌≡◌, ℕ, ◌<◌, ◌≤◌, Result, Ok, Err, refl, ap, ◌∙◌, arith}
 use Rattle.mvn_base.specs.declared.refusal.Refusal.{Refusal}
 use Rattle.cli_words.specs.declared.command_line.CommandLine.{CommandLine}
 use Rattle.cli_words.specs.declared.fault.WordFault.{WordFault}
 use Rattle.pom_source.specs.declared.fault.BuildFault.TheVariants.{Refused, Absent, Source, Memory}
 use Rattle.model_resolver.specs.declared.failures.PomDevice.{PomDevice}
 use Rattle.plan_numbers.specs.declared.selected.Planned.{Planned}
-use Rattle.plan_needs.specs.Needs.{needs_files}
 use Rattle.build_plan.specs.declared.planning.PlanFault.{PlanFault}
 use Rattle.build_plan.specs.declared.planning.PlanFault.TheVariants.{Build, Unknown}
-use Rattle.build_outcome.specs.declared.outcome.Outcome.{Outcome}
+use Rattle.crew_outcome.specs.declared.outcome.Outcome.{Outcome}
 use Rattle.mvn_top.specs.Commands.{of_options}
-use Rattle.mvn_top.specs.Found.{found_of, IsSaid}
-use Rattle.mvn_top.specs.Outcome.{fault_line, not_built, refused_by, unknown_module, word_fault}
-
-not_built_status : not_built.status ≡ 2
-unfolding not_built
-not_built_status = refl
+use Rattle.mvn_top.specs.Found.{Finds}
+use Rattle.mvn_top.specs.Outcome.{fault_line, refused_by, unknown_module, word_fault}
 
 word_status : (fault : WordFault) → (word_fault fault).status ≡ 2
 unfolding word_fault
@@ -47,18 +42,14 @@ words_status (Ok line) answer e = cc
 found_status : (a b : Outcome) (n : ℕ) → no_plan a ≡ no_plan b → b.status ≡ n → a.status ≡ n
 found_status a b n e is = cc
 
-plan_status : (b : Bool) (planned : Planned) (answer : Outcome) → Err answer ≡ (if b then Err not_built else Ok planned) → answer.status ≡ 2
-plan_status true planned answer e = found_status answer not_built 2 e not_built_status
-plan_status false planned answer e = cc
-
 -- in place of a plan
-pub planning_status : (said : Result Planned PlanFault) (answer : Outcome) → IsSaid said → Err answer ≡ found_of said → answer.status ≡ 2
-planning_status (Ok planned) answer says e = plan_status (needs_files planned.plan) planned answer e
-planning_status (Err (Build (Refused refusal))) answer says e = found_status answer (refused_by refusal) 2 e (refused_status refusal)
-planning_status (Err (Build Absent)) answer says e = found_status answer (refused_by _) 2 e (refused_status _)
-planning_status (Err (Build Source)) answer says e = absurd says
-planning_status (Err (Build Memory)) answer says e = absurd says
-planning_status (Err (Unknown place)) answer says e = found_status answer (unknown_module place) 2 e (word_status _)
+pub planning_status : (said : Result Planned PlanFault) (answer : Outcome) → Finds said (Err answer) → answer.status ≡ 2
+planning_status (Ok planned) answer e = cc
+planning_status (Err (Build (Refused refusal))) answer e = found_status answer (refused_by refusal) 2 e (refused_status refusal)
+planning_status (Err (Build Absent)) answer e = found_status answer (refused_by _) 2 e (refused_status _)
+planning_status (Err (Build Source)) answer e = absurd e
+planning_status (Err (Build Memory)) answer e = absurd e
+planning_status (Err (Unknown place)) answer e = found_status answer (unknown_module place) 2 e (word_status _)
 
 -- of a device that failed
 pub device_status : (device : PomDevice) (answer : Outcome) → answer ≡ fault_line device → answer.status ≡ 3

@@ -9,8 +9,8 @@ use Rattle.mvn_shared.specs.Files.{Files, file_at}
 use Rattle.mvn_outside.specs.declared.shelf.Published.{Published}
 use Rattle.mvn_outside.specs.declared.shelf.ShelfTold.{ShelfTold}
 use Rattle.mvn_outside.specs.Shelf.{with_publish, files_now, Left, Between}
-use Rattle.build_outcome.specs.Once.{PublishesOnce, StopsBetween}
-use Rattle.plan_run.specs.Once.{AreApart}
+use Rattle.outcome_laws.specs.Once.{AreApart}
+use Rattle.crew_outcome.specs.Once.{PublishesOnce, StopsBetween}
 
 abbrev names : List Published → List (List ℕ)
 names ps = map (λ p. p.name) ps

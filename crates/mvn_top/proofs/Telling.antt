@@ -1,50 +1,50 @@
--- What follows where devices tell their files.
-use Rattle.std.proofs.Common.{Bool, refl, Option, Some, None, IfSome}
+-- What follows where all that a call uses tells.
+use Rattle.std.proofs.Common.{◌≡◌, ◌<◌, ◌≤◌, ℕ, zero, suc, List, [], ◌∷◌, length, take, Option, Some, None, IfSome, refl, subst, arith}
 use Rattle.mvn_shared.specs.Files.{Files}
 use Rattle.mvn_outside.specs.Shelf.{files_now}
 use Rattle.mvn_outside.specs.declared.shelf.ShelfTold.{ShelfTold}
-use Rattle.one_hand.specs.Built.{LeavesFiles}
+use Rattle.crew_stages.specs.Hands.{HandState}
+use Rattle.outcome_laws.specs.Crews.{AllTellFiles, told_of}
 use Rattle.mvn_top.specs.Found.{IfTold}
-use Rattle.mvn_top.specs.Headline.{IfBoth}
 
-pub told_map : (tree : Option Files) (shelf : Option ShelfTold) (remote : Option Files) (P Q : Files → Files → Files → Type 0) → ((a b c : Files) → P a b c → Q a b c) → IfTold tree shelf remote P → IfTold tree shelf remote Q
-told_map None shelf remote P Q h p = tt
-told_map (Some files) None remote P Q h p = tt
-told_map (Some files) (Some told) None P Q h p = tt
-told_map (Some files) (Some told) (Some there) P Q h p = h _ _ _ p
+-- as `IfAllTell`, by the parts
+abbrev pub IfAll : Option Files → Option ShelfTold → List HandState → ((tree : Files) (told : ShelfTold) (remote : Files) → Type 0) → Type 0
+IfAll tree shelf hands P = IfSome tree (λ files. IfSome shelf (λ told. (remote : Files) → AllTellFiles hands remote → P files told remote))
 
-pub told_all : (P : Files → Files → Files → Type 0) (tree : Option Files) (shelf : Option ShelfTold) (remote : Option Files) → ((a b c : Files) → P a b c) → IfTold tree shelf remote P
-told_all P None shelf remote h = tt
-told_all P (Some files) None remote h = tt
-told_all P (Some files) (Some told) None h = tt
-told_all P (Some files) (Some told) (Some there) h = h files (files_now told) there
+pub all_any : (tree : Option Files) (shelf : Option ShelfTold) (hands : List HandState) (P : Files → ShelfTold → Files → Type 0) → ((files : Files) (told : ShelfTold) (remote : Files) → P files told remote) → IfAll tree shelf hands P
+all_any None shelf hands P h = tt
+all_any (Some files) None hands P h = tt
+all_any (Some files) (Some told) hands P h = λ remote tells. h files told remote
 
-pub if_some_map : {A : Type 0} (P Q : A → Type 0) (o : Option A) → ((a : A) → P a → Q a) → IfSome o P → IfSome o Q
-if_some_map P Q None h p = tt
-if_some_map P Q (Some a) h p = h a p
+pub all_map : (tree : Option Files) (shelf : Option ShelfTold) (hands : List HandState) (P Q : Files → ShelfTold → Files → Type 0) → ((files : Files) (told : ShelfTold) (remote : Files) → P files told remote → Q files told remote)
+    → IfAll tree shelf hands P → IfAll tree shelf hands Q
+all_map None shelf hands P Q h p = tt
+all_map (Some files) None hands P Q h p = tt
+all_map (Some files) (Some told) hands P Q h p = λ remote tells. h files told remote (p remote tells)
 
-pub if_both_all : (P : Files → Files → Type 0) (a b : Option Files) → ((x y : Files) → P x y) → IfBoth a b P
-if_both_all P None b h = tt
-if_both_all P (Some x) None h = tt
-if_both_all P (Some x) (Some y) h = h x y
+-- with what holds where the repository tells
+pub all_with : (tree : Option Files) (shelf : Option ShelfTold) (hands : List HandState) (P R : Files → ShelfTold → Files → Type 0) (Q : ShelfTold → Files → Type 0)
+    → ((files : Files) (told : ShelfTold) (remote : Files) → P files told remote → Q told remote → R files told remote)
+    → IfAll tree shelf hands P → IfSome shelf (λ told. (remote : Files) → AllTellFiles hands remote → Q told remote) → IfAll tree shelf hands R
+all_with None shelf hands P R Q h p q = tt
+all_with (Some files) None hands P R Q h p q = tt
+all_with (Some files) (Some told) hands P R Q h p q = λ remote tells. h files told remote (p remote tells) (q remote tells)
 
-pub both_map : (tree remote : Option Files) (P Q : Files → Files → Type 0) → ((x y : Files) → P x y → Q x y) → IfBoth tree remote P → IfBoth tree remote Q
-both_map None remote P Q h p = tt
-both_map (Some files) None P Q h p = tt
-both_map (Some files) (Some there) P Q h p = h files there p
+-- under a condition
+pub all_if : (tree : Option Files) (shelf : Option ShelfTold) (hands : List HandState) (A : Type 0) (P : Files → ShelfTold → Files → Type 0) → (A → IfAll tree shelf hands P) → IfAll tree shelf hands (λ files told remote. A → P files told remote)
+all_if None shelf hands A P h = tt
+all_if (Some files) None hands A P h = tt
+all_if (Some files) (Some told) hands A P h = λ remote tells a. h a remote tells
 
--- where all three tell, and where the tree and the remote do
-pub both_told : (tree : Option Files) (shelf : Option ShelfTold) (remote : Option Files) (P : Files → Files → Files → Type 0) → IfTold tree shelf remote P → IfBoth tree remote (λ files there. IfSome shelf (λ t. P files (files_now t) there))
-both_told None shelf remote P p = tt
-both_told (Some files) shelf None P p = tt
-both_told (Some files) None (Some there) P p = tt
-both_told (Some files) (Some told) (Some there) P p = p
+some_at : (o : Option Files) (x : Files) (P : Files → Type 0) → o ≡ Some x → IfSome o P → P x
+some_at o x P e p = subst (λ (o : Option Files). IfSome o P) e p
 
--- what is related so is related, where the files before it are told
-pub leaves_more : (before now : Option ShelfTold) (tells : Bool) (R Q : Files → Files → Type 0) → IfSome before (λ t. (b : Files) → R (files_now t) b → Q (files_now t) b) → LeavesFiles before now tells R → LeavesFiles before now tells Q
-leaves_more None now tells R Q h l = l
-leaves_more (Some told) now tells R Q h l = λ t. let left = l t in (left.0, left.1, h (files_now left.0) left.2)
-
-pub leaves_same : (told : Option ShelfTold) (tells : Bool) (R : Files → Files → Type 0) → IfSome told (λ t. R (files_now t) (files_now t)) → LeavesFiles told told tells R
-leaves_same None tells R h = refl
-leaves_same (Some told) tells R h = λ t. (told, refl, h)
+-- where all that is used tells, the remote of the first hand does
+pub all_told : (tree : Option Files) (shelf : Option ShelfTold) (hands : List HandState) (count : ℕ) (P : Files → Files → Files → Type 0) → 1 ≤ count → 1 ≤ length hands
+    → IfTold tree shelf (told_of hands 0).remote P → IfAll tree shelf (take count hands) (λ files told remote. P files (files_now told) remote)
+all_told None shelf hands count P low some p = tt
+all_told (Some files) None hands count P low some p = tt
+all_told (Some files) (Some told) [] count P low some p = absurd (omega (arith, some))
+all_told (Some files) (Some told) (hand ∷ hands) zero P low some p = absurd (omega (arith, low))
+all_told (Some files) (Some told) (hand ∷ hands) (suc count) P low some p =
+    λ remote tells. some_at hand.told.remote remote (P files (files_now told)) (tells 0 (omega arith)).1 p

@@ -243,10 +243,5 @@ many_options words hands (Ok line) e low ok =
     let is : options words hands ≡ whole_line (length words) hands line = rw e refl in
     subst (AsMany hands) (sym is) (many_line (length words) hands line line.awaits line.phase refl refl low ok)
 
-at_most : (n hands : ℕ) → n ≤ hands → hands ≤ 16 → n ≤ 16
-at_most n hands a b = omega (arith, a, b)
-
-pub workers_of : (words : List (List ℕ)) (hands : ℕ) (line : CommandLine) → options words hands ≡ Ok line → 1 ≤ hands → hands ≤ 16 → (1 ≤ line.workers) × (line.workers ≤ 16)
-workers_of words hands line e low high =
-    let many : AsMany hands (Ok line) = subst (AsMany hands) e (many_options words hands (read_words 0 no_words words) refl low (keeps_read 0 no_words words tt)) in
-    (many.0, at_most line.workers hands many.1 high)
+pub workers_of : (words : List (List ℕ)) (hands : ℕ) (line : CommandLine) → options words hands ≡ Ok line → 1 ≤ hands → (1 ≤ line.workers) × (line.workers ≤ hands)
+workers_of words hands line e low = subst (AsMany hands) e (many_options words hands (read_words 0 no_words words) refl low (keeps_read 0 no_words words tt))

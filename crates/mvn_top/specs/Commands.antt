@@ -3,7 +3,7 @@ use Rattle.std.specs.Prelude.{ℕ, List, Result, Ok, Err}
 use Rattle.cli_words.specs.Options.{options}
 use Rattle.cli_words.specs.declared.command_line.CommandLine.{CommandLine}
 use Rattle.cli_words.specs.declared.fault.WordFault.{WordFault}
-use Rattle.build_outcome.specs.declared.outcome.Outcome.{Outcome}
+use Rattle.crew_outcome.specs.declared.outcome.Outcome.{Outcome}
 use Rattle.mvn_top.specs.Outcome.{word_fault}
 
 abbrev pub of_options : Result CommandLine WordFault → Result CommandLine Outcome

@@ -3,7 +3,7 @@ use Rattle.std.specs.Prelude.{◌≡◌, ◌≢◌, ℕ, ◌<◌, List, [], Opti
 use Rattle.mvn_shared.specs.declared.memory.OutOfMemory.{OutOfMemory}
 use Rattle.mvn_shared.specs.Cause.{last_count, HasRisen}
 use Rattle.mvn_shared.specs.Told.{gains, IsCut}
-use Rattle.build_outcome.specs.declared.outcome.Outcome.{Outcome}
+use Rattle.crew_outcome.specs.declared.outcome.Outcome.{Outcome}
 
 -- memory ran out before there was a text
 abbrev pub without_memory : Outcome

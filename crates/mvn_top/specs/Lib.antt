@@ -9,11 +9,13 @@ pub use Rattle.pom_source.specs.Answers
 pub use Rattle.model_resolver.specs.Devices
 pub use Rattle.build_plan.specs.Planning
 pub use Rattle.full_report.specs.Details as module_details
-pub use Rattle.one_hand.specs.Built
-pub use Rattle.build_outcome.specs.Causes
-pub use Rattle.build_outcome.specs.Once
-pub use Rattle.build_outcome.specs.Ran
-pub use Rattle.plan_needs.specs.Needs
+pub use Rattle.crew_stages.specs.Hands
+pub use Rattle.outcome_laws.specs.Crews
+pub use Rattle.crew_outcome.specs.Answering
+pub use Rattle.crew_outcome.specs.Left
+pub use Rattle.crew_outcome.specs.Once
+pub use Rattle.crew_outcome.specs.Outcomes
+pub use Rattle.crew_outcome.specs.Reports
 pub mod Calls
 pub mod Commands
 pub mod Ending
@@ -21,3 +23,4 @@ pub mod Found
 pub mod Headline
 pub mod Outcome
 pub mod Project
+pub mod Seen

@@ -10,15 +10,11 @@ use Rattle.cli_words.specs.declared.fault.WordFault.{WordFault}
 use Rattle.cli_words.specs.declared.fault.WordKind.TheVariants.{UnknownModule}
 use Rattle.model_resolver.specs.declared.failures.PomDevice.{PomDevice}
 use Rattle.model_resolver.specs.declared.failures.PomDevice.TheVariants.{Tree, Shelf, Remote}
-use Rattle.build_outcome.specs.declared.outcome.Outcome.{Outcome}
+use Rattle.crew_outcome.specs.declared.outcome.Outcome.{Outcome}
 
 -- a text with a line feed behind it
 abbrev pub line : List ℕ → List ℕ
 line text = text ++ 10 ∷ []
-
--- what this stage doesn't build yet
-unfoldable pub not_built : Outcome
-not_built = record { text = line (codes "not built yet"); status = 2 }
 
 -- the first fault of the words, and where it stands
 unfoldable pub word_fault : WordFault → Outcome

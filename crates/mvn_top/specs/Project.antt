@@ -7,13 +7,13 @@ use Rattle.pom_source.specs.declared.found.Given.{Given}
 use Rattle.model_resolver.specs.declared.failures.PomDevice.{PomDevice}
 use Rattle.plan_numbers.specs.declared.selected.Planned.{Planned}
 use Rattle.build_plan.specs.declared.planning.PlanFault.{PlanFault}
-use Rattle.build_outcome.specs.declared.outcome.Outcome.{Outcome}
-use Rattle.mvn_top.specs.Found.{IsFoundBy, IsSaid, found_of}
+use Rattle.crew_outcome.specs.declared.outcome.Outcome.{Outcome}
+use Rattle.mvn_top.specs.Found.{Finds, IsFoundBy}
 use Rattle.mvn_top.specs.Outcome.{fault_line}
 
 -- what is made of what planning gave: where a device failed its line, and else the plan or what is answered in its place
 abbrev pub IsMadeOf : Result Planned PlanFault → Option PomDevice → Result Planned Outcome → Type 0
-IsMadeOf said None found = IsSaid said × (found ≡ found_of said)
+IsMadeOf said None found = Finds said found
 IsMadeOf said (Some device) found = found ≡ Err (fault_line device)
 
 -- by the device that failed, if one did

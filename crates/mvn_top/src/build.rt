@@ -1,16 +1,22 @@
 // From what a line asks for to what is answered, before it is written.
-ghost use Rattle.std.specs.Prelude.{◌≡◌, ◌≤◌, is_some, Ok};
-ghost use Rattle.plan_needs.specs.Needs.{IsWithoutFiles};
-ghost use Rattle.mvn_top.specs.Calls.{Builds, Calls};
+ghost use Rattle.std.specs.Prelude.{◌≡◌, ◌≤◌, drop, length, Ok, IfSome};
+ghost use Rattle.mvn_outside.specs.Shelf.{files_now};
+ghost use Rattle.event_core.specs.SoundPlans.{IsSoundPlan};
+ghost use Rattle.run_law.specs.Given.{IsPresent};
+ghost use Rattle.crew_stages.specs.Hands.{state_by};
+ghost use Rattle.crew_outcome.specs.Left.{outside_by};
+ghost use Rattle.crew_outcome.specs.Reports.{Reports};
+ghost use Rattle.mvn_top.specs.Calls.{Calls};
 ghost use Rattle.mvn_top.specs.Commands.{asked};
 ghost use Rattle.mvn_top.specs.Found.{given_of};
 ghost use Rattle.mvn_top.specs.Headline.{told_of};
+ghost use Rattle.mvn_top.specs.Seen.{OthersStay, with_first};
 
 use crate::command::asked;
 use crate::given::given_of;
-use crate::project::plan_line;
-use build_outcome::{Call, nothing, run_and_report};
+use crate::project::plan_by_first;
 use cli_words::CommandLine;
+use crew_outcome::{Call, nothing, run_and_report};
 use full_report::details_of;
 use mvn_base::Machine;
 use mvn_outside::{Gate, Hand, Remote, Shelf, Tree};
@@ -18,176 +24,190 @@ use mvn_shared::Bytes;
 use plan_numbers::Planned;
 use pom_source::Given;
 use std::alloc::Global;
+use std::sync::Wait;
+use std::thread::Threads;
 
-// Builds what was planned, once what is told of its modules besides is made.
-#[tactic(auto, using(plan_needs::proofs::Fetching::needs_no_file, plan_needs::proofs::Owning::has_owners))]
-fn build_planned<R, S: Shelf, G: Gate>(
+// Builds what was planned by as many hands as it has workers, once what is told of its modules besides is made.
+fn build_planned<W: Threads + Wait + Sync, R: Remote + Send, S: Shelf + Send, G: Gate + Send>(
+    rt: &W,
     alloc: Global,
     full: bool,
     planned: &Planned,
-    shelf: &mut S,
-    hand: &mut Hand<R, S::Area, G>,
-) -> Call
-    requires without { IsWithoutFiles planned.now.plan }
-    ensures builds { Builds planned.now.plan (told_of full planned.now) (G.answers hand.old.gate)
-        (is_some (S.Area.contents hand.old.area)) (S.told shelf.old) (S.told shelf.new)
-        (record {
-          shelf = S.faults shelf.old;
-          area = S.Area.faults hand.old.area;
-          gate = G.faults hand.old.gate;
-        })
-        (record {
-          shelf = S.faults shelf.new;
-          area = S.Area.faults hand.new.area;
-          gate = G.faults hand.new.gate;
-        })
-        result }
-    ensures remote { hand.new.remote ≡ hand.old.remote }
+    shelf: S,
+    hands: &mut [Hand<R, S::Area, G>],
+) -> Call<S>
+where
+    S::Area: Send,
+    requires sound { IsSoundPlan planned.now.plan }
+    requires hands { length hands.old ≡ planned.now.plan.workers }
+    requires present { IfSome (S.told shelf) (λ told.
+        IsPresent planned.now.plan (files_now told)) }
+    ensures { Reports planned.now.plan (told_of full planned.now)
+        (outside_by S.told S.faults (state_by R.files R.faults S.Area.contents S.Area.faults
+        S.Area.pieces G.answers G.faults) shelf hands.old)
+        (outside_by S.told S.faults (state_by R.files R.faults S.Area.contents S.Area.faults
+        S.Area.pieces G.answers G.faults) result.shelf hands.new)
+        result.trace result.answers result.outcome }
 {
     let models = planned.models.as_slice();
     let resolutions = planned.resolutions.as_slice();
     match details_of(alloc, full, models, resolutions, planned.unbound.as_slice()) {
-        Ok(details) => run_and_report(alloc, &planned.plan, details, shelf, hand),
-        Err(error) => nothing(alloc, Err(error)),
+        Ok(details) => run_and_report(rt, alloc, &planned.plan, details, shelf, hands),
+        Err(error) => nothing(alloc, shelf, Err(error)),
     }
 }
 
+// Builds what was planned by the first hands, as many as it has workers. The others stay as they are.
+fn build_by_first<W: Threads + Wait + Sync, R: Remote + Send, S: Shelf + Send, G: Gate + Send>(
+    rt: &W,
+    alloc: Global,
+    full: bool,
+    planned: &Planned,
+    shelf: S,
+    hands: &mut [Hand<R, S::Area, G>],
+) -> Call<S>
+where
+    S::Area: Send,
+    requires sound { IsSoundPlan planned.now.plan }
+    requires enough { planned.now.plan.workers ≤ length hands.old }
+    requires present { IfSome (S.told shelf) (λ told.
+        IsPresent planned.now.plan (files_now told)) }
+    ensures reports { Reports planned.now.plan (told_of full planned.now)
+        (with_first planned.now.plan.workers (outside_by S.told S.faults (state_by R.files R.faults
+        S.Area.contents S.Area.faults S.Area.pieces G.answers G.faults) shelf hands.old))
+        (with_first planned.now.plan.workers (outside_by S.told S.faults (state_by R.files R.faults
+        S.Area.contents S.Area.faults S.Area.pieces G.answers G.faults) result.shelf hands.new))
+        result.trace result.answers result.outcome }
+    ensures many { length hands.new ≡ length hands.old }
+    ensures others { drop planned.now.plan.workers hands.new
+        ≡ drop planned.now.plan.workers hands.old }
+{
+    let (first, _) = hands.split_at_mut(planned.plan.workers as usize);
+    build_planned(rt, alloc, full, planned, shelf, first)
+}
+
 // What a call of this line answers, by what is given to its POMs.
-fn build_given<T: Tree, R: Remote, S: Shelf, G: Gate>(
+fn build_given<
+    W: Threads + Wait + Sync,
+    T: Tree,
+    R: Remote + Send,
+    S: Shelf + Send,
+    G: Gate + Send,
+>(
+    rt: &W,
     alloc: Global,
     given: &Given,
     line: &CommandLine,
     tree: &mut T,
-    shelf: &mut S,
-    hand: &mut Hand<R, S::Area, G>,
-) -> Call
+    shelf: S,
+    hands: &mut [Hand<R, S::Area, G>],
+) -> Call<S>
+where
+    S::Area: Send,
     requires given { given.now ≡ given_of given.now.machine line.now }
-    requires workers { (1 ≤ line.now.workers) × (line.now.workers ≤ 16) }
-    ensures { Calls (Ok line.now)
+    requires workers { (1 ≤ line.now.workers) × (line.now.workers ≤ length hands.old) }
+    requires hands { length hands.old ≤ 16 }
+    ensures calls { Calls (Ok line.now)
         (record {
           tree = T.files tree.old;
-          shelf = S.told shelf.old;
-          remote = R.files hand.old.remote;
-          gate = G.answers hand.old.gate;
-          area_tells = is_some (S.Area.contents hand.old.area);
+          faults = T.faults tree.old;
           machine = given.now.machine;
-          faults = record {
-            tree = T.faults tree.old;
-            shelf = S.faults shelf.old;
-            remote = R.faults hand.old.remote;
-            area = S.Area.faults hand.old.area;
-            gate = G.faults hand.old.gate;
-          };
+          outside = outside_by S.told S.faults (state_by R.files R.faults S.Area.contents
+              S.Area.faults S.Area.pieces G.answers G.faults) shelf hands.old;
         })
         (record {
-          shelf = S.told shelf.new;
-          faults = record {
-            tree = T.faults tree.new;
-            shelf = S.faults shelf.new;
-            remote = R.faults hand.new.remote;
-            area = S.Area.faults hand.new.area;
-            gate = G.faults hand.new.gate;
-          };
+          faults = T.faults tree.new;
+          outside = outside_by S.told S.faults (state_by R.files R.faults S.Area.contents
+              S.Area.faults S.Area.pieces G.answers G.faults) result.shelf hands.new;
         })
-        result }
+        result.trace result.answers result.outcome }
+    ensures hands { OthersStay (Ok line.now) hands.old hands.new }
 {
-    let planning = plan_line(alloc, given, line, tree, shelf, &mut hand.remote);
+    let mut shelf = shelf;
+    let planning = plan_by_first(alloc, given, line, tree, &mut shelf, hands);
     let answer = planning.answer;
     match answer {
-        Ok(Ok(planned)) => build_planned(alloc, line.full, &planned, shelf, hand),
-        Ok(Err(outcome)) => nothing(alloc, Ok(outcome)),
-        Err(error) => nothing(alloc, Err(error)),
+        Ok(Ok(planned)) => build_by_first(rt, alloc, line.full, &planned, shelf, hands),
+        Ok(Err(outcome)) => nothing(alloc, shelf, Ok(outcome)),
+        Err(error) => nothing(alloc, shelf, Err(error)),
     }
 }
 
 // What a call of this line answers.
-fn build_line<T: Tree, R: Remote, S: Shelf, G: Gate>(
+fn build_line<W: Threads + Wait + Sync, T: Tree, R: Remote + Send, S: Shelf + Send, G: Gate + Send>(
+    rt: &W,
     alloc: Global,
     line: &CommandLine,
     machine: Machine,
     tree: &mut T,
-    shelf: &mut S,
-    hand: &mut Hand<R, S::Area, G>,
-) -> Call
-    requires workers { (1 ≤ line.now.workers) × (line.now.workers ≤ 16) }
-    ensures { Calls (Ok line.now)
+    shelf: S,
+    hands: &mut [Hand<R, S::Area, G>],
+) -> Call<S>
+where
+    S::Area: Send,
+    requires workers { (1 ≤ line.now.workers) × (line.now.workers ≤ length hands.old) }
+    requires hands { length hands.old ≤ 16 }
+    ensures calls { Calls (Ok line.now)
         (record {
           tree = T.files tree.old;
-          shelf = S.told shelf.old;
-          remote = R.files hand.old.remote;
-          gate = G.answers hand.old.gate;
-          area_tells = is_some (S.Area.contents hand.old.area);
+          faults = T.faults tree.old;
           machine = machine;
-          faults = record {
-            tree = T.faults tree.old;
-            shelf = S.faults shelf.old;
-            remote = R.faults hand.old.remote;
-            area = S.Area.faults hand.old.area;
-            gate = G.faults hand.old.gate;
-          };
+          outside = outside_by S.told S.faults (state_by R.files R.faults S.Area.contents
+              S.Area.faults S.Area.pieces G.answers G.faults) shelf hands.old;
         })
         (record {
-          shelf = S.told shelf.new;
-          faults = record {
-            tree = T.faults tree.new;
-            shelf = S.faults shelf.new;
-            remote = R.faults hand.new.remote;
-            area = S.Area.faults hand.new.area;
-            gate = G.faults hand.new.gate;
-          };
+          faults = T.faults tree.new;
+          outside = outside_by S.told S.faults (state_by R.files R.faults S.Area.contents
+              S.Area.faults S.Area.pieces G.answers G.faults) result.shelf hands.new;
         })
-        result }
+        result.trace result.answers result.outcome }
+    ensures hands { OthersStay (Ok line.now) hands.old hands.new }
 {
     match given_of(alloc, machine, line) {
-        Ok(given) => build_given(alloc, &given, line, tree, shelf, hand),
-        Err(error) => nothing(alloc, Err(error)),
+        Ok(given) => build_given(rt, alloc, &given, line, tree, shelf, hands),
+        Err(error) => nothing(alloc, shelf, Err(error)),
     }
 }
 
-/// What a call of these words answers before it is written, and what its goals were answered. Costs what planning and building
-/// cost.
-pub(crate) fn build<T: Tree, R: Remote, S: Shelf, G: Gate>(
+/// What a call of these words answers before it is written, and what it leaves. Costs what planning and building cost.
+pub(crate) fn build<
+    W: Threads + Wait + Sync,
+    T: Tree,
+    R: Remote + Send,
+    S: Shelf + Send,
+    G: Gate + Send,
+>(
+    rt: &W,
     alloc: Global,
     words: &[Bytes],
-    count: u32,
     machine: Machine,
     tree: &mut T,
-    shelf: &mut S,
-    hand: &mut Hand<R, S::Area, G>,
-) -> Call
-    requires hands { (1 ≤ count) × (count ≤ 16) }
-    ensures { Calls (asked words.now count)
+    shelf: S,
+    hands: &mut [Hand<R, S::Area, G>],
+) -> Call<S>
+where
+    S::Area: Send,
+    requires hands { (1 ≤ length hands.old) × (length hands.old ≤ 16) }
+    ensures calls { Calls (asked words.now (length hands.old))
         (record {
           tree = T.files tree.old;
-          shelf = S.told shelf.old;
-          remote = R.files hand.old.remote;
-          gate = G.answers hand.old.gate;
-          area_tells = is_some (S.Area.contents hand.old.area);
+          faults = T.faults tree.old;
           machine = machine;
-          faults = record {
-            tree = T.faults tree.old;
-            shelf = S.faults shelf.old;
-            remote = R.faults hand.old.remote;
-            area = S.Area.faults hand.old.area;
-            gate = G.faults hand.old.gate;
-          };
+          outside = outside_by S.told S.faults (state_by R.files R.faults S.Area.contents
+              S.Area.faults S.Area.pieces G.answers G.faults) shelf hands.old;
         })
         (record {
-          shelf = S.told shelf.new;
-          faults = record {
-            tree = T.faults tree.new;
-            shelf = S.faults shelf.new;
-            remote = R.faults hand.new.remote;
-            area = S.Area.faults hand.new.area;
-            gate = G.faults hand.new.gate;
-          };
+          faults = T.faults tree.new;
+          outside = outside_by S.told S.faults (state_by R.files R.faults S.Area.contents
+              S.Area.faults S.Area.pieces G.answers G.faults) result.shelf hands.new;
         })
-        result }
+        result.trace result.answers result.outcome }
+    ensures hands { OthersStay (asked words.now (length hands.old)) hands.old hands.new }
 {
-    let answer = asked(alloc, words, count);
+    let answer = asked(alloc, words, hands.len() as u32);
     match answer {
-        Ok(Ok(line)) => build_line(alloc, &line, machine, tree, shelf, hand),
-        Ok(Err(outcome)) => nothing(alloc, Ok(outcome)),
-        Err(error) => nothing(alloc, Err(error)),
+        Ok(Ok(line)) => build_line(rt, alloc, &line, machine, tree, shelf, hands),
+        Ok(Err(outcome)) => nothing(alloc, shelf, Ok(outcome)),
+        Err(error) => nothing(alloc, shelf, Err(error)),
     }
 }

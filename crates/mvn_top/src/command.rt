@@ -3,8 +3,8 @@ ghost use Rattle.std.specs.Prelude.{◌≡◌, ◌≤◌, IfOk};
 ghost use Rattle.mvn_top.specs.Commands.{asked};
 
 use crate::outcome::word_fault;
-use build_outcome::Outcome;
 use cli_words::{CommandLine, WordError, options};
+use crew_outcome::Outcome;
 use mvn_shared::{Bytes, Mem, OutOfMemory};
 use std::alloc::Global;
 
@@ -14,7 +14,7 @@ pub(crate) fn asked(alloc: Global, words: &[Bytes], hands: u32) -> Mem<Result<Co
     requires hands { (1 ≤ hands) × (hands ≤ 16) }
     ensures says { IfOk result (λ answer. answer ≡ asked words.now hands) }
     ensures workers { IfOk result (λ answer. IfOk answer (λ line.
-        (1 ≤ line.workers) × (line.workers ≤ 16))) }
+        (1 ≤ line.workers) × (line.workers ≤ hands))) }
 {
     if words.len() > 4_294_967_295 {
         return Err(OutOfMemory);

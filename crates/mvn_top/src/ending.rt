@@ -3,7 +3,7 @@ ghost use Rattle.std.specs.Prelude.{◌≡◌, ◌≤◌, ◌<◌, ◌⊎◌, If
 ghost use Rattle.mvn_shared.specs.Cause.{HasRisen};
 ghost use Rattle.mvn_top.specs.Ending.{Ends, HasNone, IsFault, IsLow, IsWhole};
 
-use build_outcome::{FAULT, NO_MEMORY, Outcome};
+use crew_outcome::{FAULT, NO_MEMORY, Outcome};
 use mvn_outside::{DeviceFault, Sink, write_all};
 use mvn_shared::Mem;
 

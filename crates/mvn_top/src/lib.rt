@@ -9,5 +9,5 @@ mod outcome;
 mod project;
 mod top;
 
-pub use build_outcome::{BUILT, FAILED, FAULT, NO_MEMORY, Outcome, REFUSED};
+pub use crew_outcome::{BUILT, FAILED, FAULT, NO_MEMORY, Outcome, REFUSED};
 pub use top::{Ended, mvn};

@@ -4,17 +4,15 @@ ghost use Rattle.std.specs.String.{string_bytes};
 ghost use Rattle.pom_source.specs.Answers.{fault_failed};
 ghost use Rattle.build_plan.specs.Planning.{plan_failed};
 ghost use Rattle.build_plan.specs.declared.planning.PlanFault.TheVariants as faults;
-ghost use Rattle.mvn_top.specs.Found.{found_of};
-ghost use Rattle.mvn_top.specs.Outcome.{device_name, fault_line, line, not_built, refused_by, root_missing, unknown_module, word_fault};
+ghost use Rattle.mvn_top.specs.Outcome.{device_name, fault_line, line, refused_by, root_missing, unknown_module, word_fault};
 ghost use Rattle.mvn_top.specs.Project.{IsMadeOf};
 
-use build_outcome::{FAULT, Outcome, REFUSED};
 use build_plan::{PlanFault, Planning};
 use cli_words::{WordFault, WordKind};
+use crew_outcome::{FAULT, Outcome, REFUSED};
 use model_resolver::PomDevice;
 use mvn_base::{Place, PomId, Refusal, Rule};
 use mvn_shared::{Bytes, Mem, OutOfMemory, Text};
-use plan_needs::needs_files;
 use plan_numbers::Planned;
 use pom_source::BuildFault;
 use std::alloc::Global;
@@ -26,18 +24,6 @@ fn line(text: String) -> Mem<Bytes>
     let mut bytes = text.into_bytes();
     bytes.push(b'\n')?;
     Ok(Bytes::of(bytes))
-}
-
-/// The answer to words, or to a project, that this stage doesn't build yet.
-#[tactic(auto, unfolding(crate::specs::Outcome::not_built))]
-pub(crate) fn not_built(alloc: Global) -> Mem<Outcome>
-    ensures { IfOk result (λ outcome. outcome ≡ not_built) }
-{
-    let text = line(String::from_str(alloc, "not built yet")?)?;
-    Ok(Outcome {
-        text,
-        status: REFUSED,
-    })
 }
 
 /// The answer to words of which this is the first fault.
@@ -126,17 +112,6 @@ fn unknown_module(alloc: Global, place: u32) -> Mem<Outcome>
     word_fault(alloc, WordFault { place, kind })
 }
 
-// The plan, unless it needs a file of the repository: nothing is fetched yet.
-fn without_files(alloc: Global, planned: Planned) -> Mem<Result<Planned, Outcome>>
-    ensures { IfOk result (λ answer. answer ≡ found_of (Ok planned)) }
-{
-    if needs_files(&planned.plan) {
-        Ok(Err(not_built(alloc)?))
-    } else {
-        Ok(Ok(planned))
-    }
-}
-
 /// The plan that planning gave, or what is answered in its place.
 #[tactic(auto, using(crate::proofs::Planned::made_none))]
 pub(crate) fn answered(alloc: Global, planning: Planning) -> Mem<Result<Planned, Outcome>>
@@ -145,7 +120,7 @@ pub(crate) fn answered(alloc: Global, planning: Planning) -> Mem<Result<Planned,
 {
     let Planning { answer, failed } = planning;
     match answer {
-        Ok(planned) => without_files(alloc, planned),
+        Ok(planned) => Ok(Ok(planned)),
         Err(PlanFault::Unknown(place)) => Ok(Err(unknown_module(alloc, place)?)),
         Err(PlanFault::Build(fault)) => Ok(Err(unplanned(alloc, &fault, failed)?)),
     }

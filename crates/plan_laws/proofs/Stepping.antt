@@ -19,12 +19,11 @@ use Rattle.plan_numbers.specs.Plans.{numbered}
 use Rattle.plan_numbers.specs.declared.selected.Planned.{Planned}
 use Rattle.plan_numbers.specs.declared.selected.SelectedModule.{SelectedModule}
 use Rattle.built_modules.specs.Selected.{AreModules}
-use Rattle.build_plan.specs.Planning.{AreReady, AreResolved, IsReactor, IsRefused, Libraries, Plans, plan_fault, sources_of}
+use Rattle.build_plan.specs.Planning.{IsSaid, AreReady, AreResolved, IsReactor, IsRefused, Libraries, Plans, plan_fault, sources_of}
 use Rattle.build_plan.specs.Planning.IsRefused.{by_poms, by_libraries, by_circle, by_sources, by_size}
 use Rattle.build_plan.specs.declared.planning.PlanFault.{PlanFault}
 use Rattle.build_plan.specs.declared.planning.PlanFault.TheVariants as faults
 use Rattle.reactor_laws.proofs.Built.{one_answer as one_reactor}
-use Rattle.mvn_top.specs.Found.{IsSaid}
 use Rattle.plan_laws.proofs.Resolving.{one_resolved}
 use Rattle.plan_laws.proofs.Selecting.{one_selection}
 

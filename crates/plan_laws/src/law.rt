@@ -1,11 +1,11 @@
 ghost use Rattle.std.specs.Prelude.{◌≡◌, Result};
-ghost use Rattle.build_plan.specs.Planning.{Plans};
+ghost use Rattle.build_plan.specs.Planning.{IsSaid, Plans};
 ghost use Rattle.build_plan.specs.declared.planning.PlanFault.{PlanFault};
 ghost use Rattle.cli_words.specs.declared.command_line.CommandLine.{CommandLine};
 ghost use Rattle.mvn_shared.specs.Files.{Files};
-ghost use Rattle.build_outcome.specs.declared.outcome.Outcome.{Outcome};
+ghost use Rattle.crew_outcome.specs.declared.outcome.Outcome.{Outcome};
 ghost use Rattle.mvn_base.specs.declared.machine.Machine.{Machine};
-ghost use Rattle.mvn_top.specs.Found.{IsFound, IsSaid};
+ghost use Rattle.mvn_top.specs.Found.{IsFound};
 ghost use Rattle.plan_numbers.specs.declared.selected.Planned.{Planned};
 ghost use Rattle.pom_source.specs.declared.found.Given.{Given};
 

@@ -1,4 +1,5 @@
-use Rattle.std.proofs.Common.{◌≡◌, ℕ, Ok, Err}
+use Rattle.std.proofs.Common.{◌≡◌, ℕ, Option, Ok, Err, IfOk, subst}
+use Rattle.mvn_outside.specs.declared.shelf.ShelfTold.{ShelfTold}
 use Rattle.pom_source.specs.Answers.{Fails}
 use Rattle.effective.specs.Kept.{HoldsAll}
 use Rattle.model_resolver.specs.Devices.{Counts}
@@ -6,7 +7,7 @@ use Rattle.model_resolver.specs.Finding.{world_of}
 use Rattle.model_resolver.proofs.Counting.{counted_twice}
 use Rattle.project_models.specs.Models.{Modules, project_models}
 use Rattle.project_models.proofs.Told.{told_one, told_same, told_two}
-use Rattle.build_plan.specs.Planning.{IsProject, Plans}
+use Rattle.build_plan.specs.Planning.{IsProject, KnowsFiles, Plans}
 use Rattle.build_plan.specs.declared.planning.PlanFault.TheVariants as faults
 use Rattle.build_plan.proofs.Steps.{poms_fail}
 use Rattle.build_plan.proofs.planning.plan_counted.Goals as goal
@@ -50,3 +51,6 @@ returns-in-Ok-clause-counted g c =
     (counts (g.T.Files.faults c.project_models.new.tree) (g.S.Shelf.faults c.project_models.new.shelf) (g.R.Remote.faults c.project_models.new.remote))
     (counts (g.T.Files.faults c.plan_found.new.tree) (g.S.Shelf.faults c.plan_found.new.shelf) (g.R.Remote.faults c.plan_found.new.remote))
     c.in-Ok.ensures.counted c.plan_found.ensures.counted
+
+pub returns-in-Ok-clause-present : goal.returns-in-Ok-clause-present
+returns-in-Ok-clause-present g c = subst (λ (told : Option ShelfTold). IfOk c.plan_found.result (KnowsFiles told)) c.in-Ok.ensures.shelf c.plan_found.ensures.present

@@ -1,6 +1,7 @@
-use Rattle.std.proofs.Common.{ℕ, List, Result, Ok, Err, refl, subst}
+use Rattle.std.proofs.Common.{ℕ, List, Option, Result, Ok, Err, IfOk, refl, subst}
 use Rattle.classpaths.specs.declared.resolution.Resolution.{Resolution}
 use Rattle.model_types.specs.declared.model.Model.{Model}
+use Rattle.mvn_outside.specs.declared.shelf.ShelfTold.{ShelfTold}
 use Rattle.pom_source.specs.declared.fault.BuildFault.{BuildFault}
 use Rattle.effective.specs.Kept.{HoldsAll}
 use Rattle.model_resolver.specs.Devices.{Counts}
@@ -12,7 +13,7 @@ use Rattle.project_models.specs.Telling.{IfTold}
 use Rattle.project_models.proofs.Told.{told_one, told_same, told_two}
 use Rattle.project_libraries.specs.Known.{libraries_of}
 use Rattle.project_libraries.specs.Resolving.{Resolves}
-use Rattle.build_plan.specs.Planning.{AreResolved, IsProject, Libraries, Plans}
+use Rattle.build_plan.specs.Planning.{AreResolved, IsProject, KnowsFiles, Libraries, Plans}
 use Rattle.build_plan.specs.declared.planning.PlanFault.TheVariants as faults
 use Rattle.build_plan.proofs.Steps.{libraries_fail}
 use Rattle.build_plan.proofs.planning.plan_found.Goals as goal
@@ -71,3 +72,6 @@ returns-in-Ok-clause-counted g c =
     (counts (g.T.Files.faults c.resolve_modules.new.tree) (g.S.Shelf.faults c.resolve_modules.new.shelf) remote)
     (counts (g.T.Files.faults c.plan_resolved.new.tree) (g.S.Shelf.faults c.plan_resolved.new.shelf) remote)
     c.in-Ok.ensures.counted (c.plan_resolved.ensures.counted remote)
+
+pub returns-in-Ok-clause-present : goal.returns-in-Ok-clause-present
+returns-in-Ok-clause-present g c = subst (λ (told : Option ShelfTold). IfOk c.plan_resolved.result (KnowsFiles told)) c.in-Ok.ensures.shelf c.plan_resolved.ensures.present

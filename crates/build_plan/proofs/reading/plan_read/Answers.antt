@@ -7,6 +7,7 @@ use Rattle.build_plan.specs.declared.planning.PlanFault.TheVariants as faults
 use Rattle.build_plan.proofs.Made.{all_named, is_plan}
 use Rattle.build_plan.proofs.Steps.{planned_is, size_fails}
 use Rattle.build_plan.proofs.Tells.{shelf_told}
+use Rattle.build_plan.proofs.Known.{knows_files}
 use Rattle.build_plan.proofs.reading.plan_read.Goals as goal
 
 pub plan_selected-requires : goal.plan_selected-requires
@@ -45,3 +46,8 @@ returns-in-Err-plan_selected-clause-says g c = λ tree remote given.
     (λ x y z. IsReactor x y z given line p r.resolutions r.built → sources_of x y z given line p r.built ≡ Ok c.args.sources → Plans x y z given line (Err (faults.Build fault)))
     (λ x y z is. size_fails x y z given line p r.resolutions r.built c.args.sources modules fault c.in-Ok.ensures is)
     c.in-Err-plan_selected.ensures.says
+
+pub returns-in-Ok-plan_selected-clause-present : goal.returns-in-Ok-plan_selected-clause-present
+returns-in-Ok-plan_selected-clause-present g c =
+    let line = c.args.line.now in
+    knows_files line.phase line.workers (g.S.Shelf.told c.args.shelf.now) c.in-Ok.modules c.in-Ok-plan_selected.planned c.in-Ok-plan_selected.ensures.says

@@ -1,43 +1,39 @@
-use Rattle.std.proofs.Common.{◌≡◌, ◌∙◌, ap, refl, sym, subst, Result, Ok, Err, IfOk, is_some}
+use Rattle.std.proofs.Common.{◌≡◌, ◌∙◌, ap, length, map, refl, sym, subst, Result, Ok, Err, IfOk}
 use Rattle.mvn_shared.specs.declared.memory.OutOfMemory.{OutOfMemory}
 use Rattle.cli_words.specs.Options.{options}
 use Rattle.cli_words.specs.declared.command_line.CommandLine.{CommandLine}
-use Rattle.build_outcome.specs.declared.outcome.Outcome.{Outcome}
+use Rattle.crew_stages.specs.Hands.{state_by}
+use Rattle.crew_outcome.specs.declared.outcome.Outcome.{Outcome}
+use Rattle.crew_outcome.specs.Left.{outside_by}
 use Rattle.mvn_top.specs.Commands.{asked}
-use Rattle.mvn_top.specs.Headline.{After, Seen}
+use Rattle.mvn_top.specs.Seen.{After, Seen}
 use Rattle.mvn_top.proofs.Calling.{calls_none, calls_words}
+use Rattle.mvn_top.proofs.First.{outside_left, same_tells}
 use Rattle.mvn_top.proofs.Statuses.{words_status}
 use Rattle.mvn_top.proofs.build.build.Goals as goal
 
-pub returns-in-Ok-Err : goal.returns-in-Ok-Err
-returns-in-Ok-Err g c =
-    let seen : Seen = record {
-      tree = g.T.Tree.files c.args.tree.now;
-      shelf = g.S.Shelf.told c.args.shelf.now;
-      remote = g.R.Remote.files c.args.hand.now.remote;
-      gate = g.G.Gate.answers c.args.hand.now.gate;
-      area_tells = is_some (g.S.Area.Area.contents c.args.hand.now.area);
-      machine = c.args.machine;
-      faults = record { tree = g.T.Files.faults c.args.tree.now; shelf = g.S.Shelf.faults c.args.shelf.now; remote = g.R.Remote.faults c.args.hand.now.remote; area = g.S.Area.Area.faults c.args.hand.now.area; gate = g.G.Gate.faults c.args.hand.now.gate };
-    } in
-    let after : After = record { shelf = g.S.Shelf.told c.args.shelf.now; faults = record { tree = g.T.Files.faults c.args.tree.now; shelf = g.S.Shelf.faults c.args.shelf.now; remote = g.R.Remote.faults c.args.hand.now.remote; area = g.S.Area.Area.faults c.args.hand.now.area; gate = g.G.Gate.faults c.args.hand.now.gate } } in
-    let said = asked c.args.words.now c.args.count in
+pub returns-in-Ok-Err-clause-calls : goal.returns-in-Ok-Err-clause-calls
+returns-in-Ok-Err-clause-calls g c =
+    let seen : Seen = record { tree = g.T.Tree.files c.args.tree.now; faults = g.T.Files.faults c.args.tree.now; machine = c.args.machine; outside = outside_by g.S.Shelf.told g.S.Shelf.faults (state_by g.R.Remote.files g.R.Remote.faults g.S.Area.Area.contents g.S.Area.Area.faults g.S.Area.Area.pieces g.G.Gate.answers g.G.Gate.faults) c.args.shelf c.args.hands.now } in
+    let call = c.nothing in
+    let after : After = record { faults = g.T.Files.faults c.args.tree.now; outside = outside_by g.S.Shelf.told g.S.Shelf.faults (state_by g.R.Remote.files g.R.Remote.faults g.S.Area.Area.contents g.S.Area.Area.faults g.S.Area.Area.pieces g.G.Gate.answers g.G.Gate.faults) call.result.shelf c.args.hands.now } in
+    let count = length c.args.hands.now in
+    let said = asked c.args.words.now count in
     let e : c.asked-answer.result ≡ Ok (Err c.in-Ok-Err.outcome) = c.in-Ok-Err.is ∙ ap (λ (r : Result CommandLine Outcome). Ok r) c.in-Ok-Err.field-0-is in
     let is : Err c.in-Ok-Err.outcome ≡ said = subst (λ (r : Result (Result CommandLine Outcome) OutOfMemory). IfOk r (λ answer. answer ≡ said)) e c.asked-answer.ensures.says in
-    let call = c.nothing in
-    calls_words said seen after call.result c.in-Ok-Err.outcome (sym is) (words_status (options c.args.words.now c.args.count) c.in-Ok-Err.outcome (sym is)) call.ensures.0 call.ensures.1 refl refl
+    calls_words said seen after call.result.trace call.result.answers call.result.outcome c.in-Ok-Err.outcome call.ensures.outcome (sym is) (words_status (options c.args.words.now count) c.in-Ok-Err.outcome (sym is))
+    call.ensures.trace call.ensures.answers refl (outside_left g.S.Shelf.told g.S.Shelf.faults (state_by g.R.Remote.files g.R.Remote.faults g.S.Area.Area.contents g.S.Area.Area.faults g.S.Area.Area.pieces g.G.Gate.answers g.G.Gate.faults) c.args.shelf call.result.shelf c.args.hands.now call.ensures.shelf)
 
-pub returns-in-Err : goal.returns-in-Err
-returns-in-Err g c =
-    let seen : Seen = record {
-      tree = g.T.Tree.files c.args.tree.now;
-      shelf = g.S.Shelf.told c.args.shelf.now;
-      remote = g.R.Remote.files c.args.hand.now.remote;
-      gate = g.G.Gate.answers c.args.hand.now.gate;
-      area_tells = is_some (g.S.Area.Area.contents c.args.hand.now.area);
-      machine = c.args.machine;
-      faults = record { tree = g.T.Files.faults c.args.tree.now; shelf = g.S.Shelf.faults c.args.shelf.now; remote = g.R.Remote.faults c.args.hand.now.remote; area = g.S.Area.Area.faults c.args.hand.now.area; gate = g.G.Gate.faults c.args.hand.now.gate };
-    } in
-    let after : After = record { shelf = g.S.Shelf.told c.args.shelf.now; faults = record { tree = g.T.Files.faults c.args.tree.now; shelf = g.S.Shelf.faults c.args.shelf.now; remote = g.R.Remote.faults c.args.hand.now.remote; area = g.S.Area.Area.faults c.args.hand.now.area; gate = g.G.Gate.faults c.args.hand.now.gate } } in
+pub returns-in-Ok-Err-clause-hands : goal.returns-in-Ok-Err-clause-hands
+returns-in-Ok-Err-clause-hands g c = record { many = refl; same = refl }
+
+pub returns-in-Err-clause-calls : goal.returns-in-Err-clause-calls
+returns-in-Err-clause-calls g c =
+    let seen : Seen = record { tree = g.T.Tree.files c.args.tree.now; faults = g.T.Files.faults c.args.tree.now; machine = c.args.machine; outside = outside_by g.S.Shelf.told g.S.Shelf.faults (state_by g.R.Remote.files g.R.Remote.faults g.S.Area.Area.contents g.S.Area.Area.faults g.S.Area.Area.pieces g.G.Gate.answers g.G.Gate.faults) c.args.shelf c.args.hands.now } in
     let call = c.nothing-in-Err in
-    calls_none (asked c.args.words.now c.args.count) seen after call.result c.in-Err.error call.ensures.0 call.ensures.1 refl
+    let after : After = record { faults = g.T.Files.faults c.args.tree.now; outside = outside_by g.S.Shelf.told g.S.Shelf.faults (state_by g.R.Remote.files g.R.Remote.faults g.S.Area.Area.contents g.S.Area.Area.faults g.S.Area.Area.pieces g.G.Gate.answers g.G.Gate.faults) call.result.shelf c.args.hands.now } in
+    calls_none (asked c.args.words.now (length c.args.hands.now)) seen after call.result.trace call.result.answers call.result.outcome c.in-Err.error call.ensures.outcome
+    (call.ensures.trace, call.ensures.answers, ap g.S.Shelf.told call.ensures.shelf) (same_tells (map (state_by g.R.Remote.files g.R.Remote.faults g.S.Area.Area.contents g.S.Area.Area.faults g.S.Area.Area.pieces g.G.Gate.answers g.G.Gate.faults) c.args.hands.now))
+
+pub returns-in-Err-clause-hands : goal.returns-in-Err-clause-hands
+returns-in-Err-clause-hands g c = record { many = refl; same = refl }

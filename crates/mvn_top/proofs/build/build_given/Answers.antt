@@ -1,85 +1,109 @@
-use Rattle.std.proofs.Common.{◌≡◌, ◌∙◌, ap, refl, subst, Result, Ok, Err, IfOk, is_some}
+use Rattle.std.proofs.Common.{◌≡◌, ◌≤◌, ◌∙◌, ℕ, List, ap, drop, length, map, refl, sym, subst, Result, Ok, Err, IfOk, arith}
+use Rattle.std.proofs.lemmas.List.{length-map}
 use Rattle.mvn_shared.specs.declared.memory.OutOfMemory.{OutOfMemory}
 use Rattle.plan_numbers.specs.declared.selected.Planned.{Planned}
-use Rattle.build_outcome.specs.declared.outcome.Outcome.{Outcome}
-use Rattle.mvn_top.specs.Headline.{After, Seen}
+use Rattle.crew_stages.specs.Hands.{state_by}
+use Rattle.crew_outcome.specs.declared.outcome.Outcome.{Outcome}
+use Rattle.crew_outcome.specs.Left.{Outside, outside_by}
 use Rattle.mvn_top.specs.Project.{GivesPlan}
-use Rattle.mvn_top.proofs.Calling.{built_without, calls_built, calls_none, calls_unbuilt}
+use Rattle.mvn_top.specs.Seen.{After, Seen, first_remote}
+use Rattle.mvn_top.proofs.Building.{at_least, built_present, built_sound, built_workers, calls_built, calls_unbuilt, counted_left, others_built, others_planned}
+use Rattle.mvn_top.proofs.Calling.{calls_none}
+use Rattle.mvn_top.proofs.First.{asked_tells, drop_images}
 use Rattle.mvn_top.proofs.build.build_given.Goals as goal
 
-pub build_planned-requires : goal.build_planned-requires
-build_planned-requires g c =
-    let seen : Seen = record {
-      tree = g.T.Tree.files c.args.tree.now;
-      shelf = g.S.Shelf.told c.args.shelf.now;
-      remote = g.R.Remote.files c.args.hand.now.remote;
-      gate = g.G.Gate.answers c.args.hand.now.gate;
-      area_tells = is_some (g.S.Area.Area.contents c.args.hand.now.area);
-      machine = c.args.given.now.machine;
-      faults = record { tree = g.T.Files.faults c.args.tree.now; shelf = g.S.Shelf.faults c.args.shelf.now; remote = g.R.Remote.faults c.args.hand.now.remote; area = g.S.Area.Area.faults c.args.hand.now.area; gate = g.G.Gate.faults c.args.hand.now.gate };
-    } in
-    let planning = c.plan_line-planning in
+pub plan_by_first-planning-requires-clause-workers : goal.plan_by_first-planning-requires-clause-workers
+plan_by_first-planning-requires-clause-workers g c = (c.requires.workers.0, omega (arith, c.requires.workers.1, c.requires.hands))
+
+pub plan_by_first-planning-requires-clause-some : goal.plan_by_first-planning-requires-clause-some
+plan_by_first-planning-requires-clause-some g c = at_least c.args.line.now.workers (length c.args.hands.now) c.requires.workers.0 c.requires.workers.1
+
+pub build_by_first-requires-clause-sound : goal.build_by_first-requires-clause-sound
+build_by_first-requires-clause-sound g c κs within =
+    let seen : Seen = record { tree = g.T.Tree.files c.args.tree.now; faults = g.T.Files.faults c.args.tree.now; machine = c.args.given.now.machine; outside = outside_by g.S.Shelf.told g.S.Shelf.faults (state_by g.R.Remote.files g.R.Remote.faults g.S.Area.Area.contents g.S.Area.Area.faults g.S.Area.Area.pieces g.G.Gate.answers g.G.Gate.faults) c.args.shelf c.args.hands.now } in
+    let planning = c.plan_by_first-planning in
     let line = c.args.line.now in
     let e : planning.result.answer ≡ Ok (Ok c.in-Ok-Ok.planned) = c.in-Ok-Ok.is ∙ ap (λ (r : Result Planned Outcome). Ok r) c.in-Ok-Ok.field-0-is in
-    let gives : GivesPlan seen.tree seen.shelf seen.remote c.args.given.now line planning.result.failed (Ok c.in-Ok-Ok.planned) =
-    subst (λ (r : Result (Result Planned Outcome) OutOfMemory). IfOk r (GivesPlan seen.tree seen.shelf seen.remote c.args.given.now line planning.result.failed)) e planning.ensures.gives in
-    record { without = built_without line c.args.given.now seen c.in-Ok-Ok.planned planning.result.failed c.requires.given gives }
+    let gives : GivesPlan seen.tree seen.outside.shelf (first_remote seen.outside) c.args.given.now line planning.result.failed (Ok c.in-Ok-Ok.planned) =
+    subst (λ (r : Result (Result Planned Outcome) OutOfMemory). IfOk r (GivesPlan seen.tree seen.outside.shelf (first_remote seen.outside) c.args.given.now line planning.result.failed)) e planning.ensures.gives in
+    built_sound line c.args.given.now seen c.requires.workers.0 (subst (λ (n : ℕ). 1 ≤ n) (sym (length-map c.args.hands.now (state_by g.R.Remote.files g.R.Remote.faults g.S.Area.Area.contents g.S.Area.Area.faults g.S.Area.Area.pieces g.G.Gate.answers g.G.Gate.faults))) (at_least line.workers (length c.args.hands.now) c.requires.workers.0 c.requires.workers.1)) c.requires.given c.in-Ok-Ok.planned planning.result.failed gives
 
-pub returns-in-Ok-Ok : goal.returns-in-Ok-Ok
-returns-in-Ok-Ok g c =
-    let seen : Seen = record {
-      tree = g.T.Tree.files c.args.tree.now;
-      shelf = g.S.Shelf.told c.args.shelf.now;
-      remote = g.R.Remote.files c.args.hand.now.remote;
-      gate = g.G.Gate.answers c.args.hand.now.gate;
-      area_tells = is_some (g.S.Area.Area.contents c.args.hand.now.area);
-      machine = c.args.given.now.machine;
-      faults = record { tree = g.T.Files.faults c.args.tree.now; shelf = g.S.Shelf.faults c.args.shelf.now; remote = g.R.Remote.faults c.args.hand.now.remote; area = g.S.Area.Area.faults c.args.hand.now.area; gate = g.G.Gate.faults c.args.hand.now.gate };
-    } in
-    let planning = c.plan_line-planning in
+pub build_by_first-requires-clause-enough : goal.build_by_first-requires-clause-enough
+build_by_first-requires-clause-enough g c =
+    let seen : Seen = record { tree = g.T.Tree.files c.args.tree.now; faults = g.T.Files.faults c.args.tree.now; machine = c.args.given.now.machine; outside = outside_by g.S.Shelf.told g.S.Shelf.faults (state_by g.R.Remote.files g.R.Remote.faults g.S.Area.Area.contents g.S.Area.Area.faults g.S.Area.Area.pieces g.G.Gate.answers g.G.Gate.faults) c.args.shelf c.args.hands.now } in
+    let planning = c.plan_by_first-planning in
     let line = c.args.line.now in
-    let built = c.build_planned in
-    let after : After = record { shelf = g.S.Shelf.told built.new.shelf; faults = record { tree = g.T.Files.faults planning.new.tree; shelf = g.S.Shelf.faults built.new.shelf; remote = g.R.Remote.faults built.new.hand.remote; area = g.S.Area.Area.faults built.new.hand.area; gate = g.G.Gate.faults built.new.hand.gate } } in
     let e : planning.result.answer ≡ Ok (Ok c.in-Ok-Ok.planned) = c.in-Ok-Ok.is ∙ ap (λ (r : Result Planned Outcome). Ok r) c.in-Ok-Ok.field-0-is in
-    let gives : GivesPlan seen.tree seen.shelf seen.remote c.args.given.now line planning.result.failed (Ok c.in-Ok-Ok.planned) =
-    subst (λ (r : Result (Result Planned Outcome) OutOfMemory). IfOk r (GivesPlan seen.tree seen.shelf seen.remote c.args.given.now line planning.result.failed)) e planning.ensures.gives in
-    calls_built line c.args.given.now seen after built.result c.in-Ok-Ok.planned planning.result.failed
-    (record { tree = g.T.Files.faults planning.new.tree; shelf = g.S.Shelf.faults planning.new.shelf; remote = g.R.Remote.faults planning.new.remote }) (g.S.Shelf.told planning.new.shelf)
-    c.requires.given gives planning.ensures.counted planning.ensures.shelf refl (ap g.R.Remote.faults built.ensures.remote) built.ensures.builds
+    let gives : GivesPlan seen.tree seen.outside.shelf (first_remote seen.outside) c.args.given.now line planning.result.failed (Ok c.in-Ok-Ok.planned) =
+    subst (λ (r : Result (Result Planned Outcome) OutOfMemory). IfOk r (GivesPlan seen.tree seen.outside.shelf (first_remote seen.outside) c.args.given.now line planning.result.failed)) e planning.ensures.gives in
+    let is = built_workers line c.args.given.now seen c.requires.workers.0 (subst (λ (n : ℕ). 1 ≤ n) (sym (length-map c.args.hands.now (state_by g.R.Remote.files g.R.Remote.faults g.S.Area.Area.contents g.S.Area.Area.faults g.S.Area.Area.pieces g.G.Gate.answers g.G.Gate.faults))) (at_least line.workers (length c.args.hands.now) c.requires.workers.0 c.requires.workers.1)) c.requires.given c.in-Ok-Ok.planned planning.result.failed gives in
+    let many = planning.ensures.many in
+    omega (arith, is, many, c.requires.workers.1)
 
-pub returns-in-Ok-Err : goal.returns-in-Ok-Err
-returns-in-Ok-Err g c =
-    let seen : Seen = record {
-      tree = g.T.Tree.files c.args.tree.now;
-      shelf = g.S.Shelf.told c.args.shelf.now;
-      remote = g.R.Remote.files c.args.hand.now.remote;
-      gate = g.G.Gate.answers c.args.hand.now.gate;
-      area_tells = is_some (g.S.Area.Area.contents c.args.hand.now.area);
-      machine = c.args.given.now.machine;
-      faults = record { tree = g.T.Files.faults c.args.tree.now; shelf = g.S.Shelf.faults c.args.shelf.now; remote = g.R.Remote.faults c.args.hand.now.remote; area = g.S.Area.Area.faults c.args.hand.now.area; gate = g.G.Gate.faults c.args.hand.now.gate };
-    } in
-    let planning = c.plan_line-planning in
+pub build_by_first-requires-clause-present : goal.build_by_first-requires-clause-present
+build_by_first-requires-clause-present g c κs within =
+    let seen : Seen = record { tree = g.T.Tree.files c.args.tree.now; faults = g.T.Files.faults c.args.tree.now; machine = c.args.given.now.machine; outside = outside_by g.S.Shelf.told g.S.Shelf.faults (state_by g.R.Remote.files g.R.Remote.faults g.S.Area.Area.contents g.S.Area.Area.faults g.S.Area.Area.pieces g.G.Gate.answers g.G.Gate.faults) c.args.shelf c.args.hands.now } in
+    let planning = c.plan_by_first-planning in
+    let line = c.args.line.now in
+    let e : planning.result.answer ≡ Ok (Ok c.in-Ok-Ok.planned) = c.in-Ok-Ok.is ∙ ap (λ (r : Result Planned Outcome). Ok r) c.in-Ok-Ok.field-0-is in
+    let gives : GivesPlan seen.tree seen.outside.shelf (first_remote seen.outside) c.args.given.now line planning.result.failed (Ok c.in-Ok-Ok.planned) =
+    subst (λ (r : Result (Result Planned Outcome) OutOfMemory). IfOk r (GivesPlan seen.tree seen.outside.shelf (first_remote seen.outside) c.args.given.now line planning.result.failed)) e planning.ensures.gives in
+    built_present line c.args.given.now seen c.requires.workers.0 (subst (λ (n : ℕ). 1 ≤ n) (sym (length-map c.args.hands.now (state_by g.R.Remote.files g.R.Remote.faults g.S.Area.Area.contents g.S.Area.Area.faults g.S.Area.Area.pieces g.G.Gate.answers g.G.Gate.faults))) (at_least line.workers (length c.args.hands.now) c.requires.workers.0 c.requires.workers.1)) c.requires.given c.in-Ok-Ok.planned planning.result.failed gives (g.S.Shelf.told planning.new.shelf) planning.ensures.shelf
+
+pub returns-in-Ok-Ok-clause-calls : goal.returns-in-Ok-Ok-clause-calls
+returns-in-Ok-Ok-clause-calls g c =
+    let seen : Seen = record { tree = g.T.Tree.files c.args.tree.now; faults = g.T.Files.faults c.args.tree.now; machine = c.args.given.now.machine; outside = outside_by g.S.Shelf.told g.S.Shelf.faults (state_by g.R.Remote.files g.R.Remote.faults g.S.Area.Area.contents g.S.Area.Area.faults g.S.Area.Area.pieces g.G.Gate.answers g.G.Gate.faults) c.args.shelf c.args.hands.now } in
+    let planning = c.plan_by_first-planning in
+    let line = c.args.line.now in
+    let e : planning.result.answer ≡ Ok (Ok c.in-Ok-Ok.planned) = c.in-Ok-Ok.is ∙ ap (λ (r : Result Planned Outcome). Ok r) c.in-Ok-Ok.field-0-is in
+    let gives : GivesPlan seen.tree seen.outside.shelf (first_remote seen.outside) c.args.given.now line planning.result.failed (Ok c.in-Ok-Ok.planned) =
+    subst (λ (r : Result (Result Planned Outcome) OutOfMemory). IfOk r (GivesPlan seen.tree seen.outside.shelf (first_remote seen.outside) c.args.given.now line planning.result.failed)) e planning.ensures.gives in
+    let built = c.build_by_first in
+    let middle : Outside = outside_by g.S.Shelf.told g.S.Shelf.faults (state_by g.R.Remote.files g.R.Remote.faults g.S.Area.Area.contents g.S.Area.Area.faults g.S.Area.Area.pieces g.G.Gate.answers g.G.Gate.faults) planning.new.shelf planning.new.hands in
+    let after : After = record { faults = g.T.Files.faults planning.new.tree; outside = outside_by g.S.Shelf.told g.S.Shelf.faults (state_by g.R.Remote.files g.R.Remote.faults g.S.Area.Area.contents g.S.Area.Area.faults g.S.Area.Area.pieces g.G.Gate.answers g.G.Gate.faults) built.result.shelf built.new.hands } in
+    calls_built line c.args.given.now seen c.requires.workers.0 (subst (λ (n : ℕ). 1 ≤ n) (sym (length-map c.args.hands.now (state_by g.R.Remote.files g.R.Remote.faults g.S.Area.Area.contents g.S.Area.Area.faults g.S.Area.Area.pieces g.G.Gate.answers g.G.Gate.faults))) (at_least line.workers (length c.args.hands.now) c.requires.workers.0 c.requires.workers.1)) c.requires.given c.in-Ok-Ok.planned planning.result.failed gives after built.result.trace built.result.answers built.result.outcome middle (g.T.Files.faults planning.new.tree)
+    planning.ensures.counted planning.ensures.asked (length-map planning.new.hands (state_by g.R.Remote.files g.R.Remote.faults g.S.Area.Area.contents g.S.Area.Area.faults g.S.Area.Area.pieces g.G.Gate.answers g.G.Gate.faults) ∙ planning.ensures.many ∙ sym (length-map c.args.hands.now (state_by g.R.Remote.files g.R.Remote.faults g.S.Area.Area.contents g.S.Area.Area.faults g.S.Area.Area.pieces g.G.Gate.answers g.G.Gate.faults))) planning.ensures.shelf refl
+    (length-map built.new.hands (state_by g.R.Remote.files g.R.Remote.faults g.S.Area.Area.contents g.S.Area.Area.faults g.S.Area.Area.pieces g.G.Gate.answers g.G.Gate.faults) ∙ built.ensures.many ∙ sym (length-map planning.new.hands (state_by g.R.Remote.files g.R.Remote.faults g.S.Area.Area.contents g.S.Area.Area.faults g.S.Area.Area.pieces g.G.Gate.answers g.G.Gate.faults)))
+    (drop_images (state_by g.R.Remote.files g.R.Remote.faults g.S.Area.Area.contents g.S.Area.Area.faults g.S.Area.Area.pieces g.G.Gate.answers g.G.Gate.faults) c.in-Ok-Ok.planned.plan.workers built.new.hands planning.new.hands built.ensures.others) built.ensures.reports
+
+pub returns-in-Ok-Ok-clause-hands : goal.returns-in-Ok-Ok-clause-hands
+returns-in-Ok-Ok-clause-hands g c =
+    let seen : Seen = record { tree = g.T.Tree.files c.args.tree.now; faults = g.T.Files.faults c.args.tree.now; machine = c.args.given.now.machine; outside = outside_by g.S.Shelf.told g.S.Shelf.faults (state_by g.R.Remote.files g.R.Remote.faults g.S.Area.Area.contents g.S.Area.Area.faults g.S.Area.Area.pieces g.G.Gate.answers g.G.Gate.faults) c.args.shelf c.args.hands.now } in
+    let planning = c.plan_by_first-planning in
+    let line = c.args.line.now in
+    let e : planning.result.answer ≡ Ok (Ok c.in-Ok-Ok.planned) = c.in-Ok-Ok.is ∙ ap (λ (r : Result Planned Outcome). Ok r) c.in-Ok-Ok.field-0-is in
+    let gives : GivesPlan seen.tree seen.outside.shelf (first_remote seen.outside) c.args.given.now line planning.result.failed (Ok c.in-Ok-Ok.planned) =
+    subst (λ (r : Result (Result Planned Outcome) OutOfMemory). IfOk r (GivesPlan seen.tree seen.outside.shelf (first_remote seen.outside) c.args.given.now line planning.result.failed)) e planning.ensures.gives in
+    let built = c.build_by_first in
+    others_built line c.in-Ok-Ok.planned.plan.workers c.args.hands.now planning.new.hands built.new.hands c.requires.workers.0 (built_workers line c.args.given.now seen c.requires.workers.0 (subst (λ (n : ℕ). 1 ≤ n) (sym (length-map c.args.hands.now (state_by g.R.Remote.files g.R.Remote.faults g.S.Area.Area.contents g.S.Area.Area.faults g.S.Area.Area.pieces g.G.Gate.answers g.G.Gate.faults))) (at_least line.workers (length c.args.hands.now) c.requires.workers.0 c.requires.workers.1)) c.requires.given c.in-Ok-Ok.planned planning.result.failed gives)
+    planning.ensures.others planning.ensures.many built.ensures.others built.ensures.many
+
+pub returns-in-Ok-Err-clause-calls : goal.returns-in-Ok-Err-clause-calls
+returns-in-Ok-Err-clause-calls g c =
+    let seen : Seen = record { tree = g.T.Tree.files c.args.tree.now; faults = g.T.Files.faults c.args.tree.now; machine = c.args.given.now.machine; outside = outside_by g.S.Shelf.told g.S.Shelf.faults (state_by g.R.Remote.files g.R.Remote.faults g.S.Area.Area.contents g.S.Area.Area.faults g.S.Area.Area.pieces g.G.Gate.answers g.G.Gate.faults) c.args.shelf c.args.hands.now } in
+    let planning = c.plan_by_first-planning in
     let line = c.args.line.now in
     let call = c.nothing in
-    let after : After = record { shelf = g.S.Shelf.told planning.new.shelf; faults = record { tree = g.T.Files.faults planning.new.tree; shelf = g.S.Shelf.faults planning.new.shelf; remote = g.R.Remote.faults planning.new.remote; area = g.S.Area.Area.faults c.args.hand.now.area; gate = g.G.Gate.faults c.args.hand.now.gate } } in
+    let after : After = record { faults = g.T.Files.faults planning.new.tree; outside = outside_by g.S.Shelf.told g.S.Shelf.faults (state_by g.R.Remote.files g.R.Remote.faults g.S.Area.Area.contents g.S.Area.Area.faults g.S.Area.Area.pieces g.G.Gate.answers g.G.Gate.faults) call.result.shelf planning.new.hands } in
     let e : planning.result.answer ≡ Ok (Err c.in-Ok-Err.outcome) = c.in-Ok-Err.is ∙ ap (λ (r : Result Planned Outcome). Ok r) c.in-Ok-Err.field-0-is in
-    let gives : GivesPlan seen.tree seen.shelf seen.remote c.args.given.now line planning.result.failed (Err c.in-Ok-Err.outcome) =
-    subst (λ (r : Result (Result Planned Outcome) OutOfMemory). IfOk r (GivesPlan seen.tree seen.shelf seen.remote c.args.given.now line planning.result.failed)) e planning.ensures.gives in
-    calls_unbuilt line c.args.given.now seen after call.result c.in-Ok-Err.outcome planning.result.failed c.requires.given gives planning.ensures.counted call.ensures.0 call.ensures.1 planning.ensures.shelf refl refl
+    let gives : GivesPlan seen.tree seen.outside.shelf (first_remote seen.outside) c.args.given.now line planning.result.failed (Err c.in-Ok-Err.outcome) =
+    subst (λ (r : Result (Result Planned Outcome) OutOfMemory). IfOk r (GivesPlan seen.tree seen.outside.shelf (first_remote seen.outside) c.args.given.now line planning.result.failed)) e planning.ensures.gives in
+    calls_unbuilt line c.args.given.now seen c.requires.workers.0 (subst (λ (n : ℕ). 1 ≤ n) (sym (length-map c.args.hands.now (state_by g.R.Remote.files g.R.Remote.faults g.S.Area.Area.contents g.S.Area.Area.faults g.S.Area.Area.pieces g.G.Gate.answers g.G.Gate.faults))) (at_least line.workers (length c.args.hands.now) c.requires.workers.0 c.requires.workers.1)) c.requires.given after call.result.trace call.result.answers call.result.outcome c.in-Ok-Err.outcome planning.result.failed gives
+    (counted_left planning.result.failed (g.T.Files.faults planning.new.tree) seen.faults seen.outside g.S.Shelf.told g.S.Shelf.faults (state_by g.R.Remote.files g.R.Remote.faults g.S.Area.Area.contents g.S.Area.Area.faults g.S.Area.Area.pieces g.G.Gate.answers g.G.Gate.faults) planning.new.shelf call.result.shelf planning.new.hands call.ensures.shelf planning.ensures.counted)
+    planning.ensures.asked (length-map planning.new.hands (state_by g.R.Remote.files g.R.Remote.faults g.S.Area.Area.contents g.S.Area.Area.faults g.S.Area.Area.pieces g.G.Gate.answers g.G.Gate.faults) ∙ planning.ensures.many ∙ sym (length-map c.args.hands.now (state_by g.R.Remote.files g.R.Remote.faults g.S.Area.Area.contents g.S.Area.Area.faults g.S.Area.Area.pieces g.G.Gate.answers g.G.Gate.faults))) (ap g.S.Shelf.told call.ensures.shelf ∙ planning.ensures.shelf) call.ensures.outcome call.ensures.trace call.ensures.answers
 
-pub returns-in-Err : goal.returns-in-Err
-returns-in-Err g c =
-    let seen : Seen = record {
-      tree = g.T.Tree.files c.args.tree.now;
-      shelf = g.S.Shelf.told c.args.shelf.now;
-      remote = g.R.Remote.files c.args.hand.now.remote;
-      gate = g.G.Gate.answers c.args.hand.now.gate;
-      area_tells = is_some (g.S.Area.Area.contents c.args.hand.now.area);
-      machine = c.args.given.now.machine;
-      faults = record { tree = g.T.Files.faults c.args.tree.now; shelf = g.S.Shelf.faults c.args.shelf.now; remote = g.R.Remote.faults c.args.hand.now.remote; area = g.S.Area.Area.faults c.args.hand.now.area; gate = g.G.Gate.faults c.args.hand.now.gate };
-    } in
-    let planning = c.plan_line-planning in
+pub returns-in-Ok-Err-clause-hands : goal.returns-in-Ok-Err-clause-hands
+returns-in-Ok-Err-clause-hands g c = others_planned c.args.line.now c.args.hands.now c.plan_by_first-planning.new.hands c.requires.workers.0 c.plan_by_first-planning.ensures.others c.plan_by_first-planning.ensures.many
+
+pub returns-in-Err-clause-calls : goal.returns-in-Err-clause-calls
+returns-in-Err-clause-calls g c =
+    let seen : Seen = record { tree = g.T.Tree.files c.args.tree.now; faults = g.T.Files.faults c.args.tree.now; machine = c.args.given.now.machine; outside = outside_by g.S.Shelf.told g.S.Shelf.faults (state_by g.R.Remote.files g.R.Remote.faults g.S.Area.Area.contents g.S.Area.Area.faults g.S.Area.Area.pieces g.G.Gate.answers g.G.Gate.faults) c.args.shelf c.args.hands.now } in
+    let planning = c.plan_by_first-planning in
     let line = c.args.line.now in
     let call = c.nothing-in-Err in
-    let after : After = record { shelf = g.S.Shelf.told planning.new.shelf; faults = record { tree = g.T.Files.faults planning.new.tree; shelf = g.S.Shelf.faults planning.new.shelf; remote = g.R.Remote.faults planning.new.remote; area = g.S.Area.Area.faults c.args.hand.now.area; gate = g.G.Gate.faults c.args.hand.now.gate } } in
-    calls_none (Ok line) seen after call.result c.in-Err.error call.ensures.0 call.ensures.1 planning.ensures.shelf
+    let after : After = record { faults = g.T.Files.faults planning.new.tree; outside = outside_by g.S.Shelf.told g.S.Shelf.faults (state_by g.R.Remote.files g.R.Remote.faults g.S.Area.Area.contents g.S.Area.Area.faults g.S.Area.Area.pieces g.G.Gate.answers g.G.Gate.faults) call.result.shelf planning.new.hands } in
+    calls_none (Ok line) seen after call.result.trace call.result.answers call.result.outcome c.in-Err.error call.ensures.outcome
+    (call.ensures.trace, call.ensures.answers, ap g.S.Shelf.told call.ensures.shelf ∙ planning.ensures.shelf) (asked_tells seen.outside.hands after.outside.hands planning.ensures.asked (length-map planning.new.hands (state_by g.R.Remote.files g.R.Remote.faults g.S.Area.Area.contents g.S.Area.Area.faults g.S.Area.Area.pieces g.G.Gate.answers g.G.Gate.faults) ∙ planning.ensures.many ∙ sym (length-map c.args.hands.now (state_by g.R.Remote.files g.R.Remote.faults g.S.Area.Area.contents g.S.Area.Area.faults g.S.Area.Area.pieces g.G.Gate.answers g.G.Gate.faults))))
+
+pub returns-in-Err-clause-hands : goal.returns-in-Err-clause-hands
+returns-in-Err-clause-hands g c = others_planned c.args.line.now c.args.hands.now c.plan_by_first-planning.new.hands c.requires.workers.0 c.plan_by_first-planning.ensures.others c.plan_by_first-planning.ensures.many

@@ -1,18 +1,18 @@
-use Rattle.std.proofs.Common.{Ok, is_some, refl}
-use Rattle.mvn_top.specs.Headline.{After, Seen}
+use Rattle.std.proofs.Common.{Ok, ap, map, refl}
+use Rattle.crew_stages.specs.Hands.{state_by}
+use Rattle.crew_outcome.specs.Left.{outside_by}
+use Rattle.mvn_top.specs.Seen.{After, Seen}
 use Rattle.mvn_top.proofs.Calling.{calls_none}
+use Rattle.mvn_top.proofs.First.{same_tells}
 use Rattle.mvn_top.proofs.build.build_line.Goals as goal
 
-pub returns-in-Err : goal.returns-in-Err
-returns-in-Err g c =
-    let seen : Seen = record {
-      tree = g.T.Tree.files c.args.tree.now;
-      shelf = g.S.Shelf.told c.args.shelf.now;
-      remote = g.R.Remote.files c.args.hand.now.remote;
-      gate = g.G.Gate.answers c.args.hand.now.gate;
-      area_tells = is_some (g.S.Area.Area.contents c.args.hand.now.area);
-      machine = c.args.machine;
-      faults = record { tree = g.T.Files.faults c.args.tree.now; shelf = g.S.Shelf.faults c.args.shelf.now; remote = g.R.Remote.faults c.args.hand.now.remote; area = g.S.Area.Area.faults c.args.hand.now.area; gate = g.G.Gate.faults c.args.hand.now.gate };
-    } in
-    let after : After = record { shelf = g.S.Shelf.told c.args.shelf.now; faults = record { tree = g.T.Files.faults c.args.tree.now; shelf = g.S.Shelf.faults c.args.shelf.now; remote = g.R.Remote.faults c.args.hand.now.remote; area = g.S.Area.Area.faults c.args.hand.now.area; gate = g.G.Gate.faults c.args.hand.now.gate } } in
-    calls_none (Ok c.args.line.now) seen after c.nothing.result c.in-Err.error c.nothing.ensures.0 c.nothing.ensures.1 refl
+pub returns-in-Err-clause-calls : goal.returns-in-Err-clause-calls
+returns-in-Err-clause-calls g c =
+    let seen : Seen = record { tree = g.T.Tree.files c.args.tree.now; faults = g.T.Files.faults c.args.tree.now; machine = c.args.machine; outside = outside_by g.S.Shelf.told g.S.Shelf.faults (state_by g.R.Remote.files g.R.Remote.faults g.S.Area.Area.contents g.S.Area.Area.faults g.S.Area.Area.pieces g.G.Gate.answers g.G.Gate.faults) c.args.shelf c.args.hands.now } in
+    let call = c.nothing in
+    let after : After = record { faults = g.T.Files.faults c.args.tree.now; outside = outside_by g.S.Shelf.told g.S.Shelf.faults (state_by g.R.Remote.files g.R.Remote.faults g.S.Area.Area.contents g.S.Area.Area.faults g.S.Area.Area.pieces g.G.Gate.answers g.G.Gate.faults) call.result.shelf c.args.hands.now } in
+    calls_none (Ok c.args.line.now) seen after call.result.trace call.result.answers call.result.outcome c.in-Err.error call.ensures.outcome
+    (call.ensures.trace, call.ensures.answers, ap g.S.Shelf.told call.ensures.shelf) (same_tells (map (state_by g.R.Remote.files g.R.Remote.faults g.S.Area.Area.contents g.S.Area.Area.faults g.S.Area.Area.pieces g.G.Gate.answers g.G.Gate.faults) c.args.hands.now))
+
+pub returns-in-Err-clause-hands : goal.returns-in-Err-clause-hands
+returns-in-Err-clause-hands g c = record { many = refl; same = refl }

@@ -1,41 +1,29 @@
-use Rattle.std.proofs.Common.{is_some, subst, sym, List}
+use Rattle.std.proofs.Common.{List, ap, map, subst}
 use Rattle.build_report.specs.declared.details.Details.{Details}
-use Rattle.build_outcome.specs.Causes.{Counts}
-use Rattle.plan_needs.proofs.Fetching.{needs_no_file}
-use Rattle.mvn_top.specs.Calls.{Builds}
+use Rattle.crew_stages.specs.Hands.{state_by}
+use Rattle.crew_outcome.specs.Left.{Outside, outside_by}
+use Rattle.crew_outcome.specs.Reports.{Reports}
+use Rattle.crew_outcome.proofs.Idle.{without_memory}
 use Rattle.mvn_top.specs.Headline.{told_of}
-use Rattle.mvn_top.proofs.Calling.{builds_none, quiet_counted, told_by}
+use Rattle.mvn_top.proofs.First.{same_tells}
+use Rattle.mvn_top.proofs.Planned.{told_by}
 use Rattle.mvn_top.proofs.build.build_planned.Goals as goal
 
-pub run_and_report-requires-clause-needs : goal.run_and_report-requires-clause-needs
-run_and_report-requires-clause-needs g c = needs_no_file c.args.planned.now.plan c.requires.without
-
-pub returns-in-Ok-clause-builds : goal.returns-in-Ok-clause-builds
-returns-in-Ok-clause-builds g c =
+pub returns-in-Ok : goal.returns-in-Ok
+returns-in-Ok g c =
     let run = c.run_and_report in
     let p = c.args.planned.now in
-    let a : Counts = record { shelf = g.S.Shelf.faults c.args.shelf.now; area = g.S.Area.Area.faults c.args.hand.now.area; gate = g.G.Gate.faults c.args.hand.now.gate } in
-    let b : Counts = record { shelf = g.S.Shelf.faults run.new.shelf; area = g.S.Area.Area.faults run.new.hand.area; gate = g.G.Gate.faults run.new.hand.gate } in
-    let gate = g.G.Gate.answers c.args.hand.now.gate in
-    let tells = is_some (g.S.Area.Area.contents c.args.hand.now.area) in
-    let before = g.S.Shelf.told c.args.shelf.now in
-    let now = g.S.Shelf.told run.new.shelf in
+    let before : Outside = outside_by g.S.Shelf.told g.S.Shelf.faults (state_by g.R.Remote.files g.R.Remote.faults g.S.Area.Area.contents g.S.Area.Area.faults g.S.Area.Area.pieces g.G.Gate.answers g.G.Gate.faults) c.args.shelf c.args.hands.now in
+    let now : Outside = outside_by g.S.Shelf.told g.S.Shelf.faults (state_by g.R.Remote.files g.R.Remote.faults g.S.Area.Area.contents g.S.Area.Area.faults g.S.Area.Area.pieces g.G.Gate.answers g.G.Gate.faults) run.result.shelf run.new.hands in
     let is = told_by c.args.full p c.as_slice-models.result.now c.as_slice-resolutions.result.now c.as_slice.result.now c.in-Ok.details c.as_slice-models.ensures c.as_slice-resolutions.ensures c.as_slice.ensures c.in-Ok.ensures in
-    let builds : Builds p.plan c.in-Ok.details gate tells before now a b run.result = record {
-      outcome = run.ensures.outcome;
-      bound = run.ensures.bound;
-      not_refused = run.ensures.not_refused;
-      always = run.ensures.always;
-      comes = run.ensures.causes;
-      history = run.ensures.history;
-      once = run.ensures.once;
-      settled = run.ensures.settled;
-      quiet = quiet_counted run.result.outcome a b run.ensures.quiet;
-      fault = run.ensures.fault;
-    } in
-    subst (λ (d : List Details). Builds p.plan d gate tells before now a b run.result) is builds
+    subst (λ (d : List Details). Reports p.plan d before now run.result.trace run.result.answers run.result.outcome) is run.ensures.reports
 
-pub returns-in-Err-clause-builds : goal.returns-in-Err-clause-builds
-returns-in-Err-clause-builds g c =
-    builds_none c.args.planned.now.plan (told_of c.args.full c.args.planned.now) (g.G.Gate.answers c.args.hand.now.gate) (is_some (g.S.Area.Area.contents c.args.hand.now.area)) (g.S.Shelf.told c.args.shelf.now)
-    (record { shelf = g.S.Shelf.faults c.args.shelf.now; area = g.S.Area.Area.faults c.args.hand.now.area; gate = g.G.Gate.faults c.args.hand.now.gate }) c.nothing.result c.in-Err.error c.nothing.ensures.0 c.nothing.ensures.1
+pub returns-in-Err : goal.returns-in-Err
+returns-in-Err g c =
+    let p = c.args.planned.now in
+    let call = c.nothing in
+    let before : Outside = outside_by g.S.Shelf.told g.S.Shelf.faults (state_by g.R.Remote.files g.R.Remote.faults g.S.Area.Area.contents g.S.Area.Area.faults g.S.Area.Area.pieces g.G.Gate.answers g.G.Gate.faults) c.args.shelf c.args.hands.now in
+    let now : Outside = outside_by g.S.Shelf.told g.S.Shelf.faults (state_by g.R.Remote.files g.R.Remote.faults g.S.Area.Area.contents g.S.Area.Area.faults g.S.Area.Area.pieces g.G.Gate.answers g.G.Gate.faults) call.result.shelf c.args.hands.now in
+    without_memory p.plan (told_of c.args.full p) before now call.result.trace call.result.answers
+    (call.ensures.trace, call.ensures.answers, ap g.S.Shelf.told call.ensures.shelf) (same_tells (map (state_by g.R.Remote.files g.R.Remote.faults g.S.Area.Area.contents g.S.Area.Area.faults g.S.Area.Area.pieces g.G.Gate.answers g.G.Gate.faults) c.args.hands.now))
+    call.result.outcome c.in-Err.error call.ensures.outcome

@@ -1,0 +1,58 @@
+#!/usr/bin/env bash
+# How the time of fetching grows with the number of files: 256 to 2,048 libraries of 64 KiB, needed by 16 modules, each of which has its own,
+# from a remote repository that is a folder on the same disk into a new local one, by one worker and by four. What is taken off is a run over
+# the local repository that has all of them: planning, reading the classpaths, and the goals. Beside it stands what `cp` of the same files
+# takes, with `sync` of each file and folder behind it, and how often the one goes into the other. The aim is a straight line, and 1.5.
+# usage: bench/fetch.sh [TRIES], 3 if absent. The program is the one that MVN names, or bin/mvn.
+. "$(dirname "$0")/common.sh"
+tries=${1-3}
+[[ $tries =~ ^[1-9][0-9]*$ ]] || stop "usage: fetch.sh [TRIES]"
+want_mvn
+export MVN_REPO=$work/repository MVN_REMOTE=$work/remote
+workers=1
+head='<project><modelVersion>4.0.0</modelVersion><groupId>demo</groupId><version>1</version>'
+
+# COUNT: a project whose modules need so many libraries together, and a remote repository that has them, without POMs
+project() {
+  rm -rf "$MVN_REMOTE" m*
+  local module at
+  for module in $(seq 16); do
+    mkdir "m$module"
+    {
+      printf '%s<artifactId>m%d</artifactId><dependencies>' "$head" "$module"
+      for at in $(seq "$module" 16 "$1"); do
+        printf '<dependency><groupId>x</groupId><artifactId>l%d</artifactId><version>1</version></dependency>' "$at"
+        mkdir -p "$MVN_REMOTE/x/l$at/1"
+        head -c 65536 /dev/urandom > "$MVN_REMOTE/x/l$at/1/l$at-1.jar"
+      done
+      printf '</dependencies></project>'
+    } > "m$module/pom.xml"
+  done
+  printf '%s<artifactId>root</artifactId><packaging>pom</packaging><modules>%s</modules></project>' "$head" "$(printf '<module>m%d</module>' $(seq 16))" > pom.xml
+  sync
+}
+
+fetch() { "$program" compile -T "$workers" > out || stop "it ended with status $?: $(tail -n 1 out)"; }
+copy() { cp -R "$MVN_REMOTE" copy && find copy -print0 | xargs -0 sync; }
+nothing() { :; }
+fresh() { rm -rf "$MVN_REPO" copy; }
+
+# HOW IT IS PREPARED, WHAT ONE RUN IS: its nanoseconds
+time_of() {
+  eval "prepare() { $1; }; once() { $2; }"
+  least "$tries"
+}
+
+first=
+for count in 256 512 1024 2048; do
+  project "$count"
+  copied=$(time_of fresh copy)
+  for workers in 1 4; do
+    whole=$(time_of fresh fetch)
+    again=$(time_of nothing fetch)
+    spent=$((whole - again))
+    [ -n "$first" ] || first=$spent
+    awk -v count="$count" -v workers="$workers" -v spent="$spent" -v first="$first" -v copied="$copied" \
+      'BEGIN { printf "files %5d  workers %d  fetched in %9.2f ms  ratio %5.2f  cp and sync %9.2f ms  %5.2f times\n", count, workers, spent / 1e6, spent / first, copied / 1e6, spent / copied }'
+  done
+done

@@ -1,3 +1,0 @@
-mod Examples
-pub mod Fetching
-pub mod Owning

@@ -1,6 +1,0 @@
-pub mod Done
-pub mod Numbers
-pub mod Once
-pub mod Running
-pub mod Turns
-pub mod Whole

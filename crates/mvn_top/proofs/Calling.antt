@@ -24,7 +24,7 @@ use Rattle.crew_outcome.specs.Once.{PublishesOnce}
 use Rattle.crew_outcome.specs.Reports.{Reports}
 use Rattle.mvn_top.specs.Calls.{Calls}
 use Rattle.mvn_top.specs.Found.{given_of, IsFound}
-use Rattle.mvn_top.specs.Headline.{Comes, by_build, by_device, by_planning, by_words, IsFoundIn, IsHistory, IsOutcome, NoneFailed, OneFailed, supply_of, told_of}
+use Rattle.mvn_top.specs.Headline.{Comes, by_build, by_device, by_planning, by_words, IsFoundIn, IsHistory, IsOutcome, IsUnchanged, NoneFailed, OneFailed, supply_of, told_of}
 use Rattle.mvn_top.specs.Outcome.{fault_line}
 use Rattle.mvn_top.specs.Seen.{After, LeavesSo, Seen, counts_of, count_used, used, with_first}
 use Rattle.mvn_top.proofs.First.{first_used, same_tells, some_used, whole_tells}
@@ -100,7 +100,7 @@ module _ (asked : Result CommandLine Outcome) (seen : Seen) (after : After) (tra
     bound = two_below answer.status two;
     comes = comes;
     history = inl idle;
-    refused = λ t. idle;
+    refused = λ t. record { events = idle.0; none = idle.1; tree = tree; rest = rest };
     once = once_same seen.outside.shelf after.outside.shelf idle.2;
     settled = λ low. absurd (two_low answer.status two low);
     areas = λ low. absurd (two_low answer.status two low);
@@ -198,7 +198,7 @@ module _ (line : CommandLine) (seen : Seen) (after : After) (trace : List Event)
       bound = reports.bound.0;
       comes = by_build line p refl found reports.comes;
       history = history_of reports.history;
-      refused = λ two. not_two answer.status (IsIdle seen.outside after.outside trace answers) reports.bound.1 two;
+      refused = λ two. not_two answer.status (IsUnchanged seen after trace answers) reports.bound.1 two;
       once = reports.once;
       settled = λ under. reports.settled (lower_low answer.status under);
       areas = λ under. reports.areas (lower_low answer.status under);

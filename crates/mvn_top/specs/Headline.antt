@@ -1,6 +1,6 @@
 -- What a call answers and leaves, by what its words ask for and what stands outside. Project rules; Guide to Working with Multiple Modules, for
 -- the build by one hand that it is measured by.
-use Rattle.std.specs.Prelude.{◌≡◌, ◌⊎◌, ◌<◌, ℕ, Bool, false, List, Option, None, Some, Result, Ok, Err}
+use Rattle.std.specs.Prelude.{◌≡◌, ◌⊎◌, ◌<◌, ℕ, Bool, false, List, [], Option, None, Some, Result, Ok, Err}
 use Rattle.mvn_shared.specs.Cause.{HasRisen}
 use Rattle.mvn_shared.specs.Files.{Files}
 use Rattle.goal_types.specs.declared.goal.GoalAnswer.{GoalAnswer}
@@ -107,6 +107,14 @@ IsRunCall asked seen after trace answers = (line : CommandLine) × (p : Planned)
 -- at every status, and for want of memory too: nothing, or a run
 abbrev pub IsHistory : Result CommandLine Outcome → Seen → After → List Event → List Answered → Type 0
 IsHistory asked seen after trace answers = IsIdle seen.outside after.outside trace answers ⊎ IsRunCall asked seen after trace answers
+
+-- Nothing was done, and nothing outside has changed: no count of a device, not the repository, and of each hand neither what it tells nor the
+-- pieces of its area.
+pub record IsUnchanged (seen : Seen) (after : After) (trace : List Event) (answers : List Answered) : Type 0 where
+  pub events : trace ≡ []
+  pub none : answers ≡ []
+  pub tree : after.faults ≡ seen.faults
+  pub rest : after.outside ≡ seen.outside
 
 -- ---- which device failed
 

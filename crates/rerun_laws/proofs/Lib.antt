@@ -1,0 +1,9 @@
+pub mod Discovering
+pub mod Growing
+pub mod Leaving
+pub mod Listing
+pub mod Looking
+pub mod Planless
+pub mod Recalling
+pub mod Renamed
+pub mod Replanning

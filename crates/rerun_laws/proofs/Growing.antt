@@ -37,7 +37,10 @@ use Rattle.plan_law.proofs.Modules.{planned}
 use Rattle.plan_law.proofs.Numbered.{IsOwn, own_of}
 use Rattle.plan_law.proofs.Places.{place_at}
 use Rattle.cli_words.specs.declared.command_line.CommandLine.{CommandLine}
-use Rattle.build_plan.specs.Planning.{IsPlan}
+use Rattle.pom_source.specs.declared.found.Given.{Given}
+use Rattle.build_plan.specs.Planning.{IsPlanned}
+use Rattle.rerun_laws.specs.Reruns.{HasWorkers}
+use Rattle.rerun_laws.proofs.Planned.{numbers as numbers_of_plan, ordered, sound as sound_of}
 use Rattle.rerun_laws.specs.Grown.{IsGrown, MayHold, gavs_of}
 use Rattle.rerun_laws.specs.Grown.MayHold.{as_before, fetched, installed}
 
@@ -161,10 +164,11 @@ module _ (phase : Phase) (workers : ℕ) (present : List Bool) (modules : List S
       )
 
 -- whatever a plan builds, files between its start and its end have grown so
-pub grown : (line : CommandLine) (p : Planned) (start remote files : Files) (said : Answers) → IsPlan line p → IsBetween start (one_thread p.plan (supply_by start remote said)).files files
-    → IsGrown start remote (gavs_of p) files
-grown line p start remote files said is lies =
-    subst (λ (q : Planned). IsSoundPlan q.plan → IsBetween start (one_thread q.plan (supply_by start remote said)).files files → IsGrown start remote (gavs_of q) files) (sym is.numbered.is)
-    (λ sound between. grown_by (plan_with line.phase line.workers is.numbered.present is.modules) sound start remote said (gavs_of (planned_with line.phase line.workers is.numbered.present is.modules))
-    (owner_is line.phase line.workers is.numbered.present is.modules is.ordered) files between)
-    is.sound lies
+pub grown : (tree start remote files : Files) (given : Given) (line : CommandLine) (p : Planned) (said : Answers) → HasWorkers line → IsPlanned tree start remote given line p
+    → IsBetween start (one_thread p.plan (supply_by start remote said)).files files → IsGrown start remote (gavs_of p) files
+grown tree start remote files given line p said few planned lies =
+    let numbers = numbers_of_plan tree start remote given line p few planned in
+    subst (λ (q : Planned). IsSoundPlan q.plan → IsBetween start (one_thread q.plan (supply_by start remote said)).files files → IsGrown start remote (gavs_of q) files) (sym numbers.is)
+    (λ sound between. grown_by (plan_with line.phase line.workers numbers.present planned.modules) sound start remote said (gavs_of (planned_with line.phase line.workers numbers.present planned.modules))
+    (owner_is line.phase line.workers numbers.present planned.modules (ordered tree start remote given line p few planned)) files between)
+    (sound_of tree start remote given line p few planned) lies

@@ -24,7 +24,7 @@ use Rattle.outcome_laws.proofs.Sides.{apart}
 use Rattle.plan_laws.proofs.Founding.{one_found}
 use Rattle.plan_numbers.specs.declared.selected.Planned.{Planned}
 use Rattle.run_law.specs.Given.{Extends, IsPresent}
-use Rattle.rerun_laws.specs.Reruns.{IsBehind, IsOfLine, IsSeen}
+use Rattle.rerun_laws.specs.Reruns.{IsBehind, IsSeen}
 
 -- files between files that lie behind a call lie behind it
 pub behind_between : (world : World) (found : Result Planned Outcome) (low files high : Files) → IsBehind world found low → IsBehind world found high → Between low files high → IsBehind world found files
@@ -88,12 +88,3 @@ module _ (asked : Result CommandLine Outcome) (seen : Seen) (after : After) (tra
       let one : found ≡ Ok r.1 = one_found asked world.tree world.start world.remote world.machine found (Ok r.1) is_found
       (subst (λ (a : Result CommandLine Outcome). IsFound a world.tree world.start world.remote world.machine (Ok r.1)) (sym r.3) (told_plan r.0 r.1 r.4)) in
       subst (λ (f : Result Planned Outcome). LeavesSo told after.outside.shelf (λ before now. IsBehind world f now)) (sym one) (run_behind r.0 r.1 r.2 r.4 r.5)
-
-  -- and where something was done, what was found is a plan of the line
-  pub history_plan : (found : Result Planned Outcome) → IsFound asked world.tree world.start world.remote world.machine found → IsHistory asked seen after trace kept
-      → (after.outside.shelf ≡ seen.outside.shelf) ⊎ IsOfLine asked found
-  history_plan found is_found (inl idle) = inl idle.2
-  history_plan found is_found (inr r) =
-      let one : found ≡ Ok r.1 = one_found asked world.tree world.start world.remote world.machine found (Ok r.1) is_found
-      (subst (λ (a : Result CommandLine Outcome). IsFound a world.tree world.start world.remote world.machine (Ok r.1)) (sym r.3) (told_plan r.0 r.1 r.4)) in
-      inr (r.0, r.1, r.3, one, found_is r.4.said r.1 (IsPlan r.0) r.4.finds r.4.made)

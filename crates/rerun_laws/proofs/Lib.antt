@@ -4,6 +4,8 @@ pub mod Leaving
 pub mod Listing
 pub mod Looking
 pub mod Planless
+pub mod Planned
 pub mod Recalling
 pub mod Renamed
 pub mod Replanning
+pub mod Valid

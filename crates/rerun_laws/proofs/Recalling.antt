@@ -4,7 +4,7 @@ use Rattle.std.specs.FinMap as finite
 use Rattle.std.specs.Cmp.Lexicographic.{nat_list_cmp_total}
 use Rattle.mvn_shared.specs.Files.{Files, file_at}
 use Rattle.mvn_base.specs.declared.machine.Machine.{Machine}
-use Rattle.build_core.specs.OneThread.{Progress}
+use Rattle.build_core.specs.OneThread.{Progress, one_thread}
 use Rattle.build_core.specs.declared.event.Answered.{Answered}
 use Rattle.build_plan.specs.Planning.{IsPlanned, Plans}
 use Rattle.build_plan.specs.declared.planning.PlanFault.{PlanFault}
@@ -24,7 +24,9 @@ use Rattle.rerun_laws.specs.Again.{found_over, planned_over, world_over}
 use Rattle.rerun_laws.specs.Reruns.{IfPlanned, IsBehind, IsFirst, MayAgain, world_by}
 use Rattle.rerun_laws.proofs.Growing.{grown}
 use Rattle.rerun_laws.proofs.Planless.{build_same, report_same, told}
-use Rattle.rerun_laws.proofs.Replanning.{apart_again, plan_still, planned_again}
+use Rattle.rerun_laws.proofs.Replanning.{apart_again, planned_again}
+use Rattle.rerun_laws.specs.Grown.{IsGrown, gavs_of}
+use Rattle.rerun_laws.proofs.Planned.{sound}
 
 -- files that have what the start has are the start
 start_is : (start files : Files) → ((name : List ℕ) → (file_at files name ≡ file_at start name) ⊎ (file_at files name ≡ file_at start name)) → files ≡ start
@@ -51,20 +53,27 @@ said_plan tree start remote given line (Err (Build Source)) p plans e = absurd e
 said_plan tree start remote given line (Err (Build Memory)) p plans e = absurd e
 said_plan tree start remote given line (Err (Unknown place)) p plans e = cc
 
+-- the plan that was found in a world
+planned_in : (line : CommandLine) (world : World) (p : Planned) → IsFirst (Ok line) world (Ok p) → IsPlanned world.tree world.start world.remote (given_of world.machine line) line p
+planned_in line world p first = said_plan world.tree world.start world.remote (given_of world.machine line) line first.is.0 p first.is.1 first.is.2
+
+-- the files behind it have grown by its build
+grown_in : (line : CommandLine) (world : World) (p : Planned) (files : Files) → IsFirst (Ok line) world (Ok p) → IsBehind world (Ok p) files → IsGrown world.start world.remote (gavs_of p) files
+grown_in line world p files first behind =
+    grown world.tree world.start world.remote files (given_of world.machine line) line p world.answers first.again.few (planned_in line world p first) behind
+
 -- a plan is found again
-plan_again : (line : CommandLine) (world : World) (p : Planned) (files : Files) → IsFoundOf world.tree world.start world.remote (given_of world.machine line) line (Ok p)
-    → MayAgain line world p → IsBehind world (Ok p) files → IsFoundOf world.tree files world.remote (given_of world.machine line) line (Ok (planned_over files p))
-plan_again line world p files is may behind =
-    let given = given_of world.machine line in (
-      Ok (planned_over files p),
-      planned_again world.tree world.start world.remote files given line p (said_plan world.tree world.start world.remote given line is.0 p is.1 is.2) may.apart
-          (grown line p world.start world.remote files world.answers may.plan behind),
-      refl,
-    )
+plan_again : (line : CommandLine) (world : World) (p : Planned) (files : Files) → IsFirst (Ok line) world (Ok p) → IsBehind world (Ok p) files
+    → IsFoundOf world.tree files world.remote (given_of world.machine line) line (Ok (planned_over files p))
+plan_again line world p files first behind = (
+  Ok (planned_over files p),
+  planned_again world.tree world.start world.remote files (given_of world.machine line) line p (planned_in line world p first) first.again.apart (grown_in line world p files first behind),
+  refl,
+)
 
 pub again_found : (asked : Result CommandLine Outcome) (world : World) (found : Found) (files : Files) → IsFirst asked world found → IsBehind world found files
     → IsFound asked world.tree files world.remote world.machine (found_over files found)
-again_found (Ok line) world (Ok p) files first behind = plan_again line world p files first.is first.again behind
+again_found (Ok line) world (Ok p) files first behind = plan_again line world p files first behind
 again_found (Ok line) world (Err answer) files first behind =
     subst (λ start. IsFoundOf world.tree start world.remote (given_of world.machine line) line (Err answer)) (sym (start_is world.start files behind)) first.is
 again_found (Err answer) world (Ok p) files first behind = absurd (never p answer first.is)
@@ -82,20 +91,25 @@ found_is_over asked world found other files first behind is =
 -- ---- what is answered
 
 -- over one plan
-plan_outcome : (full : Bool) (line : CommandLine) (world : World) (p : Planned) (files : Files) → MayAgain line world p → IsBehind world (Ok p) files
-    → outcome full (world_over files world) (Ok (planned_over files p)) ≡ outcome full world (Ok p)
-plan_outcome full line world p files may behind =
-    report_same p.plan (present_in files p.plan.files) (told_of full p) (supply_of (world_over files world))
-    ∙ ap (λ (progress : Progress). told p.plan (present_in files p.plan.files) p.plan (told_of full p) (supply_of world) progress) (again_same p.plan world.start files world.remote world.answers may.plan.sound behind)
+ends_again : (line : CommandLine) (world : World) (p : Planned) (files : Files) → IsFirst (Ok line) world (Ok p) → IsBehind world (Ok p) files
+    → one_thread p.plan (supply_of (world_over files world)) ≡ one_thread p.plan (supply_of world)
+ends_again line world p files first behind =
+    again_same p.plan world.start files world.remote world.answers (sound world.tree world.start world.remote (given_of world.machine line) line p first.again.few (planned_in line world p first)) behind
 
-plan_files : (line : CommandLine) (world : World) (p : Planned) (files : Files) → MayAgain line world p → IsBehind world (Ok p) files
+plan_outcome : (full : Bool) (line : CommandLine) (world : World) (p : Planned) (files : Files) → IsFirst (Ok line) world (Ok p) → IsBehind world (Ok p) files
+    → outcome full (world_over files world) (Ok (planned_over files p)) ≡ outcome full world (Ok p)
+plan_outcome full line world p files first behind =
+    report_same p.plan (present_in files p.plan.files) (told_of full p) (supply_of (world_over files world))
+    ∙ ap (λ (progress : Progress). told p.plan (present_in files p.plan.files) p.plan (told_of full p) (supply_of world) progress) (ends_again line world p files first behind)
+
+plan_files : (line : CommandLine) (world : World) (p : Planned) (files : Files) → IsFirst (Ok line) world (Ok p) → IsBehind world (Ok p) files
     → files_after (world_over files world) (Ok (planned_over files p)) ≡ files_after world (Ok p)
-plan_files line world p files may behind =
-    ap (λ (progress : Progress). progress.files) (build_same p.plan (present_in files p.plan.files) (supply_of (world_over files world)) ∙ again_same p.plan world.start files world.remote world.answers may.plan.sound behind)
+plan_files line world p files first behind =
+    ap (λ (progress : Progress). progress.files) (build_same p.plan (present_in files p.plan.files) (supply_of (world_over files world)) ∙ ends_again line world p files first behind)
 
 over_outcome : (full : Bool) (asked : Result CommandLine Outcome) (world : World) (found : Found) (files : Files) → IsFirst asked world found → IsBehind world found files
     → outcome full (world_over files world) (found_over files found) ≡ outcome full world found
-over_outcome full (Ok line) world (Ok p) files first behind = plan_outcome full line world p files first.again behind
+over_outcome full (Ok line) world (Ok p) files first behind = plan_outcome full line world p files first behind
 over_outcome full (Ok line) world (Err answer) files first behind = refl
 over_outcome full (Err answer) world (Ok p) files first behind = absurd (never p answer first.is)
   where
@@ -105,7 +119,7 @@ over_outcome full (Err answer) world (Err other) files first behind = refl
 
 over_files : (asked : Result CommandLine Outcome) (world : World) (found : Found) (files : Files) → IsFirst asked world found → IsBehind world found files
     → files_after (world_over files world) (found_over files found) ≡ files_after world found
-over_files (Ok line) world (Ok p) files first behind = plan_files line world p files first.again behind
+over_files (Ok line) world (Ok p) files first behind = plan_files line world p files first behind
 over_files (Ok line) world (Err answer) files first behind = start_is world.start files behind
 over_files (Err answer) world (Ok p) files first behind = absurd (never p answer first.is)
   where
@@ -131,10 +145,8 @@ first_again asked world found files first behind = record { is = again_found ask
   where
     may : (asked : Result CommandLine Outcome) (found : Found) → IsFirst asked world found → IsBehind world found files → IfPlanned asked (found_over files found) (λ line p. MayAgain line (world_over files world) p)
     may (Ok line) (Ok p) first behind = record {
-      plan = plan_still line p files first.again.plan;
-      apart = apart_again world.tree world.start world.remote files (given_of world.machine line) line p
-          (said_plan world.tree world.start world.remote (given_of world.machine line) line first.is.0 p first.is.1 first.is.2) first.again.apart
-          (grown line p world.start world.remote files world.answers first.again.plan behind);
+      few = first.again.few;
+      apart = apart_again world.tree world.start world.remote files (given_of world.machine line) line p (planned_in line world p first) first.again.apart (grown_in line world p files first behind);
     }
     may (Ok line) (Err answer) first behind = record {}
     may (Err answer) (Ok p) first behind = record {}

@@ -2,7 +2,6 @@
 use Rattle.std.proofs.Common.{◌≡◌, ◌≤◌, ℕ, Bool, true, false, nat_lt, List, [], Contains, codes, get_or, Option, Some, None, Ok, Err, refl, sym, ap, subst, ◌∙◌, arith, ltb-true, if◌then◌else◌}
 use Rattle.std.specs.Prelude.{zip}
 use Rattle.std.proofs.lemmas.Bool.{true≢false}
-use Rattle.std.proofs.lemmas.List.{length-map}
 use Rattle.mvn_shared.specs.Files.{Files, is_there}
 use Rattle.mvn_base.specs.declared.gav.Gav.{Gav}
 use Rattle.mvn_base.specs.declared.phase.Phase.{Phase}
@@ -22,12 +21,12 @@ use Rattle.project_libraries.specs.Known.{known_at, libraries_of}
 use Rattle.project_libraries.specs.Resolving.{Resolves}
 use Rattle.cli_words.specs.declared.command_line.CommandLine.{CommandLine}
 use Rattle.plan_numbers.specs.Numbers.{plan_files}
-use Rattle.plan_numbers.specs.Plans.{IsNumbered, all_events, is_present, most_events, numbered, plan_modules, plan_with, planned_with, present_in, root_id}
+use Rattle.plan_numbers.specs.Plans.{IsNumbered, all_events, most_events, numbered, plan_modules, plan_with, planned_with, present_in, root_id}
 use Rattle.plan_numbers.specs.declared.selected.Planned.{Planned}
 use Rattle.plan_numbers.specs.declared.selected.SelectedModule.{SelectedModule}
 use Rattle.plan_law.proofs.Members.{IsIn, at_in, each_passes, from_map, in_at, in_from}
-use Rattle.plan_law.proofs.Whole.{is_numbered, sound_numbered}
-use Rattle.build_plan.specs.Planning.{IsPlan, IsPlanned}
+use Rattle.plan_law.proofs.Whole.{is_numbered}
+use Rattle.build_plan.specs.Planning.{IsPlanned}
 use Rattle.rerun_laws.specs.Again.{planned_over}
 use Rattle.rerun_laws.specs.Apart.{IsApart, are_said, is_apart, is_said}
 use Rattle.rerun_laws.specs.Grown.{IsGrown, gavs_of}
@@ -158,19 +157,3 @@ module _ (tree start remote files : Files) (given : Given) (line : CommandLine) 
   -- and its modules are known in the project still
   pub apart_again : IsApart tree files remote given (planned_over files p)
   apart_again = subst (λ (said : Built Modules). is_apart said p.models ≡ true) (sym still_project) are_built
-
--- the plan over other files is one of the line still
-pub plan_still : (line : CommandLine) (p : Planned) (files : Files) → IsPlan line p → IsPlan line (planned_over files p)
-plan_still line p files is =
-    let same : planned_over files p ≡ planned_with line.phase line.workers (present_in files (plan_files line.phase is.modules)) is.modules
-    = ap (planned_over files) is.numbered.is ∙ over_is line.phase line.workers is.modules files is.numbered.present in
-    let numbers : IsNumbered line.phase line.workers is.modules (planned_over files p)
-    = record { present = present_in files (plan_files line.phase is.modules); each = length-map (plan_files line.phase is.modules) (is_present files); is = same; few = is.numbered.few } in
-    record {
-      modules = is.modules;
-      lawful = is.lawful;
-      ordered = is.ordered;
-      numbered = numbers;
-      sound = sound_numbered line.phase line.workers is.modules (planned_over files p) numbers is.ordered;
-      few = is.few;
-    }

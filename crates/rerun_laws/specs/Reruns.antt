@@ -1,9 +1,8 @@
 -- A call that may be made again, and the files that it may be made over. Project rules.
-use Rattle.std.specs.Prelude.{◌≡◌, List, Some, Result, Ok, Err}
+use Rattle.std.specs.Prelude.{◌≡◌, ◌≤◌, List, Some, Result, Ok, Err}
 use Rattle.mvn_shared.specs.Files.{Files}
 use Rattle.build_core.specs.OneThread.{answer_at}
 use Rattle.build_core.specs.declared.event.Answered.{Answered}
-use Rattle.build_plan.specs.Planning.{IsPlan}
 use Rattle.cli_words.specs.declared.command_line.CommandLine.{CommandLine}
 use Rattle.crew_outcome.specs.declared.outcome.Outcome.{Outcome}
 use Rattle.mvn_base.specs.declared.machine.Machine.{Machine}
@@ -17,9 +16,13 @@ use Rattle.plan_numbers.specs.declared.selected.Planned.{Planned}
 use Rattle.run_law.specs.Given.{Extends}
 use Rattle.rerun_laws.specs.Apart.{IsApart}
 
--- a plan that was found is one of the line, and its modules are known in their project
+-- a line asks for as many workers as there may be
+abbrev pub HasWorkers : CommandLine → Type 0
+HasWorkers line = (1 ≤ line.workers) × (line.workers ≤ 16)
+
+-- a plan for so many workers, whose modules are known in their project
 pub record MayAgain (line : CommandLine) (world : World) (p : Planned) : Type 0 where
-  pub plan : IsPlan line p
+  pub few : HasWorkers line
   pub apart : IsApart world.tree world.start world.remote (given_of world.machine line) p
 
 -- where a plan was found
@@ -27,10 +30,6 @@ abbrev pub IfPlanned : Result CommandLine Outcome → Result Planned Outcome →
 IfPlanned (Ok line) (Ok p) P = P line p
 IfPlanned (Ok line) (Err answer) P = Unit {0}
 IfPlanned (Err answer) found P = Unit {0}
-
--- what was found is a plan of the line that is asked for
-abbrev pub IsOfLine : Result CommandLine Outcome → Result Planned Outcome → Type 0
-IsOfLine asked found = (line : CommandLine) × (p : Planned) × (asked ≡ Ok line) × (found ≡ Ok p) × IsPlan line p
 
 -- what is found in a world by what is asked, so that the call may be made again
 pub record IsFirst (asked : Result CommandLine Outcome) (world : World) (found : Result Planned Outcome) : Type 0 where

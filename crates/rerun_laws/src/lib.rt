@@ -8,6 +8,7 @@ pub mod calls;
 pub mod over_plan;
 pub mod planning;
 pub mod remains;
+pub mod soundness;
 
 pub use additions::builds_add;
 pub use apart::{known_modules, renamed_module};
@@ -15,3 +16,4 @@ pub use calls::{calls_again, outcomes_again};
 pub use over_plan::over_one_plan;
 pub use planning::{looked_up_again, plans_again};
 pub use remains::calls_leave;
+pub use soundness::plans_are_sound;

@@ -1,107 +1,142 @@
 #!/usr/bin/env bash
-# Shows that a killed install leaves no torn file: kills installs by two workers of a project of three modules, each of which needs the one
-# before it, and a library that is fetched, at random moments, up to half as late again as one install takes, and checks after each that
-# every POM and every jar is absent, or has all its old bytes or all its new ones, and the library's files those of the remote repository.
-# At the end one more install, undisturbed, leaves what it leaves in a new repository.
-# usage: kill_install.sh [KILLS], 100 if absent. The program is the one that MVN names, or bin/mvn.
+# Shows that a killed install leaves no torn file, and that the next run ends as if nothing had happened: kills installs by one and by eight
+# workers, of a project of eight modules that stand on one another or not and need libraries that are fetched, at random moments up to half as
+# late again as one install takes. One module fails in its tests, one needs it and is skipped, and of one a library is nowhere. After each
+# kill every POM and every jar is absent, or has all its old bytes or all its new ones, and the next run says what an undisturbed one says, and
+# leaves its files and no piece. The same with pieces of an earlier run, so that some are killed while they remove these.
+# usage: kill_install.sh [KILLS], 40 if absent. The program is the one that MVN names, or bin/mvn.
 . "$(dirname "$0")/cases.sh"
 find_program
-kills=${1-100}
+kills=${1-40}
 [[ $kills =~ ^[1-9][0-9]*$ ]] || stop "usage: kill_install.sh [KILLS]"
 cd "$work" || exit 1
-modules=(base core app)
 export MVN_REPO=$work/repository MVN_REMOTE=$work/remote
+modules=(base core app free other broken after lost)
 
-# NAME, TEXT: the POM of this artifact, with more in it
-pom() { printf '<project><modelVersion>4.0.0</modelVersion><groupId>demo</groupId><artifactId>%s</artifactId><version>1.0</version>%s</project>' "$1" "$2"; }
+# GROUP, NAME, TEXT: a POM
+pom() { printf '<project><modelVersion>4.0.0</modelVersion><groupId>%s</groupId><artifactId>%s</artifactId><version>1</version>%s</project>' "$@"; }
 
-pom root "<packaging>pom</packaging><modules>$(printf '<module>%s</module>' "${modules[@]}")</modules>" > pom.xml
-library=x/y/1/y-1
-mkdir -p "$MVN_REMOTE/x/y/1"
-head -c 3000000 /dev/urandom > "$MVN_REMOTE/$library.jar"
-echo '<project><modelVersion>4.0.0</modelVersion><groupId>x</groupId><artifactId>y</artifactId><version>1</version></project>' > "$MVN_REMOTE/$library.pom"
-needs='<dependencies><dependency><groupId>x</groupId><artifactId>y</artifactId><version>1</version></dependency></dependencies>'
-for module in "${modules[@]}"; do
-  mkdir -p "$module/src/main/java"
-  pom "$module" "$needs" > "$module/pom.xml"
-  needs="<dependencies><dependency><groupId>demo</groupId><artifactId>$module</artifactId><version>1.0</version></dependency></dependencies>"
+# MODULE, GROUP AND NAME OF WHAT IT NEEDS..
+module() {
+  local name=$1 needs=
+  shift
+  while [ $# != 0 ]; do
+    needs+="<dependency><groupId>$1</groupId><artifactId>$2</artifactId><version>1</version></dependency>"
+    shift 2
+  done
+  mkdir -p "$name/src/main/java"
+  pom demo "$name" "<dependencies>$needs</dependencies>" > "$name/pom.xml"
+}
+
+pom demo root "<packaging>pom</packaging><modules>$(printf '<module>%s</module>' "${modules[@]}")</modules>" > pom.xml
+for library in y z; do
+  mkdir -p "$MVN_REMOTE/x/$library/1"
+  head -c 1500000 /dev/urandom > "$MVN_REMOTE/x/$library/1/$library-1.jar"
 done
+for library in y z gone; do
+  mkdir -p "$MVN_REMOTE/x/$library/1"
+  pom x "$library" '' > "$MVN_REMOTE/x/$library/1/$library-1.pom"
+done
+module base x y
+module core demo base
+module app demo core x z
+module free x y
+module other
+module broken x z
+module after demo broken
+module lost x gone
+mkdir -p broken/src/test/java
+echo 'no luck' > broken/src/test/java/fail-test
 
 # old OR new: the sources of all modules
 write_sources() {
   local module
   for module in "${modules[@]}"; do
-    head -c 700000 /dev/zero | tr '\0' "${1:0:1}" > "$module/src/main/java/App.java"
+    head -c 300000 /dev/zero | tr '\0' "${1:0:1}" > "$module/src/main/java/App.java"
   done
 }
 
-install() { "$mvn" install -T 2; }
+# FOLDER: its files with their sums
+sums() { (cd "$1" 2> /dev/null && find . -type f | LC_ALL=C sort | xargs -r sha256sum); }
 
-# MODULE, KIND: the file's path
-file() { echo "$MVN_REPO/demo/$1/1.0/$1-1.0.$2"; }
-
-# the two states that builds of two sources leave
+# what builds of two sources say and leave
 for side in old new; do
   write_sources "$side"
   rm -rf "$MVN_REPO"
   begun=$(date +%s%N)
-  install > /dev/null || stop "the install of $side failed"
+  "$mvn" install -T 8 > "$side.said"
+  status=$?
   longest=$((($(date +%s%N) - begun) * 3 / 2000000 + 1))
-  for module in "${modules[@]}"; do
-    for kind in pom jar; do cp "$(file "$module" "$kind")" "$side.$module.$kind" && [ -s "$side.$module.$kind" ] || exit 1; done
-    ! cmp -s "old.$module.jar" "$side.$module.jar" || [ "$side" = old ] || stop "two sources make one jar, so no jar tells whose it is"
-  done
+  [ "$status" = 1 ] && [ "$(tail -n 1 "$side.said")" = 'total 9 built 6 failed 2 skipped 1' ] || stop "the install of $side: status $status, $(cat "$side.said")"
+  sums "$MVN_REPO" > "$side.sums"
+  rm -rf "$MVN_REPO/.staging"
+  mv "$MVN_REPO" "$side.files"
 done
+jar=demo/app/1/app-1.jar
+! cmp -s "old.files/$jar" "new.files/$jar" || stop "two sources make one jar, so no jar tells whose it is"
 
-torn=0
-killed=0
-changed=0
-for ((i = 0; i < kills; i++)); do
-  [ $((i % 20)) = 0 ] && rm -rf "$MVN_REPO"
-  side=$([ $((i % 2)) = 0 ] && echo old || echo new)
-  write_sources "$side"
+# the files that are there and have neither the bytes of the one side nor of the other; no piece is such a file
+torn_files() { sums "$MVN_REPO" | grep -v ' ./.staging/' | LC_ALL=C sort | LC_ALL=C comm -13 both.sums -; }
+LC_ALL=C sort -u old.sums new.sums > both.sums
+
+# WORKERS: an install that is killed at a random moment; `killed` counts those that were
+kill_one() {
+  local moment=$((RANDOM % longest)) pid
   set -m
-  install > /dev/null 2>&1 &
+  "$mvn" install -T "$1" > /dev/null 2>&1 &
   pid=$!
   set +m
-  moment=$((RANDOM % longest))
   sleep "$(printf '%d.%03d' $((moment / 1000)) $((moment % 1000)))"
   # the group of the processes of this one install
   kill -9 -- "-$pid" 2> /dev/null
   wait "$pid" 2> /dev/null
-  [ $? = 137 ] && killed=$((killed + 1))
-  [ ! -e "$(file base jar)" ] || ! cmp -s "$(file base jar)" "$side.base.jar" || changed=$((changed + 1))
-  for module in "${modules[@]}"; do
-    for kind in pom jar; do
-      name=$(file "$module" "$kind")
-      [ ! -e "$name" ] || cmp -s "$name" "old.$module.$kind" || cmp -s "$name" "new.$module.$kind" || torn=$((torn + 1))
-    done
-  done
-  for kind in pom jar; do
-    [ ! -e "$MVN_REPO/$library.$kind" ] || cmp -s "$MVN_REPO/$library.$kind" "$MVN_REMOTE/$library.$kind" || torn=$((torn + 1))
-  done
+  [ $? != 137 ] || killed=$((killed + 1))
+  [ -z "$(torn_files)" ] || torn=$((torn + 1))
+}
+
+# SIDE: the next install, by as many workers as any before it
+rerun() {
+  "$mvn" install -T 8 > said
+  [ $? = 1 ] && cmp -s said "$1.said" && sums "$MVN_REPO" | cmp -s - "$1.sums" || differ=$((differ + 1))
+}
+
+torn=0
+killed=0
+changed=0
+differ=0
+for ((i = 0; i < kills; i++)); do
+  [ $((i % 4)) -gt 1 ] || rm -rf "$MVN_REPO"
+  side=$([ $((i % 2)) = 0 ] && echo old || echo new)
+  write_sources "$side"
+  kill_one $((i % 3 == 0 ? 1 : 8))
+  [ ! -e "$MVN_REPO/$jar" ] || ! cmp -s "$MVN_REPO/$jar" "$side.files/$jar" || changed=$((changed + 1))
+  rerun "$side"
 done 2> /dev/null
 
-# Where no install was killed, or none came as far as a jar, nothing is shown.
+# Where no install was killed, or none came as far as the last jar, nothing is shown.
 if [ "$torn" = 0 ] && [ "$killed" != 0 ] && [ "$changed" != 0 ]; then
-  pass "no name torn by $kills installs, $killed killed while they ran, the first jar new after $changed"
+  pass "no file torn by $kills installs, $killed killed while they ran, the jar of app new after $changed"
 else
-  fail "no name torn by $kills installs" "$torn torn, $killed killed while they ran, the first jar new after $changed"
+  fail "no file torn by $kills installs" "torn after $torn, $killed killed while they ran, the jar of app new after $changed"
 fi
+if [ "$differ" = 0 ]; then pass 'each next install ends like an undisturbed one'; else fail 'each next install ends like an undisturbed one' "$differ of $kills differ"; fi
 
-write_sources new
-last=$(install)
-wanted=$(printf 'built demo:%s:1.0\n' root "${modules[@]}"; echo 'total 4 built 4 failed 0 skipped 0')
-differ=
-for module in "${modules[@]}"; do
-  for kind in pom jar; do cmp -s "$(file "$module" "$kind")" "new.$module.$kind" || differ+=" $module-1.0.$kind"; done
-done
-for kind in pom jar; do cmp -s "$MVN_REPO/$library.$kind" "$MVN_REMOTE/$library.$kind" || differ+=" y-1.$kind"; done
-if [ "$last" = "$wanted" ] && [ -z "$differ" ]; then
-  pass 'the next install ends like an undisturbed one'
+# 1,000 pieces of an earlier run for each worker
+differ=0
+inside=0
+for ((i = 0; i < kills / 4 + 5; i++)); do
+  for hand in 0 1 2 3 4 5 6 7; do
+    mkdir -p "$MVN_REPO/.staging/$hand"
+    (cd "$MVN_REPO/.staging/$hand" && touch old-{1..1000}) || exit 1
+  done
+  kill_one 8
+  left=$(find "$MVN_REPO/.staging" -name 'old-*' | wc -l)
+  [ "$left" = 0 ] || [ "$left" = 8000 ] || inside=$((inside + 1))
+  rerun "$side"
+done 2> /dev/null
+if [ "$torn" = 0 ] && [ "$differ" = 0 ] && [ "$inside" != 0 ]; then
+  pass "nor by $i over pieces of an earlier run, $inside killed while these were removed, and none is left by the next"
 else
-  fail 'the next install ends like an undisturbed one' "$last, and these differ:$differ"
+  fail "$i installs over pieces of an earlier run" "torn after $torn, $differ differ, $inside killed while these were removed"
 fi
-left=$(find "$MVN_REPO/.staging" -type f 2> /dev/null | wc -l)
-if [ "$left" = 0 ]; then pass 'no piece is left'; else fail 'no piece is left' "$left are"; fi
 tell

@@ -1,41 +1,58 @@
 #!/usr/bin/env bash
-# Shows that two installs at once into one repository don't disturb each other: runs pairs of installs of one artifact, from two folders
-# with different sources and POMs, both of which need a library that is fetched, and checks after each pair what the two answered and that
-# no file is torn: POM and jar have all bytes of the one or of the other, and the library's files those of the remote repository. Then the
-# same with one of the two killed at a random moment: the other has to answer as if it were alone. Last, one more install is not hindered
-# by a leftover staged file, and leaves none. usage: two_builds.sh [PAIRS], of each kind; if absent, as many as there is time for in 15
-# seconds. The program is the one that MVN names, or bin/mvn.
+# Shows that two builds at once over one repository don't disturb each other: runs pairs of `mvn install -T 4` of one project of three modules,
+# from two folders with different sources and POMs, which need a library that is fetched, and checks after each pair what the two answered
+# and that no file is torn: each POM and jar has all bytes of the one or of the other, and the library's files those of the remote
+# repository. Then the same with one of the two killed at a random moment: the other has to answer as if it were alone. Last, one more
+# install is not hindered by a leftover staged file, and leaves none. usage: two_builds.sh [PAIRS], of each kind; if absent, as many as there
+# is time for in 15 seconds. The program is the one that MVN names, or bin/mvn.
 . "$(dirname "$0")/cases.sh"
 find_program
 pairs=${1-}
 [[ $pairs =~ ^[0-9]*$ ]] || stop "usage: two_builds.sh [PAIRS]"
 cd "$work" || exit 1
 export MVN_REPO=$work/repository MVN_REMOTE=$work/remote
+modules=(base app web)
+
+# GROUP, NAME, TEXT: a POM
+pom() { printf '<project><modelVersion>4.0.0</modelVersion><groupId>%s</groupId><artifactId>%s</artifactId><version>1</version>%s</project>' "$@"; }
+
+# GROUP, NAME: a dependency on it
+need() { echo "<dependencies><dependency><groupId>$1</groupId><artifactId>$2</artifactId><version>1</version></dependency></dependencies>"; }
+
 library=x/y/1/y-1
 mkdir -p "$MVN_REMOTE/x/y/1"
 head -c 3000000 /dev/urandom > "$MVN_REMOTE/$library.jar"
-echo '<project><modelVersion>4.0.0</modelVersion><groupId>x</groupId><artifactId>y</artifactId><version>1</version></project>' > "$MVN_REMOTE/$library.pom"
-needs='<dependencies><dependency><groupId>x</groupId><artifactId>y</artifactId><version>1</version></dependency></dependencies>'
-folder=$MVN_REPO/demo/app/1.0
-report=$'built demo:app:1.0\ntotal 1 built 1 failed 0 skipped 0'
+pom x y '' > "$MVN_REMOTE/$library.pom"
+report=$(printf 'built demo:%s:1\n' root "${modules[@]}"; echo 'total 4 built 4 failed 0 skipped 0')
+
+# MODULE, KIND: its file in the repository
+file() { echo "$MVN_REPO/demo/$1/1/$1-1.$2"; }
 
 # what each of the two leaves when it is alone, and how many milliseconds it takes
 for side in old new; do
-  mkdir -p "$side/src/main/java"
-  head -c 2000000 /dev/zero | tr '\0' "${side:0:1}" > "$side/src/main/java/App.java"
-  printf '<project><!-- %s --><modelVersion>4.0.0</modelVersion><groupId>demo</groupId><artifactId>app</artifactId><version>1.0</version>%s</project>' \
-    "$([ "$side" = old ] && echo old || head -c 5000 /dev/zero | tr '\0' n)" "$needs" > "$side/pom.xml"
+  text="<!-- $([ "$side" = old ] && echo old || head -c 5000 /dev/zero | tr '\0' n) -->"
+  mkdir "$side"
+  pom demo root "$text<packaging>pom</packaging><modules>$(printf '<module>%s</module>' "${modules[@]}")</modules>" > "$side/pom.xml"
+  for module in "${modules[@]}"; do
+    mkdir -p "$side/$module/src/main/java"
+    head -c 700000 /dev/zero | tr '\0' "${side:0:1}" > "$side/$module/src/main/java/App.java"
+    pom demo "$module" "$text$([ "$module" = app ] && need demo base || need x y)" > "$side/$module/pom.xml"
+  done
   rm -rf "$MVN_REPO"
   begun=$(date +%s%N)
-  (cd "$side" && "$mvn" install > /dev/null) || stop "the install of $side failed"
+  (cd "$side" && "$mvn" install -T 4 > /dev/null) || stop "the install of $side failed"
   longest=$((($(date +%s%N) - begun) / 1000000 + 1))
-  for kind in pom jar; do cp "$folder/app-1.0.$kind" "$side.$kind" || exit 1; done
+  for module in "${modules[@]}"; do
+    for kind in pom jar; do
+      cp "$(file "$module" "$kind")" "$side.$module.$kind" || exit 1
+      [ "$side" = old ] || ! cmp -s "old.$module.$kind" "new.$module.$kind" || stop "the two sides leave the same bytes"
+    done
+  done
 done
-! cmp -s old.jar new.jar && ! cmp -s old.pom new.pom || stop "the two sides leave the same bytes"
 
 # SIDE: starts its install in the background
 begin() {
-  (cd "$1" && exec "$mvn" install) > "$1.said" 2>&1 &
+  (cd "$1" && exec "$mvn" install -T 4) > "$1.said" 2>&1 &
 }
 
 # MILLISECONDS AT MOST: waits for a random part of them
@@ -51,9 +68,12 @@ answered() {
 
 # counts each name that has neither the one's bytes nor the other's, or not the remote repository's
 look() {
-  local kind
+  local kind module name
   for kind in pom jar; do
-    cmp -s "$folder/app-1.0.$kind" "old.$kind" || cmp -s "$folder/app-1.0.$kind" "new.$kind" || torn=$((torn + 1))
+    for module in "${modules[@]}"; do
+      name=$(file "$module" "$kind")
+      cmp -s "$name" "old.$module.$kind" || cmp -s "$name" "new.$module.$kind" || torn=$((torn + 1))
+    done
     cmp -s "$MVN_REPO/$library.$kind" "$MVN_REMOTE/$library.$kind" || torn=$((torn + 1))
   done
 }
@@ -105,16 +125,20 @@ one_killed() {
   answered "${sides[1]}" $?
 }
 
-try 'two installs at once' both
-try 'two installs, of which one is killed' one_killed
+try 'two builds at once' both
+try 'two builds, of which one is killed' one_killed
 begin new
 wait $!
 wrong=0
 answered new $?
 left=$(find "$MVN_REPO/.staging" -type f | wc -l)
-if [ "$wrong" = 0 ] && [ "$left" = 0 ] && cmp -s "$folder/app-1.0.jar" new.jar && cmp -s "$folder/app-1.0.pom" new.pom; then
+differ=
+for module in "${modules[@]}"; do
+  for kind in pom jar; do cmp -s "$(file "$module" "$kind")" "new.$module.$kind" || differ+=" $module-1.$kind"; done
+done
+if [ "$wrong" = 0 ] && [ "$left" = 0 ] && [ -z "$differ" ]; then
   pass 'one more install ends like an undisturbed one, and leaves no piece'
 else
-  fail 'one more install ends like an undisturbed one' "$(cat new.said), $left pieces are left"
+  fail 'one more install ends like an undisturbed one' "$(cat new.said), $left pieces are left, these differ:$differ"
 fi
 tell

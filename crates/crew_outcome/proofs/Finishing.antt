@@ -171,8 +171,8 @@ module _ (plan : Plan) (details : List Details) (before now : Outside) (trace : 
   once_of (Some told) is = (publishes_in plan run, is.0, is.3, names.once plan run sound e.of.crew.follows, is.1)
 
   answer_of : (answer : Outcome) (s : Result (Unit {0}) DeviceFault) → IsRunAnswer plan details answers (states_after plan run) s answer → IsShelfCounted run (more_of s) before now → IsAnswerOf plan details run before now answers answer
-  answer_of answer (Ok done) is count = inl (is.is, count)
-  answer_of answer (Err fault.Failed) is count = inr (is.is, count)
+  answer_of answer (Ok done) is count = (is.memory, inl (is.is, count))
+  answer_of answer (Err fault.Failed) is count = (is.memory, inr (is.is, count))
   answer_of answer (Err fault.Memory) is count = absurd is.is
 
   -- a worker of a hand

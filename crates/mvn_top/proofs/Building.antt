@@ -54,7 +54,7 @@ module _ (line : CommandLine) (given : Given) (seen : Seen) (low : 1 ≤ line.wo
       → Counted None failed (counts_of seen.faults seen.outside) (counts_of after.faults after.outside) → IsAskedFirst seen.outside.hands after.outside.hands → length after.outside.hands ≡ length seen.outside.hands → after.outside.shelf ≡ seen.outside.shelf
       → said ≡ Ok answer → trace ≡ [] → answers ≡ [] → Calls (Ok line) seen after trace answers said
   calls_unbuilt after trace answers said answer (Some device) gives counted asked many told is none nothing =
-      calls_device line seen after trace answers low some said answer device is (line_of answer (fault_line device) gives) counted (none, nothing, told) (asked_tells seen.outside.hands after.outside.hands asked many)
+      calls_device line seen after trace answers low some said answer device is (line_of answer (fault_line device) gives) counted asked (none, nothing, told) (asked_tells seen.outside.hands after.outside.hands asked many)
   calls_unbuilt after trace answers said answer None gives counted asked many told is none nothing =
       let same = still seen.faults after.faults seen.outside after.outside counted asked some many told in
       calls_planning line seen after trace answers low some said answer is (found_in (Err answer) gives) none nothing same.0 same.1

@@ -24,9 +24,9 @@ use Rattle.crew_outcome.specs.Once.{PublishesOnce}
 use Rattle.crew_outcome.specs.Reports.{Reports}
 use Rattle.mvn_top.specs.Calls.{Calls}
 use Rattle.mvn_top.specs.Found.{given_of, IsFound}
-use Rattle.mvn_top.specs.Headline.{Comes, by_build, by_device, by_planning, by_words, IsFoundIn, IsHistory, IsOutcome, NoneFailed, OneFailed, supply_of, told_of}
+use Rattle.mvn_top.specs.Headline.{Comes, by_build, by_device, by_planning, by_words, IsFoundIn, IsHistory, IsOutcome, IsUnchanged, NoneFailed, OneFailed, supply_of, told_of}
 use Rattle.mvn_top.specs.Outcome.{fault_line}
-use Rattle.mvn_top.specs.Seen.{After, LeavesSo, Seen, counts_of, count_used, used, with_first}
+use Rattle.mvn_top.specs.Seen.{After, IsAskedFirst, LeavesSo, Seen, counts_of, count_used, used, with_first}
 use Rattle.mvn_top.proofs.First.{first_used, same_tells, some_used, whole_tells}
 use Rattle.mvn_top.proofs.Statuses.{device_status, lower_low, planning_status, three_below, three_low, three_lower, two_below, two_low, two_three}
 use Rattle.mvn_top.proofs.Telling.{IfAll, all_any, all_if, all_map, all_told, all_with}
@@ -100,7 +100,7 @@ module _ (asked : Result CommandLine Outcome) (seen : Seen) (after : After) (tra
     bound = two_below answer.status two;
     comes = comes;
     history = inl idle;
-    refused = λ t. idle;
+    refused = λ t. record { events = idle.0; none = idle.1; tree = tree; rest = rest };
     once = once_same seen.outside.shelf after.outside.shelf idle.2;
     settled = λ low. absurd (two_low answer.status two low);
     areas = λ low. absurd (two_low answer.status two low);
@@ -116,7 +116,7 @@ module _ (asked : Result CommandLine Outcome) (seen : Seen) (after : After) (tra
   pub calls_words : (said : Result Outcome OutOfMemory) (answer : Outcome) → said ≡ Ok answer → asked ≡ Err answer → answer.status ≡ 2 → trace ≡ [] → answers ≡ [] → after.faults ≡ seen.faults → after.outside ≡ seen.outside → Calls asked seen after trace answers said
   calls_words said answer is e two none nothing tree rest =
       let idle = idle_by none nothing rest in
-      told_as said (Ok answer) is (refused_said answer two idle tree rest (by_words e idle) (words_found answer e))
+      told_as said (Ok answer) is (refused_said answer two idle tree rest (by_words e (record { events = none; none = nothing; tree = tree; rest = rest })) (words_found answer e))
 
 module _ (line : CommandLine) (seen : Seen) (after : After) (trace : List Event) (answers : List Answered) (low : 1 ≤ line.workers) (some : 1 ≤ length seen.outside.hands) where
   -- ---- planning refused, or a device failed
@@ -132,7 +132,7 @@ module _ (line : CommandLine) (seen : Seen) (after : After) (trace : List Event)
   calls_planning said answer is found none nothing tree rest =
       let idle = idle_by (Ok line) seen after trace answers none nothing rest in
       told_as (Ok line) seen after trace answers said (Ok answer) is
-      (refused_said (Ok line) seen after trace answers answer (planning_status found.said answer found.finds) idle tree rest (by_planning line refl found idle) (found_told (Err answer) found))
+      (refused_said (Ok line) seen after trace answers answer (planning_status found.said answer found.finds) idle tree rest (by_planning line refl found (record { events = none; none = nothing; tree = tree; rest = rest })) (found_told (Err answer) found))
 
   rose_told : (shelf : Option ShelfTold) (a b : ℕ) → HasRisen a b → IfSome shelf (λ told. HasRisen a b)
   rose_told None a b rose = tt
@@ -149,13 +149,13 @@ module _ (line : CommandLine) (seen : Seen) (after : After) (trace : List Event)
   risen_by device.Remote counted = inr (inl (0, some_used seen.outside.hands line.workers low some, inl (first_rose seen.outside.hands after.outside.hands counted.2)))
 
   pub calls_device : (said : Result Outcome OutOfMemory) (answer : Outcome) (failed : PomDevice) → said ≡ Ok answer → answer ≡ fault_line failed → Counted None (Some failed) (counts_of seen.faults seen.outside) (counts_of after.faults after.outside)
-      → IsIdle seen.outside after.outside trace answers → TellAsBefore seen.outside.hands after.outside.hands → Calls (Ok line) seen after trace answers said
-  calls_device said answer failed is e counted idle tells =
+      → IsAskedFirst seen.outside.hands after.outside.hands → IsIdle seen.outside after.outside trace answers → TellAsBefore seen.outside.hands after.outside.hands → Calls (Ok line) seen after trace answers said
+  calls_device said answer failed is e counted first idle tells =
       let three = device_status failed answer e in
       told_as (Ok line) seen after trace answers said (Ok answer) is (record {
         outcome = all_any seen.tree seen.outside.shelf (used (Ok line) seen.outside).hands _ (λ files told there under. absurd (three_low answer.status three under));
         bound = three_below answer.status three;
-        comes = by_device line failed refl e counted idle;
+        comes = by_device line failed refl e counted first idle;
         history = inl idle;
         refused = λ two. absurd (two_three answer.status two three);
         once = once_same seen.outside.shelf after.outside.shelf idle.2;
@@ -198,7 +198,7 @@ module _ (line : CommandLine) (seen : Seen) (after : After) (trace : List Event)
       bound = reports.bound.0;
       comes = by_build line p refl found reports.comes;
       history = history_of reports.history;
-      refused = λ two. not_two answer.status (IsIdle seen.outside after.outside trace answers) reports.bound.1 two;
+      refused = λ two. not_two answer.status (IsUnchanged seen after trace answers) reports.bound.1 two;
       once = reports.once;
       settled = λ under. reports.settled (lower_low answer.status under);
       areas = λ under. reports.areas (lower_low answer.status under);

@@ -12,10 +12,10 @@ use Rattle.cli_words.specs.declared.command_line.CommandLine.{CommandLine}
 use Rattle.build_core.specs.declared.event.Answered.{Answered}
 use Rattle.build_core.specs.declared.event.Event.{Event}
 use Rattle.crew_outcome.specs.declared.outcome.Outcome.{Outcome}
-use Rattle.crew_outcome.specs.Left.{AreEmpty, IsIdle}
+use Rattle.crew_outcome.specs.Left.{AreEmpty}
 use Rattle.mvn_top.specs.Calls.{Calls}
 use Rattle.mvn_top.specs.Ending.{IsWhole, Ends, IsFault, IsLow, HasNone, without_memory}
-use Rattle.mvn_top.specs.Headline.{Comes, IsCall, IsOutcome, IsWanted, NoneFailed, OneFailed}
+use Rattle.mvn_top.specs.Headline.{Comes, IsCall, IsOutcome, IsUnchanged, IsWanted, NoneFailed, OneFailed}
 use Rattle.mvn_top.specs.Seen.{After, IfAllTell, LeavesSo, Seen, used}
 use Rattle.mvn_top.proofs.Telling.{all_map}
 
@@ -60,6 +60,7 @@ none_ends wanted status written now sink_before sink_now four same = record {
   whole = λ l. absurd (four_is_high status four l);
   complete = λ d q l. absurd (d four);
   fault = λ three d. absurd (four_is_not_three status four three);
+  memory = λ f. four;
 }
 
 ends_by : (asked : Result CommandLine Outcome) (seen : Seen) (after : After) (trace : List Event) (answers : List Answered) (out : Result Outcome OutOfMemory) (status : ℕ) (written now : Option (List ℕ)) (sink_before sink_now : ℕ)
@@ -95,8 +96,8 @@ low_still n m e lt = omega (arith, e, lt)
 
 module _ (asked : Result CommandLine Outcome) (seen : Seen) (after : After) (trace : List Event) (answers : List Answered) (out : Result Outcome OutOfMemory) (status : ℕ) (written now : Option (List ℕ)) (is : Calls asked seen after trace answers out)
     (whole : IfOk out (λ wanted. status < 3 → IsWhole wanted status written now)) (low : status < 3 → IsLow out) where
-  pub call_refused : status ≡ 2 → IsIdle seen.outside after.outside trace answers
-  call_refused two = status_of out status written now (λ wanted. wanted.status ≡ 2 → IsIdle seen.outside after.outside trace answers) _ (two_is_low status two) whole low is.refused (λ wanted same refused. refused (sym same ∙ two))
+  pub call_refused : status ≡ 2 → IsUnchanged seen after trace answers
+  call_refused two = status_of out status written now (λ wanted. wanted.status ≡ 2 → IsUnchanged seen after trace answers) _ (two_is_low status two) whole low is.refused (λ wanted same refused. refused (sym same ∙ two))
 
   pub call_settled : status < 2 → IfSome after.outside.shelf IsSettled
   call_settled l = status_of out status written now (λ wanted. wanted.status < 2 → IfSome after.outside.shelf IsSettled) _ (lower_is_low status l) whole low is.settled (λ wanted same settled. settled (low_again status wanted.status same l))

@@ -5,10 +5,10 @@ use Rattle.mvn_outside.specs.Shelf.{IsSettled}
 use Rattle.build_core.specs.declared.event.Answered.{Answered}
 use Rattle.build_core.specs.declared.event.Event.{Event}
 use Rattle.cli_words.specs.declared.command_line.CommandLine.{CommandLine}
-use Rattle.crew_outcome.specs.Left.{AreEmpty, IsIdle, TellAsBefore}
+use Rattle.crew_outcome.specs.Left.{AreEmpty, TellAsBefore}
 use Rattle.crew_outcome.specs.Once.{PublishesOnce}
 use Rattle.crew_outcome.specs.declared.outcome.Outcome.{Outcome}
-use Rattle.mvn_top.specs.Headline.{Comes, IsHistory, IsOutcome, NoneFailed, OneFailed}
+use Rattle.mvn_top.specs.Headline.{Comes, IsHistory, IsOutcome, IsUnchanged, NoneFailed, OneFailed}
 use Rattle.mvn_top.specs.Seen.{After, IfAllTell, LeavesSo, Seen, used}
 
 pub record Calls (asked : Result CommandLine Outcome) (seen : Seen) (after : After) (trace : List Event) (answers : List Answered) (said : Result Outcome OutOfMemory) : Type 0 where
@@ -17,7 +17,7 @@ pub record Calls (asked : Result CommandLine Outcome) (seen : Seen) (after : Aft
   pub bound : IfOk said (λ answer. answer.status ≤ 3)
   pub comes : IfOk said (Comes asked seen after trace answers)
   pub history : IsHistory asked seen after trace answers
-  pub refused : IfOk said (λ answer. answer.status ≡ 2 → IsIdle seen.outside after.outside trace answers)
+  pub refused : IfOk said (λ answer. answer.status ≡ 2 → IsUnchanged seen after trace answers)
   pub once : PublishesOnce seen.outside.shelf after.outside.shelf
   pub settled : IfOk said (λ answer. answer.status < 2 → IfSome after.outside.shelf IsSettled)
   pub areas : IfOk said (λ answer. answer.status < 2 → AreEmpty (used asked after.outside).hands)

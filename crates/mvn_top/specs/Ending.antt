@@ -15,12 +15,13 @@ pub record IsWhole (wanted : Outcome) (status : ℕ) (before now : Option (List 
   pub whole_text : now ≡ gains before wanted.text
 
 -- An outcome, and what a call left of it: always a part of the text from its front. It is whole below 3, and also
--- where memory is there and the sink, whose count stands below its end, didn't fail.
+-- where memory is there and the sink, whose count stands below its end, didn't fail. Where memory ran out before, the status says so.
 pub record Ends (wanted : Outcome) (status : ℕ) (before now : Option (List ℕ)) (sink_before sink_now : ℕ) : Type 0 where
   pub cut : IsCut wanted.text before now
   pub whole : status < 3 → IsWhole wanted status before now
   pub complete : status ≢ 4 → sink_now ≡ sink_before → sink_now < last_count → IsWhole wanted status before now
   pub fault : status ≡ 3 → status ≢ wanted.status → HasRisen sink_before sink_now
+  pub memory : wanted.status ≡ 4 → status ≡ 4
 
 -- the answer's status is below 3, is 3
 abbrev pub IsLow : Result Outcome OutOfMemory → Type 0

@@ -1,6 +1,6 @@
 -- What a call answers and leaves, by what its words ask for and what stands outside. Project rules; Guide to Working with Multiple Modules, for
 -- the build by one hand that it is measured by.
-use Rattle.std.specs.Prelude.{◌≡◌, ◌⊎◌, ◌<◌, ℕ, Bool, false, List, Option, None, Some, Result, Ok, Err}
+use Rattle.std.specs.Prelude.{◌≡◌, ◌⊎◌, ◌<◌, ℕ, Bool, false, List, [], Option, None, Some, Result, Ok, Err}
 use Rattle.mvn_shared.specs.Cause.{HasRisen}
 use Rattle.mvn_shared.specs.Files.{Files}
 use Rattle.goal_types.specs.declared.goal.GoalAnswer.{GoalAnswer}
@@ -22,7 +22,7 @@ use Rattle.crew_outcome.specs.declared.outcome.Outcome.{Outcome}
 use Rattle.mvn_top.specs.Ending.{IsWhole, without_memory}
 use Rattle.mvn_top.specs.Found.{given_of, IsFound, IsFoundBy}
 use Rattle.mvn_top.specs.Outcome.{fault_line}
-use Rattle.mvn_top.specs.Seen.{After, Seen, counts_of, first_remote, used}
+use Rattle.mvn_top.specs.Seen.{After, IsAskedFirst, Seen, counts_of, first_remote, used}
 
 -- ---- the outcome, as that of the build by one hand
 
@@ -76,19 +76,27 @@ IsCall asked tree remote machine answers status written now before after = (foun
 
 -- ---- where an answer comes from
 
+-- Nothing was done, and nothing outside has changed: no count of a device, not the repository, and of each hand neither what it tells nor the
+-- pieces of its area.
+pub record IsUnchanged (seen : Seen) (after : After) (trace : List Event) (answers : List Answered) : Type 0 where
+  pub events : trace ≡ []
+  pub none : answers ≡ []
+  pub tree : after.faults ≡ seen.faults
+  pub rest : after.outside ≡ seen.outside
+
 -- what planning the line found, over any devices of which none failed
 abbrev pub IsFoundIn : Seen → CommandLine → Result Planned Outcome → Type 0
 IsFoundIn seen line found = IsFoundBy seen.tree seen.outside.shelf (first_remote seen.outside) (given_of seen.machine line) line found
 
 -- Over any objects, where an answer comes from: it is what is answered in place of a line; the line of a device that failed while planning,
--- whose own count rose; what is answered in place of a plan; or a plan was built by the hands that are used, and it is an area's line or the
+-- whose own count rose, and of the hands only the first one's remote was asked; what is answered in place of a plan; or a plan was built by the hands that are used, and it is an area's line or the
 -- report of a run by them, with its causes.
 pub data Comes (asked : Result CommandLine Outcome) (seen : Seen) (after : After) (trace : List Event) (answers : List Answered) (answer : Outcome) : Type 0 where
-  by_words : asked ≡ Err answer → IsIdle seen.outside after.outside trace answers → Comes asked seen after trace answers answer
+  by_words : asked ≡ Err answer → IsUnchanged seen after trace answers → Comes asked seen after trace answers answer
   by_device : (line : CommandLine) (device : PomDevice) → asked ≡ Ok line → answer ≡ fault_line device
       → Counted None (Some device) (counts_of seen.faults seen.outside) (counts_of after.faults after.outside)
-      → IsIdle seen.outside after.outside trace answers → Comes asked seen after trace answers answer
-  by_planning : (line : CommandLine) → asked ≡ Ok line → IsFoundIn seen line (Err answer) → IsIdle seen.outside after.outside trace answers → Comes asked seen after trace answers answer
+      → IsAskedFirst seen.outside.hands after.outside.hands → IsIdle seen.outside after.outside trace answers → Comes asked seen after trace answers answer
+  by_planning : (line : CommandLine) → asked ≡ Ok line → IsFoundIn seen line (Err answer) → IsUnchanged seen after trace answers → Comes asked seen after trace answers answer
   by_build : (line : CommandLine) (p : Planned) → asked ≡ Ok line → IsFoundIn seen line (Ok p)
       → AnswersBuild p.plan (told_of line.full p) (used asked seen.outside) (used asked after.outside) trace answers answer → Comes asked seen after trace answers answer
 

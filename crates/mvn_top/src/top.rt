@@ -4,11 +4,11 @@ ghost use Rattle.mvn_shared.specs.Cause.{HasRisen};
 ghost use Rattle.mvn_outside.specs.Shelf.{IsSettled};
 ghost use Rattle.crew_stages.specs.Hands.{state_by};
 ghost use Rattle.crew_outcome.specs.declared.outcome.Outcome.{Outcome};
-ghost use Rattle.crew_outcome.specs.Left.{AreEmpty, IsIdle, TellAsBefore, outside_by};
+ghost use Rattle.crew_outcome.specs.Left.{AreEmpty, TellAsBefore, outside_by};
 ghost use Rattle.crew_outcome.specs.Once.{PublishesOnce, StopsBetween};
 ghost use Rattle.mvn_top.specs.Commands.{asked};
 ghost use Rattle.mvn_top.specs.Ending.{Ends};
-ghost use Rattle.mvn_top.specs.Headline.{IsCall, IsHistory, IsWanted, NoneFailed, OneFailed};
+ghost use Rattle.mvn_top.specs.Headline.{IsCall, IsHistory, IsUnchanged, IsWanted, NoneFailed, OneFailed};
 ghost use Rattle.mvn_top.specs.Seen.{IfAllTell, LeavesSo, OthersStay, used};
 
 use crate::build::build;
@@ -79,7 +79,7 @@ where
         (IsCall (asked words.now (length hands.old)) files there machine result.answers
         result.status (O.written out.old) (O.written out.new))) }
 
-    // Over any objects, at every status: no goal was asked and nothing was published; or the trace is the events of a complete run of a
+    // Over any objects, at every status: no event, no answer and nothing published; or the trace is the events of a complete run of a
     // plan of the line by the hands that are used, each of whose entries fits what its hand told, the answers are those that the run
     // kept, in order, each the gate's to the request that the definition names where the gate and the repository tell, the publishes
     // are the run's, and each count of a hand rose by the modules that its faults ended.
@@ -118,12 +118,21 @@ where
         × Ends wanted result.status (O.written out.old) (O.written out.new) (O.faults out.old)
         (O.faults out.new) }
 
-    // Words or a project that are refused leave the repository as it was, and no goal is asked.
-    ensures refused { result.status ≡ 2 → IsIdle
-        (outside_by S.told S.faults (state_by R.files R.faults S.Area.contents S.Area.faults
-        S.Area.pieces G.answers G.faults) shelf hands.old)
-        (outside_by S.told S.faults (state_by R.files R.faults S.Area.contents S.Area.faults
-        S.Area.pieces G.answers G.faults) result.shelf hands.new)
+    // Words or a project that are refused leave all as it was, and nothing is done: no count of a device has changed, nor the repository,
+    // nor an area.
+    ensures refused { result.status ≡ 2 → IsUnchanged
+        (record {
+          tree = T.files tree.old;
+          faults = T.faults tree.old;
+          machine = machine;
+          outside = outside_by S.told S.faults (state_by R.files R.faults S.Area.contents
+              S.Area.faults S.Area.pieces G.answers G.faults) shelf hands.old;
+        })
+        (record {
+          faults = T.faults tree.new;
+          outside = outside_by S.told S.faults (state_by R.files R.faults S.Area.contents
+              S.Area.faults S.Area.pieces G.answers G.faults) result.shelf hands.new;
+        })
         result.trace result.answers }
 
     // Each name is published at most once, and the settled number never falls; so at every moment, and after a stop, a name has

@@ -1,0 +1,11 @@
+pub mod Discovering
+pub mod Growing
+pub mod Leaving
+pub mod Listing
+pub mod Looking
+pub mod Planless
+pub mod Planned
+pub mod Recalling
+pub mod Renamed
+pub mod Replanning
+pub mod Valid

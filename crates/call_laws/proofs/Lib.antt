@@ -1,0 +1,4 @@
+pub mod Completing
+pub mod Examples
+pub mod Numbering
+pub mod Parting

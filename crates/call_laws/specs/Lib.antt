@@ -1,0 +1,4 @@
+pub use Rattle.mvn_top.specs.Headline
+pub mod Apart
+pub mod Complete
+pub mod Numbered

@@ -97,7 +97,7 @@ alike() {
       told "$workers" > "$work/next"
       cmp -s "$work/first" "$work/next" || { fail "$1 by $workers" "$(diff "$work/first" "$work/next" | head -n 5)"; continue 2; }
     done
-    if [ "$(grep -c "^$2$" "$work/next")" = 2 ]; then pass "$1 by $workers, $times times"; else fail "$1 by $workers" "$(grep '^total' "$work/next")"; fi
+    if [ "$(grep -c "^$2$" "$work/next")" = 2 ]; then pass "$1 by $workers, $times alike"; else fail "$1 by $workers" "$(grep '^total' "$work/next")"; fi
   done
 }
 

@@ -28,6 +28,11 @@ want 'more workers than there are' 2 $'word 1 TooManyWorkers\n' -T 17 validate
 want 'an option without its value' 2 $'word 1 MissingValue\n' validate -P
 want 'a second phase behind an option' 2 $'word 2 TwoPhases\n' validate -B install
 want 'the phase deploy' 2 $'word 0 DeployPhase\n' deploy
+want 'too many generated POMs' 2 $'word 1 BadNumber\n' --generated 1025 install
+generated=$'generated 200\ntotal 200 built 200 failed 0 skipped 0\nclasspath entries 2690\nfiles 417\n'
+want 'a generated project by eight workers' 0 "$generated" --generated 200 -T 8 install
+want 'the same again' 0 "$generated" --generated 200 -T 8 install
+want 'a generated project of one POM' 0 $'generated 1\ntotal 1 built 1 failed 0 skipped 0\nclasspath entries 0\nfiles 1\n' --generated 1 install
 want 'as many workers as there are' 0 "$report" -T 16 -B -ntp validate
 want 'a selected module' 0 "$report" validate -pl :app
 want 'a module to begin from' 0 "$report" validate -rf .

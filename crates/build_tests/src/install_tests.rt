@@ -100,7 +100,7 @@ pub(crate) fn worker(
 }
 
 // A machine of which the folder of the project alone is known.
-fn machine(alloc: Global) -> Mem<Machine> {
+pub(crate) fn machine(alloc: Global) -> Mem<Machine> {
     let root = Text::from_str(alloc, "/w")?;
     Ok(Machine {
         root,

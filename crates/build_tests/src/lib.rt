@@ -4,4 +4,6 @@
 #[cfg(test)]
 mod fetch_tests;
 #[cfg(test)]
+mod generated_tests;
+#[cfg(test)]
 mod install_tests;

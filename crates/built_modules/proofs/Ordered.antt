@@ -10,7 +10,7 @@ use Rattle.std.specs.Prelude.{nat_eq}
 use Rattle.mvn_base.specs.declared.gav.Gav.{Gav}
 use Rattle.model_types.specs.declared.model.Model.{Model}
 use Rattle.reactor_order.specs.Graph.{has}
-use Rattle.classpaths.specs.Classpaths.{gav_eq}
+use Rattle.mvn_base.specs.Gav.{gav_eq}
 use Rattle.classpaths.specs.declared.resolution.Resolution.{Resolution}
 use Rattle.event_core.specs.Climbing.{Climbs}
 use Rattle.event_core.specs.Outlines.{is_listed}

@@ -3,7 +3,7 @@
 use Rattle.std.specs.Prelude.{◌≡◌, ℕ, List, length, get_or, map, slice_get, Some}
 use Rattle.std.specs.List.{IsDistinct}
 use Rattle.mvn_base.specs.FileName.{IsValid}
-use Rattle.classpaths.specs.Classpaths.{gav_eq}
+use Rattle.mvn_base.specs.Gav.{gav_eq}
 use Rattle.reactor_modules.specs.Reactor.{AreInOrder, StandsOnWinners}
 use Rattle.model_types.specs.declared.model.Model.{Model}
 use Rattle.model_resolver.specs.declared.resolver.ProjectPom.{ProjectPom}

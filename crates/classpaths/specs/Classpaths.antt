@@ -56,11 +56,6 @@ abbrev pub artifact_file : Resolved → List ℕ
 artifact_file w =
     file_name w.gav (classifier_of w (type_rule w.kind)) (type_rule w.kind).extension
 
--- two coordinates are one
-abbrev pub gav_eq : Gav → Gav → Bool
-gav_eq a b =
-    bytes_eq a.group b.group && (bytes_eq a.artifact b.artifact && bytes_eq a.version b.version)
-
 -- the files of a winner, unless it is selected
 abbrev pub files_of : (Gav → Bool) → Resolved → List (List ℕ)
 files_of is_selected w =

@@ -1,6 +1,7 @@
 ghost use Rattle.std.specs.Prelude.{◌≡◌, [], All, fold, IfOk, OnOk};
 ghost use Rattle.std.specs.HashSet.{contains};
-ghost use Rattle.classpaths.specs.Classpaths.{HasNames, fetch_list, files_of, gav_eq, with_name};
+ghost use Rattle.mvn_base.specs.Gav.{gav_eq};
+ghost use Rattle.classpaths.specs.Classpaths.{HasNames, fetch_list, files_of, with_name};
 
 use crate::names::{artifact_file, pom_file};
 use crate::resolution::{Resolution, Resolved};

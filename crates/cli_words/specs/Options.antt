@@ -16,7 +16,7 @@ use Rattle.cli_words.specs.declared.fault.WordFault.{WordFault}
 use Rattle.cli_words.specs.declared.line.Count.{Count}
 use Rattle.cli_words.specs.declared.line.Line.{Line}
 use Rattle.cli_words.specs.declared.spelling.Wanted.{Wanted}
-use Rattle.cli_words.specs.declared.spelling.Wanted.TheVariants.{Workers, Profiles, Define, Projects, ResumeFrom}
+use Rattle.cli_words.specs.declared.spelling.Wanted.TheVariants.{Workers, Profiles, Define, Projects, ResumeFrom, Generated}
 use Rattle.cli_words.specs.declared.spelling.Spelling.{Spelling}
 use Rattle.cli_words.specs.declared.spelling.Spelling.TheVariants.{Takes, AlsoMake, AlsoMakeDependents, Full, NoEffect}
 use Rattle.cli_words.specs.Spellings.{spelled}
@@ -114,17 +114,27 @@ abbrev pub with_from : ℕ → List ℕ → Line → Result Line WordFault
 with_from at value line =
     if is_bad_selector (trimmed value) then fault at BadSelector else Ok (record line { from = Some (selector at (trimmed value)) })
 
+-- a generated project has at most 1,024 POMs
+abbrev pub with_generated : ℕ → List ℕ → Line → Result Line WordFault
+with_generated at value line = by (number value)
+  where
+    by : Option ℕ → Result Line WordFault
+    by None = fault at BadNumber
+    by (Some n) = if nat_lt 1024 n then fault at BadNumber else Ok (record line { generated = Some n })
+
 unfoldable pub with_value : ℕ → Wanted → List ℕ → Line → Result Line WordFault
 with_value at Workers value line = with_workers at value line
 with_value at Profiles value line = Ok (with_profiles value line)
 with_value at Define value line = with_define at value line
 with_value at Projects value line = with_projects at value line
 with_value at ResumeFrom value line = with_from at value line
+with_value at Generated value line = with_generated at value line
 
 -- an option that may stand once is there
 abbrev pub is_there : Wanted → Line → Bool
 is_there Workers line = is_some line.workers
 is_there ResumeFrom line = is_some line.from
+is_there Generated line = is_some line.generated
 is_there wanted line = false
 
 -- the value of the option before it
@@ -204,10 +214,10 @@ read_words at line (word ∷ words) = by (next_word at word line) (λ more. read
 
 -- before the first word
 abbrev pub no_words : Line
-no_words = record { awaits = None; workers = None; phase = None; choice = record { on = []; off = [] }; defines = []; projects = []; also_make = false; also_make_dependents = false; from = None; full = false }
+no_words = record { awaits = None; workers = None; phase = None; choice = record { on = []; off = [] }; defines = []; projects = []; also_make = false; also_make_dependents = false; from = None; full = false; generated = None }
 
 abbrev pub command_line : ℕ → Phase → Line → CommandLine
-command_line workers phase line = record { workers = workers; phase = phase; choice = line.choice; defines = line.defines; projects = line.projects; also_make = line.also_make; also_make_dependents = line.also_make_dependents; from = line.from; full = line.full }
+command_line workers phase line = record { workers = workers; phase = phase; choice = line.choice; defines = line.defines; projects = line.projects; also_make = line.also_make; also_make_dependents = line.also_make_dependents; from = line.from; full = line.full; generated = line.generated }
 
 -- how many workers are asked for, no more than there are hands
 abbrev pub with_hands : ℕ → Phase → Line → Result CommandLine WordFault

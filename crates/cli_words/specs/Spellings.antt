@@ -1,7 +1,7 @@
--- The words of a command line. Maven's command-line options; `--full` is an own word.
+-- The words of a command line. Maven's command-line options; `--full` and `--generated` are own words.
 use Rattle.std.specs.Prelude.{ℕ, Bool, ◌||◌, nat_eq, List, codes, Option, Some, None, if◌then◌else◌}
 use Rattle.std.specs.Cmp.Lexicographic.{pointwise}
-use Rattle.cli_words.specs.declared.spelling.Wanted.TheVariants.{Workers, Profiles, Define, Projects, ResumeFrom}
+use Rattle.cli_words.specs.declared.spelling.Wanted.TheVariants.{Workers, Profiles, Define, Projects, ResumeFrom, Generated}
 use Rattle.cli_words.specs.declared.spelling.Spelling.{Spelling}
 use Rattle.cli_words.specs.declared.spelling.Spelling.TheVariants.{Takes, AlsoMake, AlsoMakeDependents, Full, NoEffect}
 
@@ -20,8 +20,9 @@ spelled word =
     else (if is_word word (codes "-D") then Some (Takes Define)
     else (if is_word word (codes "-pl") || is_word word (codes "--projects") then Some (Takes Projects)
     else (if is_word word (codes "-rf") || is_word word (codes "--resume-from") then Some (Takes ResumeFrom)
+    else (if is_word word (codes "--generated") then Some (Takes Generated)
     else (if is_word word (codes "-am") || is_word word (codes "--also-make") then Some AlsoMake
     else (if is_word word (codes "-amd") || is_word word (codes "--also-make-dependents") then Some AlsoMakeDependents
     else (if is_word word (codes "--full") then Some Full
     else (if has_no_effect word then Some NoEffect
-    else None))))))))
+    else None)))))))))

@@ -28,4 +28,6 @@ pub struct CommandLine {
     pub from: Option<Word>,
     /// Whether the report has the full lines. Own word.
     pub full: bool,
+    /// How many POMs the generated project has that is built in place of the folder's, 1 to 1,024. Own word.
+    pub generated: Option<u32>,
 }

@@ -24,4 +24,5 @@ pub struct Line {
     pub also_make_dependents: bool,
     pub from: Option<Word>,
     pub full: bool,
+    pub generated: Option<u32>,
 }

@@ -17,6 +17,7 @@ impl Line {
         match wanted {
             Wanted::Workers => self.workers.is_some(),
             Wanted::ResumeFrom => self.from.is_some(),
+            Wanted::Generated => self.generated.is_some(),
             Wanted::Profiles | Wanted::Define | Wanted::Projects => false,
         }
     }

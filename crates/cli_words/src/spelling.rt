@@ -9,6 +9,7 @@ pub enum Wanted {
     Define,
     Projects,
     ResumeFrom,
+    Generated,
 }
 
 /// What a word that begins with a hyphen stands for by itself. Maven's command-line options.
@@ -42,6 +43,8 @@ pub(crate) fn spelled(word: &str) -> Option<Spelling>
         Some(Spelling::Takes(Wanted::Projects))
     } else if is_word(word, "-rf") || is_word(word, "--resume-from") {
         Some(Spelling::Takes(Wanted::ResumeFrom))
+    } else if is_word(word, "--generated") {
+        Some(Spelling::Takes(Wanted::Generated))
     } else if is_word(word, "-am") || is_word(word, "--also-make") {
         Some(Spelling::AlsoMake)
     } else if is_word(word, "-amd") || is_word(word, "--also-make-dependents") {

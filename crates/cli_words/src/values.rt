@@ -1,7 +1,7 @@
 ghost use Rattle.std.specs.Prelude.{◌≡◌, ◌++◌, map, fold, Some, None, if◌then◌else◌, IfOk};
 ghost use Rattle.std.specs.List.{list_any};
 ghost use Rattle.cli_words.specs.Faults.{Answers};
-ghost use Rattle.cli_words.specs.Options.{are_bad_selectors, is_bad_selector, items, selector, with_define, with_from, with_id, with_profiles, with_projects, with_value, with_workers};
+ghost use Rattle.cli_words.specs.Options.{are_bad_selectors, is_bad_selector, items, selector, with_define, with_from, with_generated, with_id, with_profiles, with_projects, with_value, with_workers};
 
 use crate::command_line::Word;
 use crate::fault::{WordError, WordKind, fault};
@@ -37,6 +37,19 @@ impl Line {
         let text = Text::from_str(alloc, selector)?;
         self.from = Some(Word { place: at, text });
         Ok(self)
+    }
+
+    // The number of the POMs of the generated project.
+    fn with_generated(mut self, at: u32, value: &str) -> Result<Line, WordError>
+        ensures { Answers (with_generated at value.now self) result }
+    {
+        match number(value.as_bytes()) {
+            Some(poms) if poms <= 1024 => {
+                self.generated = Some(poms);
+                Ok(self)
+            }
+            _ => Err(fault(at, WordKind::BadNumber)),
+        }
     }
 
     // The selectors of modules.
@@ -91,6 +104,7 @@ impl Line {
             Wanted::Define => self.with_define(alloc, at, value),
             Wanted::Projects => self.with_projects(alloc, at, value),
             Wanted::ResumeFrom => self.with_from(alloc, at, value),
+            Wanted::Generated => self.with_generated(at, value),
         }
     }
 }

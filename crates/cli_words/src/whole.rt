@@ -28,6 +28,7 @@ impl Line {
             also_make_dependents: false,
             from: None,
             full: false,
+            generated: None,
         }
     }
 
@@ -45,6 +46,7 @@ impl Line {
             also_make_dependents: self.also_make_dependents,
             from: self.from,
             full: self.full,
+            generated: self.generated,
         }
     }
 

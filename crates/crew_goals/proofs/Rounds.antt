@@ -49,7 +49,7 @@ use Rattle.crew_stages.specs.Hands.{Test, told_by}
 use Rattle.crew_stages.specs.Paths.{IsPath}
 use Rattle.crew_stages.specs.Stages.{HasAnswered}
 use Rattle.crew_stages.specs.Stops.{MayStopAlways, freed_course}
-use Rattle.one_hand.proofs.Kept.{still_kept}
+use Rattle.goal_outputs.proofs.Kept.{still_kept}
 use Rattle.crew_goals.specs.Answering.{Goes, HasAllAnswered, HasStopped, IsAnswering, IsDone, IsGateEnd, IsLeft}
 use Rattle.crew_goals.proofs.Answered.{all_now, course_now, gates, held_now, paths_now, within_now}
 use Rattle.crew_goals.proofs.Outcomes.{EndsSo, at_place, itself, no_fault, settled}

@@ -17,10 +17,10 @@ use build_core::{Ending, OwnFile, PlanModule};
 use crew_batches::{end_holding, take_name};
 use crew_events::{publish_end, publish_piece, stage_bytes};
 use crew_turns::Task;
+use goal_outputs::bytes_in;
 use goal_types::{OwnBytes, Slot};
 use mvn_outside::Shelf;
 use name_locks::Mode;
-use one_hand::bytes_in;
 use std::sync::Wait;
 use turn_lock::{Pass, TurnLock};
 

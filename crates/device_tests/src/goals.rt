@@ -1,11 +1,11 @@
-// Requests and outputs of goals (`goal_types`, `one_hand`), and a gate in memory (`outside_mem`).
+// Requests and outputs of goals (`goal_types`, `goal_outputs`), and a gate in memory (`outside_mem`).
 ghost use Rattle.goal_types.specs.Goals.{HasOwnSlots};
 
+use goal_outputs::{bytes_in, with_output};
 use goal_types::{GoalAnswer, GoalCall, GoalRequest, Need, Slot, request_line};
 use mvn_base::{Gav, Phase};
 use mvn_outside::Gate;
 use mvn_shared::{Bytes, List, Text};
-use one_hand::{bytes_in, fits, with_output};
 use outside_mem::MemGate;
 use std::alloc::Global;
 use std::test::Fail;
@@ -68,7 +68,5 @@ fn outputs_stand_in_the_order_of_slots(rt: HostRuntime) -> Result<(), Fail> {
     let bytes = Bytes::from_slice(rt.alloc(), b"four")?;
     let own = with_output(rt.alloc(), List::new(rt.alloc()), Slot::Main, bytes)?;
     assert!(rt; bytes_in(own.as_slice(), Slot::Main) == Some(b"four".as_slice()));
-    assert!(rt; fits(own.as_slice(), Slot::Tests, b"jar", 7));
-    assert!(rt; !fits(own.as_slice(), Slot::Tests, b"jar", 6));
     Ok(())
 }

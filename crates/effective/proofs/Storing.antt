@@ -4,7 +4,7 @@ use Rattle.std.specs.HashMap.{get}
 use Rattle.mvn_base.specs.declared.gav.Gav.{Gav}
 use Rattle.pom_source.specs.Worlds.{World}
 use Rattle.pom_source.specs.declared.found.Given.{Given}
-use Rattle.pom_lineage.specs.Beside.{gav_eq}
+use Rattle.mvn_base.specs.Gav.{gav_eq}
 use Rattle.pom_lineage.specs.Stores.{Holds}
 use Rattle.pom_lineage.proofs.Holding.{same_gav}
 use Rattle.effective.specs.Kept.{HoldsAll, HoldsImports, IsImport, import_in}

@@ -3,7 +3,7 @@ ghost use Rattle.std.specs.HashMap.{get};
 ghost use Rattle.mvn_base.specs.declared.gav.Gav as gavs;
 ghost use Rattle.pom_source.specs.Worlds.{World};
 ghost use Rattle.pom_source.specs.declared.found.Given as givens;
-ghost use Rattle.pom_lineage.specs.Beside.{gav_eq};
+ghost use Rattle.mvn_base.specs.Gav.{gav_eq};
 ghost use Rattle.pom_lineage.specs.Stores.{Holds};
 ghost use Rattle.effective.specs.Kept.{HoldsAll, IsImport, import_in};
 ghost use Rattle.effective.specs.Serving.{serves};

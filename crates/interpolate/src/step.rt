@@ -49,9 +49,9 @@ impl Step {
 fn joined(done: Text, more: &Text) -> Mem<Text>
     ensures { IfOk result (λ text. text ≡ done ++ more.now) }
 {
-    let mut text = done.into_string();
+    let mut text = done;
     text.push_str(more.as_str())?;
-    Ok(Text::of(text))
+    Ok(text)
 }
 
 /// A text behind another, where both are no longer than a filled text may be. Costs the second.

@@ -15,7 +15,8 @@ use Rattle.profile_injection.specs.Injection.{inject}
 use Rattle.pom_source.specs.Chains.{bound, ok_is}
 use Rattle.pom_source.specs.Worlds.{World}
 use Rattle.pom_source.specs.declared.found.Given.{Given}
-use Rattle.pom_lineage.specs.Beside.{at_second, found_origin, gav_eq, of_gav, or_at, origin_from, raw_gav, read_at}
+use Rattle.mvn_base.specs.Gav.{gav_eq}
+use Rattle.pom_lineage.specs.Beside.{at_second, found_origin, of_gav, or_at, origin_from, raw_gav, read_at}
 use Rattle.pom_lineage.specs.Lineage.{lineage, origin_of, unless, unstated}
 use Rattle.pom_lineage.specs.Reading.{read, read_file, with_profiles}
 use Rattle.pom_lineage.specs.Stores.{IsAt}

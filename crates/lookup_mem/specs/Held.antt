@@ -1,16 +1,14 @@
 -- What libraries in memory hold and tell.
-use Rattle.std.specs.Prelude.{◌≡◌, ℕ, Bool, ◌&&◌, List, [], ◌∷◌, ◌++◌, length, nat_lt, Option, None, Some, if◌then◌else◌}
+use Rattle.std.specs.Prelude.{◌≡◌, ℕ, List, [], ◌∷◌, ◌++◌, length, nat_lt, Option, None, Some, if◌then◌else◌}
 use Rattle.std.specs.HashMap.{get}
 use Rattle.std.specs.Str.{bytes_eq}
+use Rattle.mvn_base.specs.Gav.{gav_eq}
 use Rattle.mvn_base.specs.declared.gav.Gav.{Gav}
 use Rattle.model_types.specs.declared.model.Model.{Model}
 use Rattle.mediation.specs.Libraries.{Libraries}
 use Rattle.mediation.specs.declared.known.Known.{Known}
 use Rattle.mediation.specs.declared.known.Known.TheVariants as known
 use Rattle.lookup_mem.specs.declared.libraries.MemLibraries.{MemLibraries}
-
-abbrev pub gav_eq : Gav → Gav → Bool
-gav_eq a b = bytes_eq a.group b.group && (bytes_eq a.artifact b.artifact && bytes_eq a.version b.version)
 
 -- the model of a coordinate's POM, and the versions under a name
 abbrev pub models_in : MemLibraries → Gav → Option Model

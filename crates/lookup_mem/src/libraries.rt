@@ -2,7 +2,8 @@ ghost use Rattle.std.specs.Prelude.{◌≡◌, ◌∷◌, ◌++◌, ℕ, None, I
 ghost use Rattle.std.specs.Prelude.{List as Items};
 ghost use Rattle.mediation.specs.Libraries.{Libraries};
 ghost use Rattle.mvn_base.specs.declared.gav.Gav as gavs;
-ghost use Rattle.lookup_mem.specs.Held.{Fits, gav_eq, models_in, versions_in, with_model, with_versions};
+ghost use Rattle.mvn_base.specs.Gav.{gav_eq};
+ghost use Rattle.lookup_mem.specs.Held.{Fits, models_in, versions_in, with_model, with_versions};
 
 use crate::told::{known, name_of, told};
 use mediation::{Known, Lookup, LookupFault};
@@ -73,7 +74,8 @@ impl Lookup for MemLibraries {
     ghost use Rattle.std.specs.HashMap.{get};
     ghost use Rattle.std.specs.Str.{bytes_eq};
     ghost use Rattle.mvn_base.specs.declared.gav.Gav as gavs;
-    ghost use Rattle.lookup_mem.specs.Held.{Fits, gav_eq};
+    ghost use Rattle.mvn_base.specs.Gav.{gav_eq};
+    ghost use Rattle.lookup_mem.specs.Held.{Fits};
 
     ghost fits = { λ held libraries. Fits (λ (gav : gavs.Gav). get gav_eq held.models gav)
         (λ (name : Items ℕ). get bytes_eq held.versions name) libraries };

@@ -62,13 +62,21 @@ fn find<'a, T: Item>(index: &'a IndexMap<Key, T>, key: &Key) -> Option<&'a T>
     index.get(key)
 }
 
+// Whether an index lacks a key.
+fn lacks<T: Item>(index: &IndexMap<Key, T>, key: &Key) -> bool
+    ensures { (items : List T) → index.now.entries ≡ keyed T.key_of items →
+        result ≡ is_none (item_of T.key_of items key.now) }
+{
+    find(index, key).is_none()
+}
+
 // Whether an index lacks the key of an item.
 fn is_new<T: Item>(alloc: Global, index: &IndexMap<Key, T>, item: &T) -> Mem<bool>
     ensures { (items : List T) → index.now.entries ≡ keyed T.key_of items →
         IfOk result (λ is_new. is_new ≡ is_none (item_of T.key_of items (T.key_of item.now))) }
 {
     let key = item.key(alloc)?;
-    Ok(find(index, &key).is_none())
+    Ok(lacks(index, &key))
 }
 
 // Those of other items whose keys aren't there.

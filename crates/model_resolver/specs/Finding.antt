@@ -5,6 +5,7 @@ use Rattle.std.specs.Option.{option_or}
 use Rattle.std.specs.Str.{bytes_eq}
 use Rattle.mvn_shared.specs.Files.{Files, file_at, is_there}
 use Rattle.mvn_base.specs.FileName.{file_name}
+use Rattle.mvn_base.specs.Gav.{gav_eq}
 use Rattle.mvn_base.specs.Limits.{pom_limit}
 use Rattle.mvn_base.specs.Names.{is_group, is_name, is_version}
 use Rattle.mvn_base.specs.declared.gav.Gav.{Gav}
@@ -21,10 +22,6 @@ oversized = replicate 1048577 32
 abbrev pub within_limit : List ℕ → List ℕ
 within_limit bytes = if nat_lt pom_limit (length bytes) then oversized else bytes
 
--- two coordinates are the same
-abbrev pub same_gav : Gav → Gav → Bool
-same_gav a b = bytes_eq a.group b.group && (bytes_eq a.artifact b.artifact && bytes_eq a.version b.version)
-
 -- the first of the project's POMs at a path, and the first of these coordinates
 abbrev pub project_at : List ProjectPom → List ℕ → Option (List ℕ)
 project_at poms path = option_map (λ p. p.bytes) (find (λ p. bytes_eq p.path path) poms)
@@ -33,7 +30,7 @@ abbrev pub found_in_project : ProjectPom → Found
 found_in_project p = record { pom = ids.Path p.path; bytes = p.bytes }
 
 abbrev pub project_of : List ProjectPom → Gav → Option Found
-project_of poms gav = option_map found_in_project (find (λ p. same_gav p.gav gav) poms)
+project_of poms gav = option_map found_in_project (find (λ p. gav_eq p.gav gav) poms)
 
 -- a POM at a path: one of the project's, or a file of the project's folder
 abbrev pub pom_at : List ProjectPom → Files → List ℕ → Option (List ℕ)

@@ -3,7 +3,8 @@ ghost use Rattle.std.specs.Prelude.{◌≡◌, find, replicate, IfOk};
 ghost use Rattle.std.specs.Option.{option_copied, option_map};
 ghost use Rattle.std.specs.Str.{bytes_eq};
 ghost use Rattle.mvn_base.specs.FileName.{file_name, IsValid};
-ghost use Rattle.model_resolver.specs.Finding.{found_in_project, is_valid, oversized, project_at, project_of, same_gav};
+ghost use Rattle.mvn_base.specs.Gav.{gav_eq};
+ghost use Rattle.model_resolver.specs.Finding.{found_in_project, is_valid, oversized, project_at, project_of};
 
 use crate::resolver::ProjectPom;
 use mvn_base::{Gav, PomId, valid_group, valid_name, valid_version};
@@ -37,7 +38,7 @@ pub(crate) fn is_valid(gav: &Gav) -> bool
 
 // Whether two coordinates are the same.
 fn same_gav(a: &Gav, b: &Gav) -> bool
-    ensures { result ≡ same_gav a.now b.now }
+    ensures { result ≡ gav_eq a.now b.now }
 {
     a.group == b.group && a.artifact == b.artifact && a.version == b.version
 }
@@ -51,7 +52,7 @@ fn first_at<'a>(poms: &'a [ProjectPom], path: &Text) -> Option<&'a ProjectPom>
 
 // The first of the project's POMs of these coordinates.
 fn first_of<'a>(poms: &'a [ProjectPom], gav: &Gav) -> Option<&'a ProjectPom>
-    ensures { option_map (λ p. p.now) result ≡ find (λ p. same_gav p.gav gav.now) poms.now }
+    ensures { option_map (λ p. p.now) result ≡ find (λ p. gav_eq p.gav gav.now) poms.now }
 {
     poms.iter().find(|pom| same_gav(&pom.gav, gav))
 }

@@ -2,3 +2,4 @@ pub mod Completed
 pub mod Placing
 pub mod Problems
 pub mod Validity
+pub mod Scoping

@@ -10,9 +10,10 @@ mod words;
 
 use environment::{machine, process_name, variable_or, variables, words};
 use gates::{RealGate, gate};
+use generated_run::run_words;
 use mvn_outside::{DeviceFault, Hand, Sink, write_all};
 use mvn_shared::{Bytes, Mem, Text};
-use mvn_top::{FAULT, NO_MEMORY, mvn};
+use mvn_top::{FAULT, NO_MEMORY};
 use outside_real::{RealArea, RealRemote, RealShelf, RealSink, RealTree};
 use std::os::fd::AsFd;
 use std::process::{ChildStdin, ExitCode};
@@ -48,6 +49,8 @@ Options:
   -D NAME=VALUE   a property; its value is true if =VALUE is left out
   -T NUMBER       how many workers build at once, 1 to 16 (by default 1)
   --full          the report tells each module's effective model and classpaths too
+  --generated N   builds a project of N POMs (1 to 1024) made in memory, and tells in
+                  four lines what came of it; nothing is read, and nothing is put
   -fae, -B, -ntp  as it is done anyway
   -h, --help      print this help
   -v, --version   print the version
@@ -160,7 +163,7 @@ fn build<W: Threads + Wait + Sync, O: Sink>(
     let mut hands = hands(rt, &repository, &remote, &process, &program)?;
     let mut tree = RealTree::new(rt, Text::from_str(alloc, ".")?);
     let shelf = RealShelf::new(rt, repository);
-    let ended = mvn(
+    let ended = run_words(
         threads, alloc, words, machine, &mut tree, shelf, &mut hands, out,
     );
     Ok(ended.status)

@@ -4,6 +4,7 @@
 
 pub mod bytes;
 pub mod file_map;
+mod held;
 pub mod list;
 pub mod memory;
 pub mod shared;

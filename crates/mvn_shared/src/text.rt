@@ -2,6 +2,7 @@ ghost use Rattle.std.specs.Prelude.{◌≡◌, ◌↔◌, ◌==◌, ◌++◌, []
 ghost use Rattle.std.specs.Str.{IsUtf8};
 ghost use Rattle.std.specs.String.{string_bytes};
 
+use crate::held::Held;
 use crate::memory::{Mem, OutOfMemory};
 use std::alloc::{AllocError, Global};
 use std::cmp::Ordering;
@@ -11,21 +12,21 @@ use std::hash::{Hash, Hasher};
 use std::marker::Model;
 
 /// Bytes that are UTF-8. Contracts see a text as the list of its bytes, and compare texts by it.
-#[derive(Debug, Drop)]
+#[derive(Drop)]
 pub struct Text {
-    text: String,
+    held: Held,
 }
 
 impl Model for Text {
     ghost use Rattle.std.specs.Prelude.{List, ℕ};
     ghost use Rattle.std.specs.Coded.{coded_list, coded_ℕ};
-    ghost use Rattle.std.specs.String.{string_bytes};
+    ghost use Rattle.mvn_shared.specs.Held.{held_bytes};
 
     ghost Value = { List ℕ };
 
     ghost coded = { coded_list coded_ℕ };
 
-    ghost view = { λ t. string_bytes t.text };
+    ghost view = { λ t. held_bytes t.held };
 }
 
 /// Why bytes give no text.
@@ -70,61 +71,73 @@ impl Text {
         }
     }
 
-    /// A copy of a text.
+    /// A copy of a text, which its own copies share.
     pub fn from_str(alloc: Global, text: &str) -> Mem<Text>
         ensures { IfOk result (λ copy. copy ≡ text.now) }
     {
-        let text = String::from_str(alloc, text)?;
-        Ok(Text { text })
+        Text::of(String::from_str(alloc, text)?).shared(alloc)
     }
 
-    /// The text that a `String` holds. Takes no memory.
+    /// The text that a `String` holds. Takes no memory; a copy of it copies its bytes.
     pub fn of(text: String) -> Text
         ensures { result ≡ string_bytes text }
     {
-        Text { text }
+        let held = Held::Own(text);
+        Text { held }
     }
 
-    /// The text as a `String`. Takes no memory.
-    pub fn into_string(self) -> String
-        ensures { string_bytes result ≡ self }
+    /// The same text, which its copies share: they take no memory. Costs one allocation, and none where it is empty or its
+    /// copies share it already.
+    pub fn shared(self, alloc: Global) -> Mem<Text>
+        ensures { IfOk result (λ shared. shared ≡ self) }
     {
-        self.text
+        let held = self.held.shared(alloc)?;
+        Ok(Text { held })
     }
 
-    /// Adds a text at the end, in the time of what is added on the average.
+    /// Adds a text at the end, in the time of what is added on the average; what copies share is copied first.
     pub fn push_str(&mut self, more: &str) -> Mem<()>
         ensures ok { OnOk result (self.new ≡ self.old ++ more.now) }
         ensures err { OnErr result (self.new ≡ self.old) }
     {
-        self.text.push_str(more)?;
+        if let Held::Own(text) = &mut self.held {
+            text.push_str(more)?;
+            return Ok(());
+        }
+        self.held = self.held.with(more)?;
         Ok(())
     }
 
     pub fn as_str(&self) -> &str
         ensures value { result.now ≡ self.now }
     {
-        self.text.as_str()
+        self.held.as_str()
     }
 
     pub fn as_bytes(&self) -> &[u8]
         ensures value { result.now ≡ self.now }
         ensures utf8 { IsUtf8 self.now }
     {
-        self.text.as_str().as_bytes()
+        self.as_str().as_bytes()
     }
 
     /// The number of bytes.
     pub fn len(&self) -> usize
         ensures { result ≡ length self.now }
     {
-        self.text.len()
+        self.as_str().len()
     }
 
     pub fn is_empty(&self) -> bool
         ensures { IsTrue result ↔ (self.now ≡ []) }
     {
-        self.text.is_empty()
+        self.as_str().is_empty()
+    }
+}
+
+impl fmt::Debug for Text {
+    fn fmt<W: fmt::Write>(&self, f: &mut fmt::Formatter<W>) -> fmt::Result {
+        fmt::Debug::fmt(self.as_str(), f)
     }
 }
 
@@ -143,8 +156,8 @@ impl Clone for Text {
     ghost is_clone = { λ text copy. copy ≡ text };
 
     fn clone(&self) -> Result<Text, AllocError> {
-        let text = self.text.clone()?;
-        Ok(Text { text })
+        let held = self.held.copy()?;
+        Ok(Text { held })
     }
 }
 

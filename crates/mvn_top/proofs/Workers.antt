@@ -14,11 +14,11 @@ use Rattle.cli_words.specs.declared.fault.WordKind.TheVariants.{BadNumber, BadSe
 use Rattle.cli_words.specs.declared.line.Count.{Count}
 use Rattle.cli_words.specs.declared.line.Line.{Line}
 use Rattle.cli_words.specs.declared.spelling.Wanted.{Wanted}
-use Rattle.cli_words.specs.declared.spelling.Wanted.TheVariants.{Workers, Profiles, Define, Projects, ResumeFrom}
+use Rattle.cli_words.specs.declared.spelling.Wanted.TheVariants.{Workers, Profiles, Define, Projects, ResumeFrom, Generated}
 use Rattle.cli_words.specs.declared.spelling.Spelling.{Spelling}
 use Rattle.cli_words.specs.declared.spelling.Spelling.TheVariants.{Takes, AlsoMake, AlsoMakeDependents, Full, NoEffect}
 use Rattle.cli_words.specs.Spellings.{spelled}
-use Rattle.cli_words.specs.Options.{are_bad_selectors, begins_with, command_line, digit, digits_value, fault, is_bad_selector, is_there, items, joined_value, joined_word, name_of, next_value, next_word, no_words, number, option_word, options, other_word, phase_word, read_words, selector, trimmed, value_of, whole_line, with_define, with_from, with_hands, with_projects, with_spelling, with_value, with_workers}
+use Rattle.cli_words.specs.Options.{are_bad_selectors, begins_with, command_line, digit, digits_value, fault, is_bad_selector, is_there, items, joined_value, joined_word, name_of, next_value, next_word, no_words, number, option_word, options, other_word, phase_word, read_words, selector, trimmed, value_of, whole_line, with_define, with_from, with_generated, with_hands, with_projects, with_spelling, with_value, with_workers}
 
 -- the workers that were read so far are at least one
 abbrev AtLeastOne : Line → Type 0
@@ -83,6 +83,12 @@ keeps_define at value line [] e ok =
 keeps_define at value line (b ∷ name) e ok =
     let is : with_define at value line ≡ Ok (record line { defines = line.defines ++ (record { name = b ∷ name; value = value_of value }) ∷ [] }) = rw e refl in subst Keeps (sym is) ok
 
+keeps_generated : (at : ℕ) (value : List ℕ) (line : Line) (o : Option ℕ) → number value ≡ o → AtLeastOne line → Keeps (with_generated at value line)
+keeps_generated at value line None e ok =
+    let is : with_generated at value line ≡ fault at BadNumber = rw e refl in subst Keeps (sym is) tt
+keeps_generated at value line (Some n) e ok =
+    let is : with_generated at value line ≡ (if nat_lt 1024 n then fault at BadNumber else Ok (record line { generated = Some n })) = rw e refl in subst Keeps (sym is) (keeps_if (nat_lt 1024 n) _ _ tt ok)
+
 keeps_value : (at : ℕ) (wanted : Wanted) (value : List ℕ) (line : Line) → AtLeastOne line → Keeps (with_value at wanted value line)
 unfolding with_value
 keeps_value at Workers value line ok = keeps_workers at value line (number value) refl
@@ -90,6 +96,7 @@ keeps_value at Profiles value line ok = ok
 keeps_value at Define value line ok = keeps_define at value line (trimmed (name_of value)) refl ok
 keeps_value at Projects value line ok = keeps_if (are_bad_selectors (items value)) _ _ tt ok
 keeps_value at ResumeFrom value line ok = keeps_if (is_bad_selector (trimmed value)) _ _ tt ok
+keeps_value at Generated value line ok = keeps_generated at value line (number value) refl ok
 
 keeps_next_value : (at : ℕ) (wanted : Wanted) (value : List ℕ) (line : Line) → AtLeastOne line → Keeps (next_value at wanted value line)
 unfolding next_value

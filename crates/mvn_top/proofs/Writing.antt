@@ -54,7 +54,7 @@ four_is_high n e lt = omega (arith, e, lt)
 four_is_not_three : (n : ℕ) → n ≡ 4 → n ≡ 3 → ⊥
 four_is_not_three n e f = omega (arith, e, f)
 
-none_ends : (wanted : Outcome) (status : ℕ) (written now : Option (List ℕ)) (sink_before sink_now : ℕ) → status ≡ 4 → now ≡ written → Ends wanted status written now sink_before sink_now
+pub none_ends : (wanted : Outcome) (status : ℕ) (written now : Option (List ℕ)) (sink_before sink_now : ℕ) → status ≡ 4 → now ≡ written → Ends wanted status written now sink_before sink_now
 none_ends wanted status written now sink_before sink_now four same = record {
   cut = (0, same ∙ gains_nothing written);
   whole = λ l. absurd (four_is_high status four l);

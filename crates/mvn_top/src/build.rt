@@ -57,8 +57,9 @@ where
     }
 }
 
-// Builds what was planned by the first hands, as many as it has workers. The others stay as they are.
-fn build_by_first<W: Threads + Wait + Sync, R: Remote + Send, S: Shelf + Send, G: Gate + Send>(
+/// Builds what was planned by the first hands, as many as it has workers, and answers with the report. The others stay as they are. May
+/// wait. Costs what building the modules costs, and the report. Project rule.
+pub fn build_by_first<W: Threads + Wait + Sync, R: Remote + Send, S: Shelf + Send, G: Gate + Send>(
     rt: &W,
     alloc: Global,
     full: bool,

@@ -10,7 +10,7 @@ use std::alloc::Global;
 
 /// What the words ask for, of so many hands, or what is answered in its place: their first fault, with its place. Costs the
 /// words' length. Maven's command-line options.
-pub(crate) fn asked(alloc: Global, words: &[Bytes], hands: u32) -> Mem<Result<CommandLine, Outcome>>
+pub fn asked(alloc: Global, words: &[Bytes], hands: u32) -> Mem<Result<CommandLine, Outcome>>
     requires hands { (1 ≤ hands) × (hands ≤ 16) }
     ensures says { IfOk result (λ answer. answer ≡ asked words.now hands) }
     ensures workers { IfOk result (λ answer. IfOk answer (λ line.

@@ -8,7 +8,7 @@ use mvn_outside::{DeviceFault, Sink, write_all};
 use mvn_shared::Mem;
 
 /// The status of a call once its answer is written. Costs writing its text.
-pub(crate) fn write_answer<O: Sink>(out: &mut O, answer: Mem<Outcome>) -> u8
+pub fn write_answer<O: Sink>(out: &mut O, answer: Mem<Outcome>) -> u8
     requires status { IfOk answer (λ wanted. wanted.status ≤ 3) }
     ensures whole { IfOk answer (λ wanted. result < 3 →
         IsWhole wanted result (O.written out.old) (O.written out.new)) }

@@ -36,7 +36,7 @@ fn copied_choice(choice: &Choice) -> Mem<Choice>
 
 /// What is given to all POMs of a call: the machine, and copies of the properties and the choice of profiles of the line. Costs
 /// these.
-pub(crate) fn given_of(alloc: Global, machine: Machine, line: &CommandLine) -> Mem<Given>
+pub fn given_of(alloc: Global, machine: Machine, line: &CommandLine) -> Mem<Given>
     ensures { IfOk result (λ given. given ≡ given_of machine line.now) }
 {
     let defines = copied_pairs(alloc, line.defines.as_slice())?;

@@ -19,7 +19,7 @@ use std::alloc::Global;
 
 /// What planning gave: a plan, or what is answered in its place; and the device that failed, if one did.
 #[derive(Drop)]
-pub(crate) struct PlanAnswer {
+pub struct PlanAnswer {
     pub answer: Mem<Result<Planned, Outcome>>,
     pub failed: Option<PomDevice>,
 }
@@ -91,7 +91,7 @@ fn plan_by_hand<T: Tree, R: Remote, S: Shelf, G: Gate>(
 }
 
 /// Plans the project for a line: POMs are looked up in the first hand's remote too. Costs what planning costs.
-pub(crate) fn plan_by_first<T: Tree, R: Remote, S: Shelf, G: Gate>(
+pub fn plan_by_first<T: Tree, R: Remote, S: Shelf, G: Gate>(
     alloc: Global,
     given: &Given,
     line: &CommandLine,

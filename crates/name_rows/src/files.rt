@@ -43,7 +43,7 @@ fn named_version(alloc: Global, group: &Text, artifact: &Text, path: &Text) -> M
         return word(alloc, "not valid");
     }
     match version_in(alloc, group, artifact, path)? {
-        Some(version) => Ok(version.into_string()),
+        Some(version) => word(alloc, version.as_str()),
         None => word(alloc, "none"),
     }
 }
@@ -62,12 +62,12 @@ fn key(group: &Text, artifact: &Text, kind: &Text, classifier: &Text) -> Mem<Key
 }
 
 fn spelled_key(alloc: Global, key: Key) -> Mem<String> {
-    Ok(key_text(alloc, &key)?.into_string())
+    word(alloc, key_text(alloc, &key)?.as_str())
 }
 
 fn lock(alloc: Global, g: &Text, a: &Text, v: &Text) -> Mem<String> {
     let gav = shared_gav(alloc, g, a, v)?;
-    Ok(lock_name(alloc, &gav)?.into_string())
+    word(alloc, lock_name(alloc, &gav)?.as_str())
 }
 
 // One of the rules that the rows name.

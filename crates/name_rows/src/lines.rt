@@ -47,6 +47,13 @@ fn push_flag(shown: &mut String, flag: bool, label: &str) -> Mem<()> {
     Ok(())
 }
 
+fn push_generated(alloc: Global, shown: &mut String, generated: Option<u32>) -> Mem<()> {
+    if let Some(poms) = generated {
+        shown.push_str(format!(in alloc; " generated:{poms}")?.as_str())?;
+    }
+    Ok(())
+}
+
 // The phase, and how many workers where there are more than one.
 fn head(alloc: Global, line: &CommandLine) -> Mem<String> {
     let phase = line.phase;
@@ -70,6 +77,7 @@ fn shown(alloc: Global, line: &CommandLine) -> Mem<String> {
     push_flag(&mut shown, line.also_make, " am")?;
     push_flag(&mut shown, line.also_make_dependents, " amd")?;
     push_flag(&mut shown, line.full, " full")?;
+    push_generated(alloc, &mut shown, line.generated)?;
     Ok(shown)
 }
 

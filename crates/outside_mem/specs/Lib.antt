@@ -5,6 +5,7 @@ pub mod Area
 pub mod Calls
 pub mod FilesNamed
 pub mod Gate
+pub mod Image
 pub mod Pieces
 pub mod Remote
 pub mod Shelf

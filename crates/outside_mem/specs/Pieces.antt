@@ -11,6 +11,10 @@ with_bytes more piece = record piece { bytes = piece.bytes ++ more }
 abbrev pub sealed_piece : Piece → Piece
 sealed_piece piece = record piece { sealed = true }
 
+-- one that a stopped run has left
+abbrev pub leftover : List ℕ → Piece
+leftover bytes = record { sealed = true; bytes = bytes }
+
 -- the pieces, and whether each is sealed
 abbrev pub sealed_of : List (ℕ × Piece) → Pieces
 sealed_of entries = from_entries (map (λ e. (e.0, e.1.sealed)) entries)

@@ -1,8 +1,9 @@
-ghost use Rattle.std.specs.Prelude.{◌≡◌, [], Some, true, length, IfOk};
+ghost use Rattle.std.specs.Prelude.{◌≡◌, ℕ, [], Some, true, length, slice_get, IfOk};
+ghost use Rattle.std.specs.Option.{option_map};
 ghost use Rattle.std.specs.FinMap as map;
 
 use crate::calls::{Calls, Failures, NoFailures};
-use crate::pieces::{Piece, extend_at, seal_at};
+use crate::pieces::{Piece, extend_at, leftover_pieces, seal_at};
 use mvn_outside::{Area, DeviceFault};
 use mvn_shared::{Bytes, List, Mem};
 use std::alloc::Global;
@@ -18,7 +19,7 @@ pub struct MemArea<F> {
 }
 
 impl MemArea<Calls> {
-    ghost use Rattle.outside_mem.specs.Area.{area_pieces};
+    ghost use Rattle.outside_mem.specs.Area.{area_pieces, area_sealed, area_contents};
 
     /// An area without pieces. The calls with the numbers fail, from 0 on.
     pub fn new(alloc: Global, failing: &List<u64>) -> Mem<MemArea<Calls>>
@@ -31,6 +32,32 @@ impl MemArea<Calls> {
             alloc,
             pieces: BTreeMap::new(alloc),
             next: 0,
+            calls,
+        })
+    }
+
+    /// An area that a stopped run has left: a sealed piece of each of these bytes, numbered from 0 on. The calls with the
+    /// numbers fail, from 0 on. Costs n log n.
+    #[tactic(auto, using(crate::proofs::Leftovers::sealed_leftovers, crate::proofs::Leftovers::bytes_leftovers))]
+    pub fn with_pieces(
+        alloc: Global,
+        pieces: List<Bytes>,
+        failing: &List<u64>,
+    ) -> Mem<MemArea<Calls>>
+        ensures sealed { IfOk result (λ area. (n : ℕ) →
+            map.get (area_sealed area) n ≡ option_map (λ bytes. true) (slice_get pieces n)) }
+        ensures bytes { IfOk result (λ area. (n : ℕ) →
+            map.get (area_contents area) n ≡ slice_get pieces n) }
+        ensures never { failing.now ≡ [] →
+            IfOk result (λ area. ⟦<MemArea<Calls> as Area>⟧.never_fails area ≡ true) }
+    {
+        let calls = Calls::new(alloc, failing)?;
+        let next = pieces.len() as u64;
+        let pieces = leftover_pieces(alloc, pieces)?;
+        Ok(MemArea {
+            alloc,
+            pieces,
+            next,
             calls,
         })
     }

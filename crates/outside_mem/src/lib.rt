@@ -4,6 +4,7 @@
 pub mod area;
 pub mod calls;
 pub mod gate;
+mod images;
 pub mod pieces;
 mod reading;
 pub mod remote;

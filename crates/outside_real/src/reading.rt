@@ -9,8 +9,18 @@ use std::fs::OpenOptions;
 use std::io::{ErrorKind, Read};
 use std::rt;
 
-/// How many bytes are asked of the system at a time.
+/// How many bytes are asked of the system at a time, at most.
 const PART: usize = 65536;
+
+// Room for the bytes that a file is said to have and one more, so that its end shows; never more than a part.
+fn room_for(alloc: Global, len: u64) -> Result<Vec<u8>, ReadFault> {
+    let size = if len < PART as u64 {
+        len as usize + 1
+    } else {
+        PART
+    };
+    vec![in alloc; 0u8; size].map_err(|_| ReadFault::Memory)
+}
 
 // The next bytes, none at the end. A call that a signal cut off is made again.
 fn read_some<F: Read>(file: &mut F, part: &mut [u8]) -> Result<usize, ReadFault>
@@ -29,12 +39,17 @@ fn read_some<F: Read>(file: &mut F, part: &mut [u8]) -> Result<usize, ReadFault>
     Err(ReadFault::Failed)
 }
 
-// All that is left to read, up to the limit.
-fn read_rest<F: Read>(alloc: Global, file: &mut F, limit: u64) -> Result<Vec<u8>, ReadFault>
+// All that is left to read of a file that is said to have so many bytes, up to the limit.
+fn read_rest<F: Read>(
+    alloc: Global,
+    file: &mut F,
+    len: u64,
+    limit: u64,
+) -> Result<Vec<u8>, ReadFault>
     ensures { IfOk result (λ bytes. vec_len bytes ≤ limit) }
 {
     let mut bytes = Vec::new(alloc);
-    let mut part = vec![in alloc; 0u8; PART].map_err(|_| ReadFault::Memory)?;
+    let mut part = room_for(alloc, len)?;
     for _ in 0..u64::MAX {
         let count = read_some(file, &mut part)?;
         if count == 0 {
@@ -59,20 +74,21 @@ pub(crate) fn read_file<R: rt::Files>(
 ) -> Result<Option<Bytes>, ReadFault>
     ensures { IfOk result (λ found. IfSome found (λ bytes. length bytes ≤ limit)) }
 {
-    match rt.metadata(path) {
+    let len = match rt.metadata(path) {
         Ok(metadata) => {
             if !metadata.is_file() {
                 return Ok(None);
             }
-            if metadata.len() > limit {
-                return Err(ReadFault::TooLarge);
-            }
+            metadata.len()
         }
         Err(e) => return if is_absent(&e) {
             Ok(None)
         } else {
             Err(ReadFault::from(fault_of(&e)))
         },
+    };
+    if len > limit {
+        return Err(ReadFault::TooLarge);
     }
     let mut file = match rt.open_file(OpenOptions::new().read(true), path) {
         Ok(file) => file,
@@ -82,6 +98,6 @@ pub(crate) fn read_file<R: rt::Files>(
             Err(ReadFault::from(fault_of(&e)))
         },
     };
-    let bytes = read_rest(alloc, &mut file, limit)?;
+    let bytes = read_rest(alloc, &mut file, len, limit)?;
     Ok(Some(Bytes::of(bytes)))
 }

@@ -4,7 +4,7 @@ use Rattle.std.specs.Str.{bytes_eq}
 use Rattle.std.proofs.lemmas.Bool.{false≢true, and_from}
 use Rattle.std.proofs.lemmas.Slice.Eq.{bytes_eq-Decides}
 use Rattle.mvn_base.specs.declared.gav.Gav.{Gav}
-use Rattle.classpaths.specs.Classpaths.{gav_eq}
+use Rattle.mvn_base.specs.Gav.{gav_eq}
 
 -- both sides of a test that holds
 pub left_of : (a b : Bool) → (a && b) ≡ true → a ≡ true

@@ -2,12 +2,12 @@
 use Rattle.std.proofs.Common.{◌≡◌, ◌⊎◌, inl, inr, ◌<◌, ℕ, Bool, true, false, List, [], ◌∷◌, ◌++◌, filter, fold, length, map, nat_eq, nat_lt, Option, Some, None, is_some, unwrap_or, refl, sym, ap, subst, if◌then◌else◌}
 use Rattle.std.specs.List.{IsDistinct}
 use Rattle.std.proofs.lemmas.Bool.{false≢true}
-use Rattle.mvn_base.specs.Gav.{lock_name}
+use Rattle.mvn_base.specs.Gav.{gav_eq, lock_name}
 use Rattle.mvn_base.specs.declared.phase.Phase.{Phase}
 use Rattle.goal_types.specs.declared.goal.Slot.{Slot}
 use Rattle.goal_types.specs.declared.goal.Slot.TheVariants as slots
 use Rattle.model_types.specs.declared.model.Model.{Model}
-use Rattle.classpaths.specs.Classpaths.{artifact_file, gav_eq, is_on, pom_file}
+use Rattle.classpaths.specs.Classpaths.{artifact_file, is_on, pom_file}
 use Rattle.classpaths.specs.declared.classpath.Kind.TheVariants as kinds
 use Rattle.classpaths.specs.declared.resolution.Resolved.{Resolved}
 use Rattle.build_core.specs.Slots.{slot_number}

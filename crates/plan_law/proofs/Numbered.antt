@@ -2,12 +2,11 @@
 use Rattle.std.proofs.Common.{◌≡◌, inl, inr, ◌<◌, ℕ, true, false, List, [], flat_map, length, map, nat_lt, refl, ap, subst, ◌∙◌, lt-ltb}
 use Rattle.std.specs.Str.{bytes_eq}
 use Rattle.std.proofs.lemmas.Slice.Eq.{bytes_eq-Decides}
-use Rattle.mvn_base.specs.Gav.{lock_name}
+use Rattle.mvn_base.specs.Gav.{gav_eq, lock_name}
 use Rattle.mvn_base.specs.FileName.{IsValid}
 use Rattle.mvn_base.specs.declared.gav.Gav.{Gav}
 use Rattle.mvn_base.specs.declared.phase.Phase.{Phase}
 use Rattle.coordinate_laws.specs.Apart.{IsFileOf}
-use Rattle.classpaths.specs.Classpaths.{gav_eq}
 use Rattle.classpaths.specs.Classpaths.{files_of as winner_files}
 use Rattle.classpaths.specs.declared.resolution.Resolved.{Resolved}
 use Rattle.build_core.specs.declared.plan.OwnFile.{OwnFile}

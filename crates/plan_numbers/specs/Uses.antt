@@ -4,7 +4,7 @@ use Rattle.std.specs.Prelude.{ℕ, Bool, true, false, not, ◌&&◌, List, [], �
 use Rattle.std.specs.List.{list_any, position_or_len}
 use Rattle.std.specs.Str.{bytes_eq}
 use Rattle.mvn_base.specs.FileName.{is_classifier}
-use Rattle.mvn_base.specs.Gav.{lock_name}
+use Rattle.mvn_base.specs.Gav.{gav_eq, lock_name}
 use Rattle.mvn_base.specs.Names.{is_filled, is_group, is_name, is_version}
 use Rattle.mvn_base.specs.Types.{type_rule}
 use Rattle.mvn_base.specs.declared.gav.Gav.{Gav}
@@ -15,7 +15,7 @@ use Rattle.goal_types.specs.declared.goal.Need.TheVariants as needs
 use Rattle.goal_types.specs.declared.goal.Slot.{Slot}
 use Rattle.goal_types.specs.declared.goal.Slot.TheVariants as slots
 use Rattle.lifecycle.specs.Goals.{calls_through}
-use Rattle.classpaths.specs.Classpaths.{classifier_of, fetch_list, gav_eq}
+use Rattle.classpaths.specs.Classpaths.{classifier_of, fetch_list}
 use Rattle.classpaths.specs.declared.resolution.Resolved.{Resolved}
 use Rattle.plan_numbers.specs.declared.selected.SelectedModule.{SelectedModule}
 

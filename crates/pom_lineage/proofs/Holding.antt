@@ -10,7 +10,8 @@ use Rattle.model_types.specs.declared.model.RawModel.{RawModel}
 use Rattle.pom_source.specs.Chains.{ok_is}
 use Rattle.pom_source.specs.Worlds.{World}
 use Rattle.pom_source.specs.declared.found.Given.{Given}
-use Rattle.pom_lineage.specs.Beside.{gav_eq, of_gav, raw_gav, read_at}
+use Rattle.mvn_base.specs.Gav.{gav_eq}
+use Rattle.pom_lineage.specs.Beside.{of_gav, raw_gav, read_at}
 use Rattle.pom_lineage.specs.Lineage.{joined_from}
 use Rattle.pom_lineage.specs.Reading.{read_file}
 use Rattle.pom_lineage.specs.Stores.{AgreesOnPaths, Holds, HoldsLines, HoldsRead, IsAt, IsKept, line_in, meets, read_in}

@@ -10,7 +10,7 @@ use Rattle.model_types.specs.declared.model.Parent.{Parent}
 use Rattle.model_types.specs.declared.model.RawModel.{RawModel}
 use Rattle.pom_source.specs.Chains.{ok_is}
 use Rattle.pom_source.specs.Worlds.{World}
-use Rattle.pom_lineage.specs.Beside.{gav_eq}
+use Rattle.mvn_base.specs.Gav.{gav_eq}
 use Rattle.pom_lineage.specs.Lineage.{origin_of}
 use Rattle.pom_lineage.specs.Stores.{KeepsLines, KeepsParent, KeepsRead, if_serves, line_in, read_in, serves}
 use Rattle.pom_lineage.specs.declared.joined.Joined.{Joined}

@@ -1,8 +1,8 @@
 -- The POM that is looked for first as a parent: in the project, by a path from the child's folder on. POM Reference,
 -- "Inheritance"; if its coordinates aren't the parent's, the parent is looked for by coordinates.
-use Rattle.std.specs.Prelude.{ℕ, Bool, ◌&&◌, List, [], ◌∷◌, codes, Option, None, Some, Ok, unwrap_or, if◌then◌else◌}
+use Rattle.std.specs.Prelude.{ℕ, List, [], ◌∷◌, codes, Option, None, Some, Ok, unwrap_or, if◌then◌else◌}
 use Rattle.std.specs.Option.{option_or}
-use Rattle.std.specs.Str.{bytes_eq}
+use Rattle.mvn_base.specs.Gav.{gav_eq}
 use Rattle.mvn_base.specs.declared.gav.Gav.{Gav}
 use Rattle.mvn_base.specs.declared.refusal.PomId.{PomId}
 use Rattle.mvn_base.specs.declared.refusal.PomId.TheVariants as ids
@@ -31,10 +31,6 @@ raw_gav raw = record {
   artifact = raw.coordinates.artifact;
   version = unwrap_or (option_or raw.coordinates.version (parent_version raw.parent)) [];
 }
-
-abbrev pub gav_eq : Gav → Gav → Bool
-gav_eq a b =
-    bytes_eq a.group b.group && (bytes_eq a.artifact b.artifact && bytes_eq a.version b.version)
 
 -- the POM that was looked for at a path, if its coordinates are these, or else the coordinates
 abbrev pub of_gav : Gav → List ℕ → Option RawModel → Origin

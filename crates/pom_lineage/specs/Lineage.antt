@@ -18,7 +18,8 @@ use Rattle.pom_source.specs.Refusals.{gav_refused, text_refused}
 use Rattle.pom_source.specs.Worlds.{World}
 use Rattle.pom_source.specs.declared.found.Found.{Found}
 use Rattle.pom_source.specs.declared.found.Given.{Given}
-use Rattle.pom_lineage.specs.Beside.{found_origin, gav_eq, raw_gav}
+use Rattle.mvn_base.specs.Gav.{gav_eq}
+use Rattle.pom_lineage.specs.Beside.{found_origin, raw_gav}
 use Rattle.pom_lineage.specs.Reading.{read, with_profiles}
 use Rattle.pom_lineage.specs.declared.joined.Joined.{Joined}
 use Rattle.pom_lineage.specs.declared.origin.Origin.{Origin}

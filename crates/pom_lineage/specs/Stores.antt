@@ -9,7 +9,8 @@ use Rattle.model_types.specs.declared.model.Parent.{Parent}
 use Rattle.model_types.specs.declared.model.RawModel.{RawModel}
 use Rattle.pom_source.specs.Worlds.{World}
 use Rattle.pom_source.specs.declared.found.Given.{Given}
-use Rattle.pom_lineage.specs.Beside.{gav_eq, read_at}
+use Rattle.mvn_base.specs.Gav.{gav_eq}
+use Rattle.pom_lineage.specs.Beside.{read_at}
 use Rattle.pom_lineage.specs.Lineage.{is_in, joined_from, origin_of}
 use Rattle.pom_lineage.specs.declared.joined.Joined.{Joined}
 use Rattle.pom_lineage.specs.declared.origin.Origin.{Origin}

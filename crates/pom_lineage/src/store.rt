@@ -5,7 +5,8 @@ ghost use Rattle.mvn_base.specs.declared.gav.Gav as gavs;
 ghost use Rattle.mvn_base.specs.declared.refusal.PomId as poms;
 ghost use Rattle.pom_source.specs.Worlds.{World};
 ghost use Rattle.pom_source.specs.declared.found.Given as givens;
-ghost use Rattle.pom_lineage.specs.Beside.{gav_eq, read_at};
+ghost use Rattle.mvn_base.specs.Gav.{gav_eq};
+ghost use Rattle.pom_lineage.specs.Beside.{read_at};
 ghost use Rattle.pom_lineage.specs.Lineage.{joined_from};
 ghost use Rattle.pom_lineage.specs.Stores.{AgreesOnPaths, Holds, IsAt, IsKept, KeepsLines, KeepsRead, if_serves, line_in, meets, read_in, serves};
 

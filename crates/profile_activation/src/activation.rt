@@ -92,7 +92,7 @@ fn active_among<F: Files>(
 /// that fits the files the places are this world's; where no file counts they are the same in all, and
 /// `files` isn't asked. Failed only where the count of `files` rose. Costs the criteria, and a look at
 /// each property. Introduction to Build Profiles.
-#[tactic(auto, using(crate::proofs::Joins::same_answer, crate::proofs::Telling::untold))]
+#[tactic(auto, using(crate::proofs::Telling::untold))]
 pub fn active<F: Files>(
     alloc: Global,
     raw: &RawModel,

@@ -7,7 +7,7 @@ use Rattle.model_types.specs.declared.model.Model.{Model}
 use Rattle.pom_source.specs.Answers.{Built}
 use Rattle.pom_source.specs.Worlds.{World}
 use Rattle.pom_source.specs.declared.found.Given.{Given}
-use Rattle.pom_lineage.specs.Beside.{gav_eq}
+use Rattle.mvn_base.specs.Gav.{gav_eq}
 use Rattle.pom_lineage.proofs.Holding.{same_gav}
 use Rattle.effective.specs.Effective.{effective}
 use Rattle.mediation.specs.declared.known.Known.{Known}

@@ -6,7 +6,7 @@ use Rattle.mvn_base.specs.declared.gav.Gav.{Gav}
 use Rattle.mvn_outside.specs.Shelf.{files_now}
 use Rattle.mvn_outside.specs.declared.shelf.ShelfTold.{ShelfTold}
 use Rattle.pom_source.specs.Worlds.{World}
-use Rattle.pom_lineage.specs.Beside.{gav_eq}
+use Rattle.mvn_base.specs.Gav.{gav_eq}
 use Rattle.effective.specs.Kept.{HoldsAll}
 use Rattle.model_resolver.specs.Devices.{FitsTold, Told}
 use Rattle.model_resolver.specs.Finding.{world_of}

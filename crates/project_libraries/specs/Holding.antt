@@ -8,7 +8,7 @@ use Rattle.mvn_outside.specs.declared.shelf.ShelfTold.{ShelfTold}
 use Rattle.model_types.specs.declared.model.Model.{Model}
 use Rattle.pom_source.specs.Worlds.{World}
 use Rattle.pom_source.specs.declared.found.Given.{Given}
-use Rattle.pom_lineage.specs.Beside.{gav_eq}
+use Rattle.mvn_base.specs.Gav.{gav_eq}
 use Rattle.effective.specs.Kept.{HoldsAll}
 use Rattle.model_resolver.specs.Devices.{Told}
 use Rattle.model_resolver.specs.Finding.{world_of}

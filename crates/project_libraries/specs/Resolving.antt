@@ -1,8 +1,7 @@
 -- What the modules of a project are built with: each module's dependencies are mediated, one module after another. Introduction to the
 -- Dependency Mechanism; Guide to Working with Multiple Modules.
-use Rattle.std.specs.Prelude.{◌≡◌, ℕ, List, [], map, take, slice_get, Some, Result, Ok, Err}
+use Rattle.std.specs.Prelude.{◌≡◌, ℕ, List, [], take, slice_get, Some, Result, Ok, Err}
 use Rattle.std.specs.List.{AllZip}
-use Rattle.mvn_base.specs.declared.gav.Gav.{Gav}
 use Rattle.mvn_base.specs.declared.key.Key.{Key}
 use Rattle.mvn_base.specs.declared.refusal.Place.TheVariants.{Name}
 use Rattle.mvn_base.specs.declared.refusal.PomId.TheVariants as ids
@@ -68,7 +67,3 @@ Resolves libraries poms models (Err (fault.Refused refusal)) = IsFirstRefused li
 Resolves libraries poms models (Err fault.Absent) = ⊥
 Resolves libraries poms models (Err fault.Source) = Unit {0}
 Resolves libraries poms models (Err fault.Memory) = Unit {0}
-
--- the coordinates that a module stands on, in the order of the dependency tree
-abbrev pub winner_gavs : Resolution → List Gav
-winner_gavs resolution = map (λ w. w.gav) resolution.winners

@@ -7,7 +7,7 @@ ghost use Rattle.model_types.specs.declared.model.Model as models;
 ghost use Rattle.profile_activation.specs.Judging.{TellsOn};
 ghost use Rattle.pom_source.specs.Answers.{Built, Says, build_failed};
 ghost use Rattle.pom_source.specs.Worlds.{World};
-ghost use Rattle.pom_lineage.specs.Beside.{gav_eq};
+ghost use Rattle.mvn_base.specs.Gav.{gav_eq};
 ghost use Rattle.effective.specs.Effective.{effective};
 ghost use Rattle.effective.specs.Kept.{HoldsAll};
 ghost use Rattle.mediation.specs.Faults.{lookup_failed};

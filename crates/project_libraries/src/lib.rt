@@ -8,7 +8,5 @@ mod memo;
 mod resolving;
 mod run_lookup;
 mod versions;
-mod winners;
 
 pub use resolving::resolve_modules;
-pub use winners::winner_gavs;

@@ -3,7 +3,7 @@ ghost use Rattle.std.specs.Prelude.{◌≡◌, ◌++◌, ◌∷◌, [], is_some,
 ghost use Rattle.std.specs.HashMap.{get};
 ghost use Rattle.mvn_base.specs.declared.gav.Gav as gavs;
 ghost use Rattle.model_types.specs.declared.model.Model as models;
-ghost use Rattle.pom_lineage.specs.Beside.{gav_eq};
+ghost use Rattle.mvn_base.specs.Gav.{gav_eq};
 ghost use Rattle.mediation.specs.declared.known.Known.TheVariants as knowns;
 ghost use Rattle.project_libraries.specs.Known.{module_of};
 

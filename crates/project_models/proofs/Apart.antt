@@ -5,7 +5,7 @@ use Rattle.std.specs.List.{AllByRecursion, IsDistinct}
 use Rattle.std.specs.Option.{option_or}
 use Rattle.mvn_base.specs.declared.gav.Gav.{Gav}
 use Rattle.model_types.specs.declared.model.Model.{Model}
-use Rattle.pom_lineage.specs.Beside.{gav_eq}
+use Rattle.mvn_base.specs.Gav.{gav_eq}
 use Rattle.model_resolver.specs.declared.resolver.ProjectPom.{ProjectPom}
 use Rattle.project_models.specs.Models.{double, first_double, path_of}
 use Rattle.project_models.specs.declared.doubles.Double.{Double}

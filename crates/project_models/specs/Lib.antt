@@ -8,7 +8,6 @@ pub use Rattle.effective.specs.Kept
 pub use Rattle.effective.specs.Lawful
 pub use Rattle.model_resolver.specs.Devices
 pub use Rattle.model_resolver.specs.Finding
-pub mod Composing
 pub mod Models
 pub mod Projects
 pub mod Telling

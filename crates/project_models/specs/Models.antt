@@ -15,7 +15,8 @@ use Rattle.pom_source.specs.Refusals.{text_refused}
 use Rattle.pom_source.specs.Worlds.{World}
 use Rattle.pom_source.specs.declared.fault.BuildFault.{BuildFault}
 use Rattle.pom_source.specs.declared.found.Given.{Given}
-use Rattle.pom_lineage.specs.Beside.{gav_eq, raw_gav}
+use Rattle.mvn_base.specs.Gav.{gav_eq}
+use Rattle.pom_lineage.specs.Beside.{raw_gav}
 use Rattle.module_discovery.specs.Discovery.{discovered}
 use Rattle.module_discovery.specs.declared.pom.ModulePom.{ModulePom}
 use Rattle.effective.specs.Effective.{effective}
@@ -35,9 +36,13 @@ unfoldable pub each : {A B : Type 0} → (A → Built B) → List A → Built (L
 each f [] = Ok []
 each f (x ∷ xs) = f x >>= (λ y. each f xs >>= (λ ys. Ok (y ∷ ys)))
 
--- a POM that was discovered, with its coordinates as it says them, and its text
+-- a POM with a text, and with its coordinates as it says them
+abbrev pub with_text : ModulePom → List ℕ → ProjectPom
+with_text m bytes = record { path = m.path; gav = raw_gav m.raw; bytes = bytes }
+
+-- a POM that was discovered, with its text
 abbrev pub found_pom : World → ModulePom → ProjectPom
-found_pom world m = record { path = m.path; gav = raw_gav m.raw; bytes = unwrap_or (world.by_path m.path) [] }
+found_pom world m = with_text m (unwrap_or (world.by_path m.path) [])
 
 abbrev pub project_poms : World → Given → Built (List ProjectPom)
 project_poms world given = discovered world given >>= (λ found. Ok (map (found_pom world) found))

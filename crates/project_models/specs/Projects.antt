@@ -6,7 +6,7 @@ use Rattle.mvn_base.specs.declared.refusal.PomId.TheVariants as ids
 use Rattle.model_types.specs.declared.model.Model.{Model}
 use Rattle.pom_source.specs.Worlds.{World}
 use Rattle.pom_source.specs.declared.found.Given.{Given}
-use Rattle.pom_lineage.specs.Beside.{gav_eq}
+use Rattle.mvn_base.specs.Gav.{gav_eq}
 use Rattle.module_discovery.specs.Listing.{IsProject}
 use Rattle.module_discovery.specs.declared.pom.ModulePom.{ModulePom}
 use Rattle.effective.specs.Effective.{effective}

@@ -6,7 +6,7 @@ ghost use Rattle.mvn_base.specs.declared.refusal.PomId.TheVariants as ids;
 ghost use Rattle.mvn_base.specs.declared.rule.Rule.TheVariants as rules;
 ghost use Rattle.pom_source.specs.Answers.{Says, build_failed};
 ghost use Rattle.pom_source.specs.Refusals.{text_refused};
-ghost use Rattle.pom_lineage.specs.Beside.{gav_eq};
+ghost use Rattle.mvn_base.specs.Gav.{gav_eq};
 ghost use Rattle.project_models.specs.Models.{first_double};
 
 use model_resolver::ProjectPom;

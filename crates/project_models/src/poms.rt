@@ -5,11 +5,11 @@ ghost use Rattle.profile_activation.specs.Judging.{TellsOn};
 ghost use Rattle.pom_source.specs.Answers.{Says, build_failed};
 ghost use Rattle.pom_source.specs.Worlds.{World};
 ghost use Rattle.pom_lineage.specs.Stores.{Holds};
-ghost use Rattle.project_models.specs.Models.{found_pom, project_poms};
+ghost use Rattle.project_models.specs.Models.{found_pom, project_poms, with_text};
 
 use model_resolver::ProjectPom;
 use module_discovery::{ModulePom, discover};
-use mvn_shared::{Bytes, List};
+use mvn_shared::{Bytes, List, Mem};
 use pom_lineage::{Store, raw_gav};
 use pom_source::{BuildFault, Given, PomSource};
 use std::alloc::Global;
@@ -27,6 +27,15 @@ fn text_of(alloc: Global, found: Option<Bytes>) -> Bytes
     }
 }
 
+// A POM with a text, and with its coordinates as it says them.
+fn with_text(alloc: Global, listed: &ModulePom, bytes: Bytes) -> Mem<ProjectPom>
+    ensures { IfOk result (λ pom. pom ≡ with_text listed.now bytes) }
+{
+    let path = listed.path.clone()?;
+    let gav = raw_gav(alloc, &listed.raw)?;
+    Ok(ProjectPom { path, gav, bytes })
+}
+
 // A POM that was discovered, with its coordinates and its text.
 #[tactic(auto, using(pom_lineage::proofs::Telling::told_once, pom_lineage::proofs::Telling::untold))]
 fn found_pom<P: PomSource>(
@@ -40,11 +49,9 @@ fn found_pom<P: PomSource>(
     ensures same { TellsOn P.tells_same source.old source.new }
     ensures cause { HasCause (P.faults source.old) (P.faults source.new) (build_failed result) }
 {
-    let path = listed.path.clone()?;
-    let gav = raw_gav(alloc, &listed.raw)?;
     let found = source.by_path(&listed.path)?;
-    let bytes = text_of(alloc, found);
-    Ok(ProjectPom { path, gav, bytes })
+    let pom = with_text(alloc, listed, text_of(alloc, found))?;
+    Ok(pom)
 }
 
 // All of them.

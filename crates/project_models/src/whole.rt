@@ -12,7 +12,7 @@ pub trait Whole: PomSource {
 
 impl<'t, 's, 'r, 'p, T: Tree, S: Shelf, R: Remote> Whole
     for ModelResolver<'t, 's, 'r, 'p, T, S, R> {
-    ghost use Rattle.project_models.specs.Composing.{told_whole};
+    ghost use Rattle.resolver_calls.specs.Composing.{told_whole};
 
     ghost whole = { λ before now told. told_whole T.files T.faults S.told S.faults R.files R.faults told };
 }

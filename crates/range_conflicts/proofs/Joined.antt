@@ -19,14 +19,14 @@ any_append : (t : Edge → Bool) (xs ys : List Edge) → list_any t (xs ++ ys) �
 any_append t [] ys = refl
 any_append t (x ∷ xs) ys = ap (λ b. t x || b) (any_append t xs ys) ∙ or_assoc (t x) (list_any t xs) (list_any t ys)
 
-next_drop : (rows : List Winner) (k : ℕ) → drop k rows ≡ option_to_list (slice_get rows k) ++ drop (suc k) rows
+next_drop : {A : Type 0} (rows : List A) (k : ℕ) → drop k rows ≡ option_to_list (slice_get rows k) ++ drop (suc k) rows
 next_drop [] zero = refl
 next_drop [] (suc k) = refl
 next_drop (w ∷ rows) zero = refl
 next_drop (w ∷ rows) (suc k) = next_drop rows k
 
--- one winner more
-pub one_more : (t : Edge → Bool) (f : Winner → List Edge) (rows : List Winner) (k : ℕ) (old new all : Bool)
+-- one list more
+pub one_more : {A : Type 0} (t : Edge → Bool) (f : A → List Edge) (rows : List A) (k : ℕ) (old new all : Bool)
     → new ≡ (old || list_any t (flat_map f (option_to_list (slice_get rows k))))
     → (old || list_any t (flat_map f (drop k rows))) ≡ all → (new || list_any t (flat_map f (drop (k + 1) rows))) ≡ all
 one_more t f rows k old new all is before =
@@ -41,11 +41,11 @@ one_more t f rows k old new all is before =
     ∙ before
 
 -- the project's declarations, and then the winners'
-pub begun : (t : Edge → Bool) (f : Winner → List Edge) (rows : List Winner) (edges : List Edge) (old : Bool) → old ≡ list_any t edges
+pub begun : {A : Type 0} (t : Edge → Bool) (f : A → List Edge) (rows : List A) (edges : List Edge) (old : Bool) → old ≡ list_any t edges
     → (old || list_any t (flat_map f (drop 0 rows))) ≡ list_any t (edges ++ flat_map f rows)
 begun t f rows edges old is = ap (λ b. b || list_any t (flat_map f rows)) is ∙ sym (any_append t edges (flat_map f rows))
 
-pub ended : (t : Edge → Bool) (f : Winner → List Edge) (rows : List Winner) (k : ℕ) (now all : Bool) → length rows ≤ k → (now || list_any t (flat_map f (drop k rows))) ≡ all → now ≡ all
+pub ended : {A : Type 0} (t : Edge → Bool) (f : A → List Edge) (rows : List A) (k : ℕ) (now all : Bool) → length rows ≤ k → (now || list_any t (flat_map f (drop k rows))) ≡ all → now ≡ all
 ended t f rows k now all low is = sym (or_false now) ∙ ap (λ l. now || list_any t (flat_map f l)) (sym (drop_all k rows low)) ∙ is
 
 some_none : (w : Winner) → ◌≡◌ {A = Option Winner} (Some w) None → ⊥

@@ -34,11 +34,14 @@ is_of rows key e = same_key e.key key && conflicts rows e
 abbrev pub some_conflict : List Winner → List Edge → Key → Bool
 some_conflict rows edges key = list_any (is_of rows key) edges
 
+-- the first winner for whose key some edge conflicts
+abbrev pub conflict_among : List Winner → List Edge → Option Winner
+conflict_among rows edges = find (λ w. some_conflict rows edges w.edge.key) rows
+
 -- all declarations that count: the project's, and those of each winner's POM
 abbrev pub declared : List (Key × Dependency) → List Dependency → List Winner → List Edge
 declared managed direct rows = direct_edges direct ++ flat_map (edges_below managed) rows
 
 -- the first winner for whose key some declaration conflicts
 abbrev pub first_conflict : List (Key × Dependency) → List Dependency → List Winner → Option Winner
-first_conflict managed direct rows =
-    find (λ w. some_conflict rows (declared managed direct rows) w.edge.key) rows
+first_conflict managed direct rows = conflict_among rows (declared managed direct rows)

@@ -1,55 +1,32 @@
-ghost use Rattle.std.specs.Prelude.{◌≡◌, ◌||◌, false, find, flat_map, slice_get, IfOk, OnOk};
+ghost use Rattle.std.specs.Prelude.{◌≡◌, ◌++◌, false, find, flat_map, IfOk};
 ghost use Rattle.std.specs.HashSet.{contains};
-ghost use Rattle.std.specs.Option.{option_copied, option_to_list};
-ghost use Rattle.mediation.specs.Rows.{edges_below};
+ghost use Rattle.std.specs.Option.{option_copied};
 ghost use Rattle.model_merge.specs.Keyed.{same_key};
 ghost use Rattle.mvn_base.specs.declared.key.Key as names;
-ghost use Rattle.range_conflicts.specs.Conflicts.{declared, first_conflict, some_conflict};
+ghost use Rattle.range_conflicts.specs.Conflicts.{conflict_among, some_conflict};
 
 use crate::keys::add_conflicts;
-use collector::direct_edges;
-use managed_deps::ManagedSet;
-use mediation::{Winner, Winners, edges_below};
-use model_types::Dependency;
+use collector::Edge;
+use mediation::{Winner, Winners};
 use mvn_base::Key;
-use mvn_shared::{Mem, Shared};
+use mvn_shared::{List, Mem};
 use std::alloc::Global;
 use std::collections::HashSet;
-
-// The keys of the conflicting declarations of the POM of the winner at a place, if there is one.
-fn add_below(
-    alloc: Global,
-    keys: &mut HashSet<Key>,
-    managed: &ManagedSet,
-    winners: &Winners,
-    place: usize,
-) -> Mem<()>
-    ensures { OnOk result ((key : names.Key) → contains same_key keys.new key
-        ≡ (contains same_key keys.old key || some_conflict winners.now
-        (flat_map (edges_below managed.now) (option_to_list (slice_get winners.now place))) key)) }
-{
-    if let Some(winner) = winners.get(place) {
-        let edges = edges_below(alloc, managed, winner)?;
-        add_conflicts(alloc, keys, winners, edges.as_slice())?;
-    }
-    Ok(())
-}
 
 // The keys of all conflicting declarations.
 fn conflicting(
     alloc: Global,
-    direct: &[Shared<Dependency>],
-    managed: &ManagedSet,
+    own: &[Edge],
+    below: &[List<Edge>],
     winners: &Winners,
 ) -> Mem<HashSet<Key>>
     ensures { IfOk result (λ keys. (key : names.Key) → contains same_key keys key
-        ≡ some_conflict winners.now (declared managed.now direct.now winners.now) key) }
+        ≡ some_conflict winners.now (own.now ++ flat_map (λ edges. edges) below.now) key) }
 {
     let mut keys = HashSet::new(alloc);
-    let edges = direct_edges(alloc, direct)?;
-    add_conflicts(alloc, &mut keys, winners, edges.as_slice())?;
-    for place in 0..winners.len() {
-        add_below(alloc, &mut keys, managed, winners, place)?;
+    add_conflicts(alloc, &mut keys, winners, own)?;
+    for edges in below {
+        add_conflicts(alloc, &mut keys, winners, edges.as_slice())?;
     }
     Ok(keys)
 }
@@ -70,17 +47,17 @@ fn first_of<'a>(winners: &'a Winners, keys: &HashSet<Key>) -> Option<&'a Winner>
 }
 
 /// The first winner, in their order, whose version some declaration of its key doesn't admit: a hard requirement of the project's or
-/// of a winner's POM, also one that loses. `direct` and `managed` are those that the winners were found for. Costs the texts
-/// of each declaration, and its requirement is parsed. Project rule.
+/// of a winner's POM, also one that loses. `own` is what the project declares, `below` what the POM of each winner does. Costs
+/// a look-up for each declaration, and its requirement is parsed. Project rule.
 pub fn first_conflict<'a>(
     alloc: Global,
-    direct: &[Shared<Dependency>],
-    managed: &ManagedSet,
+    own: &[Edge],
+    below: &[List<Edge>],
     winners: &'a Winners,
 ) -> Mem<Option<&'a Winner>>
     ensures { IfOk result (λ found. option_copied found
-        ≡ first_conflict managed.now direct.now winners.now) }
+        ≡ conflict_among winners.now (own.now ++ flat_map (λ edges. edges) below.now)) }
 {
-    let keys = conflicting(alloc, direct, managed, winners)?;
+    let keys = conflicting(alloc, own, below, winners)?;
     Ok(first_of(winners, &keys))
 }

@@ -8,12 +8,17 @@ use mvn_shared::{Mem, OutOfMemory, Text};
 use std::alloc::Global;
 use version_order::{Requirement, RequirementError, Version};
 
-// Whether a requirement doesn't admit a version.
+// Whether a requirement doesn't admit a version, which is parsed for a hard one alone: a soft one admits all.
 fn refuses(alloc: Global, requirement: &Requirement, version: &Text) -> Mem<bool>
     ensures { IfOk result (λ it. it ≡ refuses requirement.now version.now) }
 {
-    let version = Version::parse(alloc, version)?;
-    Ok(!requirement.admits(&version))
+    match requirement {
+        Requirement::Soft(_) => Ok(false),
+        Requirement::Hard(_) => {
+            let version = Version::parse(alloc, version)?;
+            Ok(!requirement.admits(&version))
+        }
+    }
 }
 
 // Whether what a text requires doesn't admit a version; a text that requires nothing admits all.

@@ -1,8 +1,9 @@
 -- Winners one after another.
-use Rattle.std.proofs.Common.{◌≡◌, ℕ, zero, suc, ◌+◌, ◌<◌, Bool, true, false, List, [], ◌∷◌, ◌++◌, drop, flat_map, map, nat_lt, slice_get, Option, Some, None, unwrap_or, refl, sym, ap, subst, ◌∙◌, arith, append_assoc, if◌then◌else◌}
+use Rattle.std.proofs.Common.{◌≡◌, ℕ, zero, suc, ◌+◌, ◌<◌, ◌≤◌, Bool, true, false, List, [], ◌∷◌, ◌++◌, drop, flat_map, length, map, nat_lt, slice_get, Option, Some, None, unwrap_or, refl, sym, ap, subst, ◌∙◌, arith, append-nil, append_assoc, if◌then◌else◌}
 use Rattle.std.specs.Option.{option_to_list}
 use Rattle.std.proofs.lemmas.Bool.Decides.{nat_tests}
 use Rattle.std.proofs.lemmas.Grind.{flat_map-append}
+use Rattle.std.proofs.lemmas.List.{drop_all}
 use Rattle.mediation.specs.declared.winner.Winner.{Winner}
 use Rattle.tree_order.specs.Preorder.{Ascends}
 use Rattle.resolution.specs.Resolved.{above_at, aboves_from, earlier}
@@ -24,6 +25,27 @@ flat_one f old new all rows k is before =
     ∙ ap (λ l. old ++ l) (sym (flat_map-append f (option_to_list (slice_get rows k)) (drop (suc k) rows)))
     ∙ ap (λ l. old ++ flat_map f l) (sym (next_drop rows k))
     ∙ before
+
+next_mapped : {B : Type 0} (f : Winner → B) (rows : List Winner) (k : ℕ) → map f (drop k rows) ≡ map f (option_to_list (slice_get rows k)) ++ map f (drop (suc k) rows)
+next_mapped f [] zero = refl
+next_mapped f [] (suc k) = refl
+next_mapped f (w ∷ rows) zero = refl
+next_mapped f (w ∷ rows) (suc k) = next_mapped f rows k
+
+-- one winner more is mapped
+pub mapped_one : {B : Type 0} (f : Winner → B) (old new all : List B) (rows : List Winner) (k : ℕ) → new ≡ old ++ map f (option_to_list (slice_get rows k))
+    → old ++ map f (drop k rows) ≡ all → new ++ map f (drop (k + 1) rows) ≡ all
+mapped_one f old new all rows k is before =
+    let next : k + 1 ≡ suc k = omega arith in
+    ap (λ n. new ++ map f (drop n rows)) next
+    ∙ ap (λ l. l ++ map f (drop (suc k) rows)) is
+    ∙ append_assoc old (map f (option_to_list (slice_get rows k))) (map f (drop (suc k) rows))
+    ∙ ap (λ l. old ++ l) (sym (next_mapped f rows k))
+    ∙ before
+
+-- and then all are
+pub mapped_all : {B : Type 0} (f : Winner → B) (list all : List B) (rows : List Winner) (k : ℕ) → length rows ≤ k → list ++ map f (drop k rows) ≡ all → list ≡ all
+mapped_all f list all rows k low is = sym (append-nil list) ∙ ap (λ l. list ++ map f l) (sym (drop_all k rows low)) ∙ is
 
 next_above : (rows : List Winner) (k at : ℕ) → aboves_from at (drop k rows) ≡ map (above_at at) (option_to_list (slice_get rows k)) ++ aboves_from (at + 1) (drop (suc k) rows)
 next_above [] zero at = refl

@@ -1,5 +1,6 @@
 -- What is answered says what the definition says.
-use Rattle.std.proofs.Common.{◌≡◌, ◌⊎◌, inl, inr, ℕ, List, Option, Some, None, Result, Ok, Err, refl, sym, ap, ◌∙◌}
+use Rattle.std.proofs.Common.{◌≡◌, ◌⊎◌, inl, inr, ℕ, List, ◌++◌, flat_map, Option, Some, None, Result, Ok, Err, refl, sym, ap, ◌∙◌}
+use Rattle.std.proofs.lemmas.List.Folds.{flat_map-map}
 use Rattle.mvn_base.specs.Key.{key_text}
 use Rattle.mvn_base.specs.declared.key.Key.{Key}
 use Rattle.mvn_base.specs.declared.rule.Rule.TheVariants.{RangeConflict}
@@ -7,12 +8,23 @@ use Rattle.model_types.specs.declared.dependency.Dependency.{Dependency}
 use Rattle.classpaths.specs.declared.resolution.Resolution.{Resolution}
 use Rattle.mediation.specs.Faults.{Reason, Says}
 use Rattle.mediation.specs.Libraries.{Libraries, graph_of}
-use Rattle.mediation.specs.Rows.{IsWhole, Resolves, reason}
+use Rattle.mediation.specs.Rows.{IsWhole, Resolves, edges_below, reason}
 use Rattle.mediation.specs.declared.fault.MediationFault.{MediationFault}
 use Rattle.mediation.specs.declared.fault.MediationFault.TheVariants.{Refused, Lookup, Memory}
 use Rattle.mediation.specs.declared.winner.Winner.{Winner}
-use Rattle.range_conflicts.specs.Conflicts.{first_conflict}
+use Rattle.collector.specs.Edges.{direct_edges}
+use Rattle.collector.specs.declared.edge.Edge.{Edge}
+use Rattle.range_conflicts.specs.Conflicts.{conflict_among, first_conflict}
+use Rattle.winner_scopes.specs.Links.{AreDeclared}
 use Rattle.resolution.specs.Resolved.{IsMade, Mediates, reason_of}
+
+-- the first conflict among what is declared
+declared_conflict : (managed : List (Key × Dependency)) (direct : List Dependency) (rows : List Winner) (own : List Edge) (below : List (List Edge)) → AreDeclared managed direct rows own below
+    → conflict_among rows (own ++ flat_map (λ edges. edges) below) ≡ first_conflict managed direct rows
+declared_conflict managed direct rows own below declared =
+    ap (λ own. conflict_among rows (own ++ flat_map (λ edges. edges) below)) declared.own_is
+    ∙ ap (λ below. conflict_among rows (direct_edges direct ++ flat_map (λ edges. edges) below)) declared.below_is
+    ∙ ap (λ edges. conflict_among rows (direct_edges direct ++ edges)) (flat_map-map (λ edges. edges) (edges_below managed) rows)
 
 module _ (libraries : Libraries) (managed : List (Key × Dependency)) (direct : List Dependency) where
   pub conflict_told : (rows : List Winner) (w : Winner) (result : Result Resolution MediationFault) → IsWhole libraries (graph_of libraries managed direct) rows
@@ -28,6 +40,14 @@ module _ (libraries : Libraries) (managed : List (Key × Dependency)) (direct : 
   pub made_told : (rows : List Winner) (resolution : Resolution) → IsWhole libraries (graph_of libraries managed direct) rows
       → first_conflict managed direct rows ≡ None → IsMade managed direct rows resolution → Mediates libraries managed direct (Ok resolution)
   made_told rows resolution whole free made = record { rows = rows; whole = whole; free = free; made = made }
+
+  pub judged_conflict : (rows : List Winner) (own : List Edge) (below : List (List Edge)) (w : Winner) (result : Result Resolution MediationFault) → AreDeclared managed direct rows own below → IsWhole libraries (graph_of libraries managed direct) rows
+      → conflict_among rows (own ++ flat_map (λ edges. edges) below) ≡ Some w → Says {T = Resolution} (Err (RangeConflict, key_text w.edge.key)) result → Mediates libraries managed direct result
+  judged_conflict rows own below w result declared whole is says = conflict_told rows w result whole (sym (declared_conflict managed direct rows own below declared) ∙ is) says
+
+  pub judged_made : (rows : List Winner) (own : List Edge) (below : List (List Edge)) (resolution : Resolution) → AreDeclared managed direct rows own below → IsWhole libraries (graph_of libraries managed direct) rows
+      → conflict_among rows (own ++ flat_map (λ edges. edges) below) ≡ None → IsMade managed direct rows resolution → Mediates libraries managed direct (Ok resolution)
+  judged_made rows own below resolution declared whole free made = made_told rows resolution whole (sym (declared_conflict managed direct rows own below declared) ∙ free) made
 
   pub refused_told : (fault : MediationFault) → Resolves libraries (graph_of libraries managed direct) (Err fault) → Mediates libraries managed direct (Err fault)
   refused_told (Refused rule place) is = inl is

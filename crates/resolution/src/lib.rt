@@ -2,6 +2,7 @@
 //! refusal.
 #![tactic(auto)]
 
+mod edges;
 mod notes;
 mod resolved;
 mod resolving;

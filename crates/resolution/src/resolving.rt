@@ -1,4 +1,5 @@
 ghost use Rattle.std.specs.Prelude.{◌≡◌, Err, Ok, false, IfOk};
+ghost use Rattle.std.specs.Prelude as logic;
 ghost use Rattle.mvn_base.specs.Key.{key_text};
 ghost use Rattle.mvn_base.specs.declared.rule.Rule.TheVariants.{RangeConflict};
 ghost use Rattle.mvn_shared.specs.Cause.{HasCause};
@@ -6,32 +7,35 @@ ghost use Rattle.mediation.specs.Faults.{Says, is_faulty};
 ghost use Rattle.mediation.specs.Telling.{TellsOn};
 ghost use Rattle.mediation.specs.Libraries.{Libraries, graph_of};
 ghost use Rattle.mediation.specs.Rows.{IsWhole};
+ghost use Rattle.model_types.specs.declared.dependency.Dependency as dependencies;
+ghost use Rattle.mvn_base.specs.declared.key.Key as names;
+ghost use Rattle.winner_scopes.specs.Links.{AreDeclared};
 ghost use Rattle.resolution.specs.Resolved.{IsMade, Mediates};
 
+use crate::edges::edges_of;
 use crate::notes::notes_of;
 use crate::resolved::resolved_in;
 use crate::tree::order_of;
 use classpaths::Resolution;
+use collector::{Edge, direct_edges};
 use managed_deps::ManagedSet;
 use mediation::{Lookup, MediationFault, Winner, Winners, find_winners};
 use model_types::Dependency;
 use mvn_base::{Rule, key_text};
-use mvn_shared::{Mem, Shared};
+use mvn_shared::{List, Mem, Shared};
 use range_conflicts::first_conflict;
 use std::alloc::Global;
 use winner_scopes::scopes_of;
 
 // What winners come to.
-fn made(
-    alloc: Global,
-    direct: &[Shared<Dependency>],
-    managed: &ManagedSet,
-    winners: &Winners,
-) -> Mem<Resolution>
+fn made(alloc: Global, own: &[Edge], below: &[List<Edge>], winners: &Winners) -> Mem<Resolution>
     ensures { IfOk result (λ resolution.
-        IsMade managed.now direct.now winners.now resolution) }
+        (managed : logic.List (names.Key × dependencies.Dependency))
+        (direct : logic.List dependencies.Dependency)
+        → AreDeclared managed direct winners.now own.now below.now
+        → IsMade managed direct winners.now resolution) }
 {
-    let scopes = scopes_of(alloc, direct, managed, winners)?;
+    let scopes = scopes_of(alloc, own, below, winners)?;
     let order = order_of(alloc, winners)?;
     let notes = notes_of(alloc, winners)?;
     let list = resolved_in(alloc, winners, &scopes, &order)?;
@@ -53,7 +57,29 @@ fn refused(alloc: Global, winner: &Winner) -> Result<Resolution, MediationFault>
     })
 }
 
-// What winners come to, or the first conflict.
+// What winners come to, or the first conflict of what is declared.
+fn judged(
+    alloc: Global,
+    own: &[Edge],
+    below: &[List<Edge>],
+    winners: &Winners,
+) -> Result<Resolution, MediationFault>
+    ensures resolves { (libraries : Libraries)
+        (managed : logic.List (names.Key × dependencies.Dependency))
+        (direct : logic.List dependencies.Dependency)
+        → AreDeclared managed direct winners.now own.now below.now
+        → IsWhole libraries (graph_of libraries managed direct) winners.now
+        → Mediates libraries managed direct result }
+    ensures blameless { is_faulty result ≡ false }
+{
+    let conflict = first_conflict(alloc, own, below, winners)?;
+    match conflict {
+        Some(winner) => refused(alloc, winner),
+        None => Ok(made(alloc, own, below, winners)?),
+    }
+}
+
+// What winners come to, or the first conflict. What each POM leads to is found once.
 fn resolved(
     alloc: Global,
     direct: &[Shared<Dependency>],
@@ -65,17 +91,15 @@ fn resolved(
         → Mediates libraries managed.now direct.now result }
     ensures blameless { is_faulty result ≡ false }
 {
-    let conflict = first_conflict(alloc, direct, managed, winners)?;
-    match conflict {
-        Some(winner) => refused(alloc, winner),
-        None => Ok(made(alloc, direct, managed, winners)?),
-    }
+    let own = direct_edges(alloc, direct)?;
+    let below = edges_of(alloc, managed, winners)?;
+    judged(alloc, own.as_slice(), below.as_slice(), winners)
 }
 
 /// What a project is built with: the winners of its dependency graph, each with its version, its scope and whether it has a POM,
 /// in the order of the dependency tree; and a note of each POM that is missing or refused, in the order in which they are met.
 /// Refused as `find_winners` refuses, and then by the first winner whose version a range of some declaration doesn't admit.
-/// `Lookup` comes only where the look-up failed. Costs what `find_winners` costs, and the texts of each declaration twice
+/// `Lookup` comes only where the look-up failed. Costs what `find_winners` costs, and the texts of each declaration once
 /// more. Introduction to the Dependency Mechanism.
 pub fn mediate<L: Lookup>(
     alloc: Global,

@@ -5,7 +5,7 @@ use Rattle.mvn_shared.specs.Files.{Files, file_at, is_there}
 use Rattle.mvn_base.specs.declared.gav.Gav.{Gav}
 use Rattle.pom_source.specs.Worlds.{World}
 use Rattle.pom_source.specs.declared.found.Found.{Found}
-use Rattle.pom_lineage.specs.Beside.{gav_eq}
+use Rattle.mvn_base.specs.Gav.{gav_eq}
 use Rattle.source_mem.specs.declared.poms.MemPoms.{MemPoms}
 
 -- the files of the project

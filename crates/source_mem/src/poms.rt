@@ -120,7 +120,7 @@ impl<F: Failures> PomSource for MemPoms<F> {
     ghost use Rattle.std.specs.HashMap.{get};
     ghost use Rattle.std.proofs.Common.{sym, subst};
     ghost use Rattle.mvn_base.specs.declared.gav.Gav as gavs;
-    ghost use Rattle.pom_lineage.specs.Beside.{gav_eq};
+    ghost use Rattle.mvn_base.specs.Gav.{gav_eq};
     ghost use Rattle.source_mem.specs.Poms.{Fits};
 
     ghost fits_poms = { λ source world. Fits source.files (λ (gav : gavs.Gav). get gav_eq source.found gav) world };

@@ -59,7 +59,10 @@ pub(crate) fn told(alloc: Global, kind: &str, texts: &[Text]) -> Mem<String> {
     match (kind, texts) {
         ("parts", [text]) => split(alloc, text),
         ("value", [name, texts @ ..]) => value(alloc, name, texts),
-        ("path", [folder, path]) => Ok(joined(alloc, folder, path)?.into_string()),
+        ("path", [folder, path]) => Ok(String::from_str(
+            alloc,
+            joined(alloc, folder, path)?.as_str(),
+        )?),
         _ => Ok(String::from_str(alloc, "no such row")?),
     }
 }

@@ -9,11 +9,11 @@ use Rattle.collector.specs.declared.scope.Scope.{Scope}
 use Rattle.collector.specs.declared.scope.Scope.TheVariants.{Test}
 use Rattle.dependency_scopes.specs.Walks as places
 use Rattle.mediation.specs.Libraries.{Libraries, graph_of}
-use Rattle.mediation.specs.Rows.{IsWhole, paths_of}
+use Rattle.mediation.specs.Rows.{IsWhole, edges_below, paths_of}
 use Rattle.mediation.specs.declared.winner.Winner.{Winner}
 use Rattle.mediation.proofs.Paths.{length_paths}
 use Rattle.winner_law.specs.Winners.{Path}
-use Rattle.winner_scopes.specs.Links.{found_scope, links, links_below, scope_at, scopes_from, starts}
+use Rattle.winner_scopes.specs.Links.{AreDeclared, AreWidest, found_scope, links, links_below, links_of, scope_at, scopes_from, starts, starts_of}
 use Rattle.winner_scopes.specs.Scopes.{IsScope, Walk, is_single}
 use Rattle.winner_scopes.proofs.Placed.{PathOf, path_of, some_is_none}
 use Rattle.winner_scopes.proofs.Walking.{complete, sound, stands_there, walks}
@@ -42,6 +42,17 @@ mapped_long f (w ∷ rows) = ap suc (mapped_long f rows)
 
 pub links_long : (managed : List (Key × Dependency)) (rows : List Winner) → length (links managed rows) ≡ length rows
 links_long managed rows = mapped_long (links_below managed rows) rows
+
+mapped_twice : {B C : Type 0} (g : B → C) (f : Winner → B) (rows : List Winner) → map g (map f rows) ≡ map (λ w. g (f w)) rows
+mapped_twice g f [] = refl
+mapped_twice g f (w ∷ rows) = ap (λ l. g (f w) ∷ l) (mapped_twice g f rows)
+
+-- what is the widest of lists that hold what is declared is so of the declarations
+pub widest_declared : (managed : List (Key × Dependency)) (direct : List Dependency) (rows : List Winner) (own : List Edge) (below : List (List Edge)) (widest : List (Option Scope))
+    → AreDeclared managed direct rows own below → AreWidest (starts_of rows own) (map (links_of rows) below) widest → AreWidest (starts rows direct) (links managed rows) widest
+widest_declared managed direct rows own below widest declared found =
+    let links_are : map (links_of rows) below ≡ links managed rows = ap (map (links_of rows)) declared.below_is ∙ mapped_twice (links_of rows) (edges_below managed) rows in
+    subst (λ l. AreWidest (starts rows direct) l widest) links_are (subst (λ own. AreWidest (starts_of rows own) (map (links_of rows) below) widest) declared.own_is found)
 
 module _ (libraries : Libraries) (managed : List (Key × Dependency)) (direct : List Dependency) (rows : List Winner) (whole : IsWhole libraries (graph_of libraries managed direct) rows)
     (widest : List (Option Scope)) (found : (place : ℕ) → place < length (links managed rows) → places.IsWidest (starts rows direct) (links managed rows) place (get_or widest place None)) where

@@ -7,27 +7,6 @@ use Rattle.dependency_scopes.specs.declared.link.Link.{Link}
 use Rattle.mediation.specs.declared.winner.Winner.{Winner}
 use Rattle.winner_scopes.specs.Links.{scope_at, scopes_from}
 
-next_mapped : {B : Type 0} (f : Winner → B) (rows : List Winner) (k : ℕ) → map f (drop k rows) ≡ map f (option_to_list (slice_get rows k)) ++ map f (drop (suc k) rows)
-next_mapped f [] zero = refl
-next_mapped f [] (suc k) = refl
-next_mapped f (w ∷ rows) zero = refl
-next_mapped f (w ∷ rows) (suc k) = next_mapped f rows k
-
--- one winner more is mapped
-pub mapped_one : {B : Type 0} (f : Winner → B) (old new all : List B) (rows : List Winner) (k : ℕ) → new ≡ old ++ map f (option_to_list (slice_get rows k))
-    → old ++ map f (drop k rows) ≡ all → new ++ map f (drop (k + 1) rows) ≡ all
-mapped_one f old new all rows k is before =
-    let next : k + 1 ≡ suc k = omega arith in
-    ap (λ n. new ++ map f (drop n rows)) next
-    ∙ ap (λ l. l ++ map f (drop (suc k) rows)) is
-    ∙ append_assoc old (map f (option_to_list (slice_get rows k))) (map f (drop (suc k) rows))
-    ∙ ap (λ l. old ++ l) (sym (next_mapped f rows k))
-    ∙ before
-
--- and then all are
-pub mapped_all : {B : Type 0} (f : Winner → B) (list all : List B) (rows : List Winner) (k : ℕ) → length rows ≤ k → list ++ map f (drop k rows) ≡ all → list ≡ all
-mapped_all f list all rows k low is = sym (append-nil list) ∙ ap (λ l. list ++ map f l) (sym (drop_all k rows low)) ∙ is
-
 next_scope : (widest : List (Option Scope)) (rows : List Winner) (k at : ℕ) → scopes_from widest at (drop k rows) ≡ map (scope_at widest at) (option_to_list (slice_get rows k)) ++ scopes_from widest (at + 1) (drop (suc k) rows)
 next_scope widest [] zero at = refl
 next_scope widest [] (suc k) at = refl

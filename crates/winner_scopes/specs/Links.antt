@@ -1,9 +1,10 @@
 -- What declarations lead to, by the places of winners.
-use Rattle.std.specs.Prelude.{ℕ, ◌+◌, Bool, true, false, List, [], ◌∷◌, flat_map, get_or, map, slice_get, Option, Some, None, is_none, unwrap_or, if◌then◌else◌}
+use Rattle.std.specs.Prelude.{◌≡◌, ◌<◌, ℕ, ◌+◌, Bool, true, false, List, [], ◌∷◌, flat_map, get_or, length, map, slice_get, Option, Some, None, is_none, unwrap_or, if◌then◌else◌}
 use Rattle.collector.specs.Edges.{direct_edges}
 use Rattle.collector.specs.declared.edge.Edge.{Edge}
 use Rattle.collector.specs.declared.scope.Scope.{Scope}
 use Rattle.collector.specs.declared.scope.Scope.TheVariants.{Test}
+use Rattle.dependency_scopes.specs.Walks.{IsWidest}
 use Rattle.dependency_scopes.specs.declared.link.Link.{Link}
 use Rattle.mediation.specs.Rows.{edges_below, place_of}
 use Rattle.mediation.specs.declared.winner.Winner.{Winner}
@@ -37,14 +38,30 @@ link_below_at rows e (Some to) = if is_direct rows to then [] else link_of e to 
 abbrev pub link_below : List Winner → Edge → List Link
 link_below rows e = link_below_at rows e (place_of rows e.key)
 
+abbrev pub starts_of : List Winner → List Edge → List Link
+starts_of rows own = flat_map (link_to rows) own
+
 abbrev pub starts : List Winner → List Dependency → List Link
-starts rows direct = flat_map (link_to rows) (direct_edges direct)
+starts rows direct = starts_of rows (direct_edges direct)
+
+abbrev pub links_of : List Winner → List Edge → List Link
+links_of rows edges = flat_map (link_below rows) edges
 
 abbrev pub links_below : List (Key × Dependency) → List Winner → Winner → List Link
-links_below managed rows w = flat_map (link_below rows) (edges_below managed w)
+links_below managed rows w = links_of rows (edges_below managed w)
 
 abbrev pub links : List (Key × Dependency) → List Winner → List (List Link)
 links managed rows = map (links_below managed rows) rows
+
+-- lists hold what the project declares, and what the POM of each winner does
+pub record AreDeclared (managed : List (Key × Dependency)) (direct : List Dependency) (rows : List Winner) (own : List Edge) (below : List (List Edge)) : Type 0 where
+  pub own_is : own ≡ direct_edges direct
+  pub below_is : below ≡ map (edges_below managed) rows
+
+-- each place of a list has the widest scope that walks bring to it
+abbrev pub AreWidest : List Link → List (List Link) → List (Option Scope) → Type 0
+AreWidest first further scopes =
+    (place : ℕ) → place < length further → IsWidest first further place (get_or scopes place None)
 
 -- the scope of a winner at a place: the declared one, or the widest that was found
 abbrev pub found_scope : Option Scope → Scope

@@ -1,20 +1,20 @@
-ghost use Rattle.std.specs.Prelude.{◌≡◌, ◌<◌, ◌++◌, ℕ, None, Some, get_or, length, map, slice_get, IfOk, OnOk};
+ghost use Rattle.std.specs.Prelude.{◌≡◌, ◌++◌, ℕ, Some, get_or, length, map, slice_get, IfOk, OnOk};
+ghost use Rattle.std.specs.Prelude as logic;
 ghost use Rattle.std.specs.Option.{option_to_list};
 ghost use Rattle.collector.specs.declared.scope.Scope.TheVariants as scope;
 ghost use Rattle.mediation.specs.Libraries.{Libraries, graph_of};
 ghost use Rattle.mediation.specs.Rows.{IsWhole, paths_of};
 ghost use Rattle.winner_law.specs.Winners.{Path};
-ghost use Rattle.dependency_scopes.specs.Walks.{IsWidest};
-ghost use Rattle.winner_scopes.specs.Links.{links, scope_at, scopes_from, starts};
+ghost use Rattle.model_types.specs.declared.dependency.Dependency as dependencies;
+ghost use Rattle.mvn_base.specs.declared.key.Key as names;
+ghost use Rattle.winner_scopes.specs.Links.{AreDeclared, AreWidest, links_of, scope_at, scopes_from, starts_of};
 ghost use Rattle.winner_scopes.specs.Scopes.{IsScope};
 
 use crate::links::{links, starts};
-use collector::Scope;
+use collector::{Edge, Scope};
 use dependency_scopes::widest_scopes;
-use managed_deps::ManagedSet;
 use mediation::{Winner, Winners};
-use model_types::Dependency;
-use mvn_shared::{List, Mem, Shared};
+use mvn_shared::{List, Mem};
 use std::alloc::Global;
 
 // The scope of a winner at a place.
@@ -60,16 +60,15 @@ fn scopes_among(alloc: Global, widest: &[Option<Scope>], winners: &Winners) -> M
 // The widest scope that walks bring to each place.
 fn widest_of(
     alloc: Global,
-    direct: &[Shared<Dependency>],
-    managed: &ManagedSet,
+    own: &[Edge],
+    below: &[List<Edge>],
     winners: &Winners,
 ) -> Mem<List<Option<Scope>>>
-    ensures { IfOk result (λ scopes. (place : ℕ) → place < length (links managed.now winners.now)
-        → IsWidest (starts winners.now direct.now) (links managed.now winners.now) place
-        (get_or scopes place None)) }
+    ensures { IfOk result (λ scopes. AreWidest (starts_of winners.now own.now)
+        (map (links_of winners.now) below.now) scopes) }
 {
-    let starts = starts(alloc, direct, winners)?;
-    let links = links(alloc, managed, winners)?;
+    let starts = starts(alloc, own, winners)?;
+    let links = links(alloc, below, winners)?;
     let widest = widest_scopes(alloc, starts.as_slice(), links.as_slice())?;
     Ok(widest)
 }
@@ -77,22 +76,25 @@ fn widest_of(
 /// The scope of each winner of a project, in their order. What the project declares has the declared scope. Any other has the
 /// widest that a walk brings it: a walk begins with a declaration of the project, goes on along any declaration of the winner
 /// that it comes to, also one that doesn't count, and comes to no second winner that the project declares; from the widest
-/// on the scopes are compile, runtime, provided and test. `direct` and `managed` are those that the winners were found for.
-/// Costs the texts of each declaration, and a look-up. Introduction to the Dependency Mechanism, "Dependency Scope".
+/// on the scopes are compile, runtime, provided and test. `own` is what the project declares, `below` what the POM of each
+/// winner does. Costs a look-up for each. Introduction to the Dependency Mechanism, "Dependency Scope".
 pub fn scopes_of(
     alloc: Global,
-    direct: &[Shared<Dependency>],
-    managed: &ManagedSet,
+    own: &[Edge],
+    below: &[List<Edge>],
     winners: &Winners,
 ) -> Mem<List<Scope>>
     ensures long { IfOk result (λ scopes. length scopes ≡ length winners.now) }
-    ensures widest { IfOk result (λ scopes. (libraries : Libraries)
-        → IsWhole libraries (graph_of libraries managed.now direct.now) winners.now
+    ensures widest { IfOk result (λ scopes.
+        (libraries : Libraries) (managed : logic.List (names.Key × dependencies.Dependency))
+        (direct : logic.List dependencies.Dependency)
+        → AreDeclared managed direct winners.now own.now below.now
+        → IsWhole libraries (graph_of libraries managed direct) winners.now
         → (place : ℕ) (path : Path) → slice_get (paths_of winners.now) place ≡ Some path
-        → IsScope (graph_of libraries managed.now direct.now) (paths_of winners.now) path
+        → IsScope (graph_of libraries managed direct) (paths_of winners.now) path
         (get_or scopes place scope.Test)) }
 {
-    let widest = widest_of(alloc, direct, managed, winners)?;
+    let widest = widest_of(alloc, own, below, winners)?;
     let scopes = scopes_among(alloc, widest.as_slice(), winners)?;
     Ok(scopes)
 }

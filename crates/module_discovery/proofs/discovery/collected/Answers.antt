@@ -34,3 +34,6 @@ returns-in-Err-with_none-clause-says g c = λ world fits holds.
     let none : 1023 - c.loop.counter ≡ 0 = omega (arith, over) in
     subst (λ said. Fails said c.in-Err-with_none.fault) told.1
     (full_fails world c.args.given.now (1023 - c.loop.counter) c.loop.progress.found c.loop.progress.waiting c.in-Err-with_none.fault none (c.in-Err-with_none.ensures.says world c.args.given.now (inv.0 world fits) told.0))
+
+pub returns-in-Err-clause-keeps : goal.returns-in-Err-clause-keeps
+returns-in-Err-clause-keeps g c = λ path found there. c.in-Err.ensures.keeps path found (c.loop.invariant.3 path found there)

@@ -1,5 +1,5 @@
 use Rattle.std.specs.HashMap.{get}
-use Rattle.pom_lineage.specs.Beside.{gav_eq}
+use Rattle.mvn_base.specs.Gav.{gav_eq}
 use Rattle.project_libraries.proofs.Keeping.{known_built, known_more}
 use Rattle.project_libraries.proofs.known.built_anew.Goals as goal
 

@@ -1,6 +1,6 @@
 use Rattle.std.proofs.Common.{sym, ◌∙◌}
 use Rattle.std.specs.HashMap.{get}
-use Rattle.pom_lineage.specs.Beside.{gav_eq}
+use Rattle.mvn_base.specs.Gav.{gav_eq}
 use Rattle.project_libraries.proofs.Keeping.{module_put, module_there}
 use Rattle.project_libraries.proofs.memo.keep_module.Goals as goal
 

@@ -1,7 +1,7 @@
 use Rattle.std.proofs.Common.{refl}
 use Rattle.std.specs.HashMap.{get}
 use Rattle.mvn_outside.specs.Shelf.{files_now}
-use Rattle.pom_lineage.specs.Beside.{gav_eq}
+use Rattle.mvn_base.specs.Gav.{gav_eq}
 use Rattle.effective.specs.Kept.{HoldsAll}
 use Rattle.model_resolver.specs.Finding.{world_of}
 use Rattle.project_libraries.specs.Known.{libraries_of}

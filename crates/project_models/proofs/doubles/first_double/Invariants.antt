@@ -1,5 +1,5 @@
 use Rattle.std.specs.HashMap.{get}
-use Rattle.pom_lineage.specs.Beside.{gav_eq}
+use Rattle.mvn_base.specs.Gav.{gav_eq}
 use Rattle.project_models.proofs.Looking.{Looked}
 use Rattle.project_models.proofs.doubles.first_double.Given as goal
 

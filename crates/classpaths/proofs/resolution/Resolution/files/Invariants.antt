@@ -1,6 +1,7 @@
 use Rattle.std.proofs.Common.{◌≡◌, drop, flat_map, fold}
 use Rattle.std.specs.HashSet.{contains}
-use Rattle.classpaths.specs.Classpaths.{fetch_list, files_of, gav_eq, with_name}
+use Rattle.mvn_base.specs.Gav.{gav_eq}
+use Rattle.classpaths.specs.Classpaths.{fetch_list, files_of, with_name}
 use Rattle.classpaths.proofs.resolution.Resolution.files.Given as goal
 
 abbrev pub invariant-loop-at : goal.invariant-loop-at

@@ -1,6 +1,6 @@
 use Rattle.std.proofs.Common.{ap}
 use Rattle.std.specs.Map.{lookup}
-use Rattle.pom_lineage.specs.Beside.{gav_eq}
+use Rattle.mvn_base.specs.Gav.{gav_eq}
 use Rattle.effective.proofs.Storing.{nothing_held}
 use Rattle.effective.proofs.run_store.RunStore.over.Goals as goal
 

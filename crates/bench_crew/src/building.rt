@@ -1,0 +1,66 @@
+// Builds of a plan, each over an empty repository.
+ghost use Rattle.std.specs.Prelude.{[]};
+ghost use Rattle.event_core.specs.SoundPlans.{IsSoundPlan};
+ghost use Rattle.run_law.specs.Given.{IsPresent};
+ghost use Rattle.outside_mem.specs.FilesNamed.{files_named};
+
+use build_core::Plan;
+use crew::build_all;
+use mvn_outside::Hand;
+use mvn_shared::{List, Mem, OutOfMemory};
+use outside_mem::{MemArea, MemGate, MemRemote, MemShelf, NoFailures};
+use std::alloc::Global;
+use std::sync::Wait;
+use std::thread::Threads;
+
+type Worker = Hand<MemRemote<NoFailures>, MemArea<NoFailures>, MemGate<NoFailures>>;
+
+fn worker(alloc: Global) -> Mem<Worker> {
+    Ok(Hand {
+        remote: MemRemote::<NoFailures>::without_failures(alloc, List::new(alloc))?,
+        area: MemArea::<NoFailures>::without_failures(alloc),
+        gate: MemGate::<NoFailures>::without_failures(List::new(alloc)),
+    })
+}
+
+fn workers(alloc: Global, count: u32) -> Mem<Vec<Worker>> {
+    let mut hands = Vec::new(alloc);
+    for _ in 0..count {
+        hands.push(worker(alloc)?)?;
+    }
+    Ok(hands)
+}
+
+// How many events a build has.
+#[tactic(auto, using(mem_plans::proofs::Planned::starts))]
+fn build<W: Threads + Wait + Sync>(rt: &W, alloc: Global, plan: &Plan) -> Mem<u64>
+    requires sound { IsSoundPlan plan.now }
+    requires present { IsPresent plan.now (files_named []) }
+{
+    let shelf = MemShelf::<NoFailures>::without_failures(alloc, List::new(alloc))?;
+    let mut hands = workers(alloc, plan.workers)?;
+    if hands.len() != plan.workers as usize {
+        return Err(OutOfMemory);
+    }
+    match build_all(rt, alloc, plan, shelf, &mut hands) {
+        Ok(left) => Ok(left.trace.len() as u64),
+        Err(_) => Err(OutOfMemory),
+    }
+}
+
+/// How many events so many builds have together.
+pub(crate) fn events<W: Threads + Wait + Sync>(
+    rt: &W,
+    alloc: Global,
+    plan: &Plan,
+    times: u32,
+) -> Mem<u64>
+    requires sound { IsSoundPlan plan.now }
+    requires present { IsPresent plan.now (files_named []) }
+{
+    let mut count = 0u64;
+    for _ in 0..times {
+        count = count.wrapping_add(build(rt, alloc, plan)?);
+    }
+    Ok(count)
+}

@@ -1,0 +1,72 @@
+//! Plays builds over objects in memory by a board in one thread, which takes the turns of 1 to 4 workers in an order that is drawn, and
+//! compares each with the build by one hand. A line of standard input is one of these:
+//!
+//! - `calm FIRST COUNT`: of so many projects of up to 5 modules that are made from numbers, from the first on, how many left other endings,
+//!   files or answers than one hand leaves
+//! - `faults FIRST COUNT`: the same where calls of the repository, of the workers' remotes and areas, and of goals fail: how many left a file
+//!   that is neither from before nor one hand's, or a module otherwise than one hand that no fault touched; and whether enough had a fault
+#![tactic(auto)]
+
+mod by_one;
+mod deeds;
+mod hand;
+mod play;
+mod same;
+mod script;
+mod site;
+mod tell;
+mod work;
+mod world;
+
+use mvn_shared::Mem;
+use std::alloc::Global;
+use tell::{Counts, NONE, tell};
+
+// The number that a word spells, or 0.
+fn number(word: &str) -> u32 {
+    word.parse::<u32>().unwrap_or(0)
+}
+
+fn counted(alloc: Global, faulty: bool, first: u32, count: u32) -> Mem<Counts> {
+    let mut counts = NONE;
+    for at in 0..count {
+        let seed = first.wrapping_add(at);
+        counts.count(seed, tell(alloc, seed, faulty)?);
+    }
+    Ok(counts)
+}
+
+// How many builds left what they may not, and the number of the last of them.
+fn wrong_text(alloc: Global, counts: &Counts) -> Mem<String> {
+    let last = counts.last_wrong;
+    match counts.wrong {
+        0 => Ok(String::from_str(alloc, "none different")?),
+        wrong => Ok(format!(in alloc; "{wrong} different, the last of them {last}")?),
+    }
+}
+
+// What is told of a row: a word and two numbers.
+fn told(alloc: Global, row: &str) -> Mem<String> {
+    let (kind, numbers) = row.split_once(' ').unwrap_or((row, ""));
+    let (first, count) = numbers.split_once(' ').unwrap_or((numbers, ""));
+    let count = number(count);
+    let faulty = kind == "faults";
+    let counts = counted(alloc, faulty, number(first), count)?;
+    let wrong = wrong_text(alloc, &counts)?;
+    let much = match faulty {
+        false => "",
+        true if counts.faulty >= count / 4 => "at least a quarter with a fault, ",
+        true => "less than a quarter with a fault, ",
+    };
+    Ok(format!(in alloc; "{much}{wrong}\n")?)
+}
+
+fn main(rt: HostRuntime) -> anyhow::Result<()> {
+    for line in rt.lines(rt.alloc()) {
+        let line = line?;
+        println!(rt; "{line}")?;
+        let told = told(rt.alloc(), line.as_str())?;
+        print!(rt; "{told}")?;
+    }
+    Ok(())
+}

@@ -1,0 +1,138 @@
+// A whole build by one thread that plays all workers, in an order that is drawn.
+ghost use Rattle.event_core.specs.SoundPlans.{IsSoundPlan};
+ghost use Rattle.outside_mem.specs.FilesNamed.{files_named};
+ghost use Rattle.run_law.specs.Given.{IsPresent};
+
+use crate::hand::{Hand, Stage, Turn};
+use crate::site::Site;
+use crate::work::{Table, work};
+use crate::world::{Device, World};
+use board::{Finished, Next};
+use build_core::Plan;
+use mvn_shared::{List, Mem};
+use outside_mem::{Calls, MemArea, MemFile, MemRemote, MemShelf};
+use random_projects::{Draws, Project};
+use std::alloc::Global;
+
+/// The most turns of a build: none needs so many, unless workers wait for one another for ever.
+const TURNS: u32 = 100_000;
+
+/// What a whole build leaves; nothing where it didn't come to its end.
+pub(crate) type Left = Option<Finished<MemShelf<Calls>>>;
+
+fn hand(alloc: Global, project: &Project, world: &World, worker: u32) -> Mem<Hand> {
+    let files = project.remote.clone()?;
+    let remote = MemRemote::<Calls>::new(
+        alloc,
+        files,
+        &world.failing(alloc, Device::Remote(worker))?,
+    )?;
+    let area = MemArea::<Calls>::new(alloc, &world.failing(alloc, Device::Area(worker))?)?;
+    Ok(Hand {
+        remote,
+        area,
+        module: 0,
+        stage: Stage::Idle,
+    })
+}
+
+fn hands(alloc: Global, project: &Project, world: &World, count: u32) -> Mem<Vec<Hand>> {
+    let mut hands = Vec::new(alloc);
+    for worker in 0..count {
+        hands.push(hand(alloc, project, world, worker)?)?;
+    }
+    Ok(hands)
+}
+
+// An idle worker asks for a module.
+fn begin(site: &mut Table, worker: u32, hand: &mut Hand) -> Turn {
+    match site.start(worker) {
+        Some(Next::Module(number)) => {
+            hand.module = number;
+            Turn::Goes(Stage::Share(0))
+        }
+        Some(Next::Skipped(_)) => Turn::Goes(Stage::Idle),
+        Some(Next::Wait) => Turn::Waits,
+        Some(Next::Done) => Turn::Over,
+        None => Turn::Stuck,
+    }
+}
+
+fn turn(
+    alloc: Global,
+    site: &mut Table,
+    world: &World,
+    plan: &Plan,
+    worker: u32,
+    hand: &mut Hand,
+) -> Mem<Turn> {
+    if let Stage::Idle = hand.stage {
+        return Ok(begin(site, worker, hand));
+    }
+    match plan.modules.get(hand.module as usize) {
+        Some(module) => work(alloc, site, worker, hand, world, plan, module),
+        None => Ok(Turn::Stuck),
+    }
+}
+
+// Whether the build goes on behind a turn.
+fn goes_on(hand: &mut Hand, turn: Turn) -> bool {
+    match turn {
+        Turn::Goes(stage) => {
+            hand.stage = stage;
+            true
+        }
+        Turn::Waits => true,
+        Turn::Over | Turn::Stuck => false,
+    }
+}
+
+// Turns of workers that are drawn, until all is over or a worker is stuck.
+fn play(
+    alloc: Global,
+    site: &mut Table,
+    world: &World,
+    plan: &Plan,
+    hands: &mut Vec<Hand>,
+) -> Mem<()> {
+    let mut draws = Draws::new(world.seed.wrapping_mul(7));
+    for _ in 0..TURNS {
+        let worker = drawn(&mut draws, plan.workers);
+        let Some(hand) = hands.get_mut(worker as usize) else {
+            return Ok(());
+        };
+        let turn = turn(alloc, site, world, plan, worker, hand)?;
+        if !goes_on(hand, turn) {
+            return Ok(());
+        }
+    }
+    Ok(())
+}
+
+// One of so many, where there are any.
+fn drawn(draws: &mut Draws, count: u32) -> u32 {
+    if count == 0 { 0 } else { draws.below(count) }
+}
+
+/// The build of a plan by its workers, in turns that are drawn.
+pub(crate) fn build(alloc: Global, project: &Project, plan: &Plan, world: &World) -> Mem<Left>
+    requires sound { IsSoundPlan plan.now }
+    requires present { IsPresent plan.now (files_named project.now.local) }
+{
+    let mut hands = hands(alloc, project, world, plan.workers)?;
+    let mut site = site(alloc, project, plan, world)?;
+    play(alloc, &mut site, world, plan, &mut hands)?;
+    Ok(site.finish())
+}
+
+// The site of a build that hasn't begun.
+#[tactic(auto, using(mem_plans::proofs::Planned::starts))]
+fn site<'a>(alloc: Global, project: &Project, plan: &'a Plan, world: &World) -> Mem<Table<'a>>
+    requires sound { IsSoundPlan plan.now }
+    requires present { IsPresent plan.now (files_named project.now.local) }
+{
+    let failing = world.failing(alloc, Device::Shelf)?;
+    let files = project.local.clone()?;
+    let shelf = MemShelf::<Calls>::new(alloc, files, &failing)?;
+    Site::new(alloc, plan, shelf)
+}

@@ -1,0 +1,4 @@
+pub mod Building
+pub mod Calls
+pub mod LastLines
+pub mod Lists

@@ -1,0 +1,44 @@
+-- A build of a plan over objects in memory, and its summary. Project rule.
+use Rattle.std.specs.Prelude.{◌≡◌, ℕ, false, List, length, Some, Result, Ok, Err, IfOk}
+use Rattle.std.specs.FinMap as finite
+use Rattle.mvn_shared.specs.declared.memory.OutOfMemory.{OutOfMemory}
+use Rattle.mvn_outside.specs.Shelf.{files_now}
+use Rattle.mvn_outside.specs.declared.shelf.ShelfTold.{ShelfTold}
+use Rattle.build_core.specs.declared.event.Answered.{Answered}
+use Rattle.build_core.specs.declared.event.Event.{Event}
+use Rattle.crew_stages.specs.Hands.{HandState}
+use Rattle.crew_outcome.specs.Left.{Outside}
+use Rattle.crew_outcome.specs.Reports.{Reports}
+use Rattle.crew_outcome.specs.declared.outcome.Outcome.{Outcome}
+use Rattle.outcome_laws.specs.Crews.{hand_of}
+use Rattle.plan_numbers.specs.declared.selected.Planned.{Planned}
+use Rattle.mvn_top.specs.Headline.{told_of}
+use Rattle.mvn_top.specs.Seen.{with_first}
+use Rattle.make_project.specs.Summaries.{summary_with}
+use Rattle.generated_run.specs.Generated.{entries_of}
+use Rattle.generated_run.specs.LastLines.{last_line}
+
+-- the summary of a report, whose last line is the line of totals
+abbrev pub IsSummedUp : (poms : ℕ) → Planned → (files : ℕ) → (report : Result Outcome OutOfMemory) → Outcome → Type 0
+IsSummedUp poms p files (Ok report) answer = answer ≡ record report { text = summary_with poms (last_line report.text) (entries_of p.resolutions) files }
+IsSummedUp poms p files (Err error) answer = ⊥
+
+-- no device of a hand has failed, and none at all
+pub record IsFaultless (hand : HandState) : Type 0 where
+  pub remote : hand.remote ≡ 0
+  pub area : hand.area ≡ 0
+  pub gate : hand.gate ≡ 0
+
+pub record HasNoFaults (outside : Outside) : Type 0 where
+  pub shelf : outside.faults ≡ 0
+  pub hands : (w : ℕ) → IsFaultless (hand_of outside.hands w)
+
+-- a plan was built by the first hands, no device failed, and what is answered sums the report up
+pub record SumsUp (poms : ℕ) (p : Planned) (before : Outside) (trace : List Event) (answers : List Answered) (said : Result Outcome OutOfMemory) : Type 0 where
+  pub report : Result Outcome OutOfMemory
+  pub after : Outside
+  pub told : ShelfTold
+  pub tells : after.shelf ≡ Some told
+  pub faultless : HasNoFaults after
+  pub reports : Reports p.plan (told_of false p) (with_first p.plan.workers before) (with_first p.plan.workers after) trace answers report
+  pub summed : IfOk said (IsSummedUp poms p (length (finite.keys (files_now told))) report)

@@ -1,0 +1,13 @@
+//! A build of the generated project, of which everything outside is made in memory: its plan, its run by the crew, and its summary. Project
+//! rules.
+#![tactic(auto)]
+
+mod counts;
+mod hands;
+mod run;
+mod summing;
+mod words;
+
+pub use hands::MemHand;
+pub use run::{GeneratedCall, build_generated};
+pub use words::run_words;

@@ -1,0 +1,7 @@
+pub use Rattle.outside_mem.specs.FilesNamed
+pub use Rattle.outside_mem.specs.Tree
+pub use Rattle.run_report.specs.Report
+pub mod Poms
+pub mod Projects
+pub mod Summaries
+pub mod Worked

@@ -1,0 +1,69 @@
+// Who has the bytes of a text.
+ghost use Rattle.std.specs.Prelude.{◌≡◌, ◌++◌, IfOk};
+ghost use Rattle.std.specs.String.{string_bytes};
+ghost use Rattle.mvn_shared.specs.Held.{held_bytes};
+
+use crate::memory::Mem;
+use crate::shared::Shared;
+use std::alloc::{AllocError, Global};
+
+/// The bytes of a text: it alone has them, and may add to them, or it shares them with its copies.
+#[derive(Drop)]
+pub enum Held {
+    Own(String),
+    Common(Shared<String>),
+}
+
+impl Held {
+    /// The same bytes, which copies share; empty ones need no memory, so they aren't shared.
+    pub(crate) fn shared(self, alloc: Global) -> Mem<Held>
+        ensures { IfOk result (λ shared. held_bytes shared ≡ held_bytes self) }
+    {
+        match self {
+            Held::Own(text) => {
+                if text.is_empty() {
+                    Ok(Held::Own(text))
+                } else {
+                    Ok(Held::Common(Shared::new(alloc, text)?))
+                }
+            }
+            Held::Common(text) => Ok(Held::Common(text)),
+        }
+    }
+
+    /// The bytes with further ones behind them, which the result alone has.
+    pub(crate) fn with(&self, more: &str) -> Mem<Held>
+        ensures { IfOk result (λ longer. held_bytes longer ≡ held_bytes self.now ++ more.now) }
+    {
+        let mut text = self.string().clone()?;
+        text.push_str(more)?;
+        Ok(Held::Own(text))
+    }
+
+    /// The same bytes once more, in constant time where they are shared.
+    pub(crate) fn copy(&self) -> Result<Held, AllocError>
+        ensures { IfOk result (λ copy. held_bytes copy ≡ held_bytes self.now) }
+    {
+        match self {
+            Held::Own(text) => Ok(Held::Own(text.clone()?)),
+            Held::Common(text) => Ok(Held::Common(text.clone()?)),
+        }
+    }
+
+    // The string that holds the bytes.
+    fn string(&self) -> &String
+        ensures { string_bytes result.now ≡ held_bytes self.now }
+    {
+        match self {
+            Held::Own(text) => text,
+            Held::Common(text) => text.value(),
+        }
+    }
+
+    /// The bytes.
+    pub(crate) fn as_str(&self) -> &str
+        ensures { result.now ≡ held_bytes self.now }
+    {
+        self.string().as_str()
+    }
+}

@@ -1,0 +1,2 @@
+mod Leftovers
+mod Moments

@@ -1,0 +1,100 @@
+// Builds of a project over objects in memory.
+use crate::project::Project;
+use gate_builtin::Builtin;
+use mvn_base::Machine;
+use mvn_outside::Hand;
+use mvn_shared::{Bytes, List, Mem, OutOfMemory, Text};
+use mvn_top::mvn;
+use outside_mem::{Failures, MemArea, MemRemote, MemShelf, MemSink, MemTree, NoFailures};
+use std::alloc::Global;
+use std::sync::Wait;
+use std::thread::Threads;
+
+/// A hand with the built-in goals, of whose area calls may fail.
+pub(crate) type Worker<F> = Hand<MemRemote<NoFailures>, MemArea<F>, Builtin>;
+
+/// What a build leaves: its exit status, the text that it wrote, and the repository.
+#[derive(Drop)]
+pub(crate) struct Left<F> {
+    pub(crate) status: u8,
+    pub(crate) text: Bytes,
+    pub(crate) shelf: MemShelf<F>,
+}
+
+// A machine of which the folder of the project alone is known.
+fn machine(alloc: Global) -> Mem<Machine> {
+    let root = Text::from_str(alloc, "/w")?;
+    Ok(Machine {
+        root,
+        env: List::new(alloc),
+        system: List::new(alloc),
+        jdk: Text::of(String::new(alloc)),
+        os_name: Text::of(String::new(alloc)),
+        os_family: Text::of(String::new(alloc)),
+        os_arch: Text::of(String::new(alloc)),
+        os_version: Text::of(String::new(alloc)),
+    })
+}
+
+// The words of an install by so many workers.
+fn words(alloc: Global, workers: usize) -> Mem<Vec<Bytes>> {
+    let number = format!(in alloc; "{workers}")?;
+    let mut words = Vec::new(alloc);
+    for word in ["install", "-T", number.as_str()] {
+        words.push(Bytes::from_slice(alloc, word.as_bytes())?)?;
+    }
+    Ok(words)
+}
+
+/// A hand with this area, whose remote has the project's remote files.
+pub(crate) fn worker<F: Drop>(
+    alloc: Global,
+    project: &Project,
+    area: MemArea<F>,
+) -> Mem<Worker<F>> {
+    let files = project.remote.clone()?;
+    Ok(Hand {
+        remote: MemRemote::without_failures(alloc, files)?,
+        area,
+        gate: Builtin::new(alloc),
+    })
+}
+
+/// So many hands whose areas have no piece.
+pub(crate) fn hands(
+    alloc: Global,
+    project: &Project,
+    count: usize,
+) -> Mem<Vec<Worker<NoFailures>>> {
+    let mut hands = Vec::new(alloc);
+    for _ in 0..count {
+        hands.push(worker(alloc, project, MemArea::without_failures(alloc))?)?;
+    }
+    Ok(hands)
+}
+
+/// What an install by so many workers leaves, over this repository and these hands; there are 1 to 16 of them.
+pub(crate) fn build<W: Threads + Wait + Sync, F: Failures + Send + Drop>(
+    rt: &W,
+    alloc: Global,
+    project: &Project,
+    workers: usize,
+    shelf: MemShelf<F>,
+    hands: &mut Vec<Worker<F>>,
+) -> Mem<Left<F>> {
+    if hands.is_empty() || hands.len() > 16 {
+        return Err(OutOfMemory);
+    }
+    let mut tree = MemTree::without_failures(alloc, project.tree.clone()?)?;
+    let mut sink = MemSink::without_failures(alloc);
+    let words = words(alloc, workers)?;
+    let machine = machine(alloc)?;
+    let ended = mvn(
+        rt, alloc, &words, machine, &mut tree, shelf, hands, &mut sink,
+    );
+    Ok(Left {
+        status: ended.status,
+        text: Bytes::from_slice(alloc, sink.bytes())?,
+        shelf: ended.shelf,
+    })
+}

@@ -1,6 +1,0 @@
-use Rattle.std.proofs.Common.{◌≡◌, ◌++◌, drop, flat_map}
-use Rattle.winner_scopes.specs.Links.{link_to}
-use Rattle.winner_scopes.proofs.links.links_to.Given as goal
-
-abbrev pub invariant-loop-at : goal.invariant-loop-at
-invariant-loop-at l = l.list ++ flat_map (link_to l.winners) (drop l.at l.edges) ≡ flat_map (link_to l.winners) l.edges

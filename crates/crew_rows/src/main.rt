@@ -3,8 +3,8 @@
 //!
 //! - `goals N LOOKS`: the status and the report of an install by N workers of a root with three modules, of which none needs another. The
 //!   first goals wait until three have begun, and fail as `alone` where so many looks haven't seen it
-//! - `fetch N LOOKS`: the same where `b` needs a library of the remote repository: its jar isn't handed out before a goal of `a` runs, and
-//!   that goal runs until one of `b` does
+//! - `fetch N LOOKS`: the same where `b` needs a library of the remote repository: the first goal of `a` runs until its jar is asked for, and
+//!   the jar isn't handed out before the next goal runs; where that was in vain, all goals fail
 //! - `fails N`: the same, and the files that it leaves, where no goal waits, the tests of `a` fail, and `b` needs `a`
 //! - `random FIRST COUNT`: of so many projects that are made from numbers, from the first on, how many are built, and whether 1 to 16 workers
 //!   leave the report, the files and the answers that one leaves

@@ -29,13 +29,12 @@ fn waited<W: Threads + Wait + Sync>(
     alloc: Global,
     project: &Project,
     workers: u32,
-    looks: u32,
+    meeting: &Meeting,
 ) -> Mem<String> {
-    let meeting = Meeting::new(looks);
     let manner = Manner {
         workers,
         faults: None,
-        meeting: Some(&meeting),
+        meeting: Some(meeting),
     };
     let left = build(rt, alloc, project, &manner)?;
     report_text(alloc, &left)
@@ -49,7 +48,8 @@ pub(crate) fn goals<W: Threads + Wait + Sync>(
     looks: u32,
 ) -> Mem<String> {
     let project = independent(alloc)?;
-    waited(rt, alloc, &project, workers, looks)
+    let meeting = Meeting::of_goals(looks);
+    waited(rt, alloc, &project, workers, &meeting)
 }
 
 /// An install of three modules, where a goal and a fetch wait for each other.
@@ -60,7 +60,8 @@ pub(crate) fn fetch<W: Threads + Wait + Sync>(
     looks: u32,
 ) -> Mem<String> {
     let project = fetching(alloc)?;
-    waited(rt, alloc, &project, workers, looks)
+    let meeting = Meeting::of_a_fetch(looks);
+    waited(rt, alloc, &project, workers, &meeting)
 }
 
 // A name and how many bytes it has, where it has a file.

@@ -9,26 +9,36 @@ use std::alloc::Global;
 use std::sync::atomic::{AtomicU32, Ordering};
 use std::thread;
 
-// How many calls have begun once a jar is fetched.
-const AT_FETCH: u32 = 2;
-
-// How many have begun once a goal runs.
-const AT_GOAL: u32 = 3;
-
-/// How many calls have begun, and how often one looks whether others have.
+/// How many calls have begun, how many have to before a goal goes on and before a jar is handed out, how often one looks whether they have,
+/// and how many fetches looked in vain.
 #[derive(Drop)]
 pub(crate) struct Meeting {
     begun: AtomicU32,
+    vain: AtomicU32,
+    at_goal: u32,
+    at_fetch: u32,
     looks: u32,
 }
 
 impl Meeting {
-    /// No call has begun.
-    pub(crate) fn new(looks: u32) -> Meeting {
+    fn new(at_goal: u32, at_fetch: u32, looks: u32) -> Meeting {
         Meeting {
             begun: AtomicU32::new(0),
+            vain: AtomicU32::new(0),
+            at_goal,
+            at_fetch,
             looks,
         }
+    }
+
+    /// The first goals wait until three have begun.
+    pub(crate) fn of_goals(looks: u32) -> Meeting {
+        Meeting::new(3, 0, looks)
+    }
+
+    /// The first goal waits until a fetch has begun, and the fetch until the next goal has.
+    pub(crate) fn of_a_fetch(looks: u32) -> Meeting {
+        Meeting::new(2, 3, looks)
     }
 
     // Begins a call, and looks until so many have begun. Whether they have.
@@ -42,17 +52,29 @@ impl Meeting {
         }
         false
     }
+
+    // Begins a goal. Whether the others have begun, and no fetch looked in vain.
+    fn goal(&self) -> bool {
+        self.join(self.at_goal) && self.vain.load(Ordering::SeqCst) == 0
+    }
+
+    // Begins a fetch.
+    fn fetch(&self) {
+        if !self.join(self.at_fetch) {
+            self.vain.fetch_add(1, Ordering::SeqCst);
+        }
+    }
 }
 
-// Begins a call, where calls wait.
-fn meet(meeting: Option<&Meeting>, wanted: u32) -> bool {
+// Begins a goal, where goals wait.
+fn goes_on(meeting: Option<&Meeting>) -> bool {
     match meeting {
-        Some(meeting) => meeting.join(wanted),
+        Some(meeting) => meeting.goal(),
         None => true,
     }
 }
 
-/// The built-in goals. The first of them wait until three calls have begun, and fail as `alone` where they never have.
+/// The built-in goals. The first of them wait, and they fail as `alone` where that was in vain.
 #[derive(Drop)]
 pub(crate) struct WaitingGate<'a, F> {
     pub(crate) alloc: Global,
@@ -84,7 +106,7 @@ impl<'a, F: Failures> Gate for WaitingGate<'a, F> {
         if self.calls.next_fails() {
             return Err(DeviceFault::Failed);
         }
-        if !meet(self.meeting, AT_GOAL) {
+        if !goes_on(self.meeting) {
             return match alone(self.alloc) {
                 Ok(answer) => Ok(answer),
                 Err(_) => Err(DeviceFault::Memory),
@@ -97,7 +119,7 @@ impl<'a, F: Failures> Gate for WaitingGate<'a, F> {
     }
 }
 
-/// A repository of which the first call for a jar waits until two calls have begun.
+/// A repository of which calls for a jar wait.
 #[derive(Drop)]
 pub(crate) struct WaitingRemote<'a, R> {
     pub(crate) files: R,
@@ -115,7 +137,9 @@ impl<'a, R: Remote> Remote for WaitingRemote<'a, R> {
 
     fn fetch(&mut self, name: &FileName, limit: u64) -> Result<Option<Bytes>, ReadFault> {
         if name.as_text().as_str().ends_with(".jar") {
-            meet(self.meeting, AT_FETCH);
+            if let Some(meeting) = self.meeting {
+                meeting.fetch();
+            }
         }
         self.files.fetch(name, limit)
     }

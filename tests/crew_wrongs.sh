@@ -2,7 +2,7 @@
 # Tries, by hand and with no proof, bodies of the crew by which one worker does all, or keeps the others from their turns while it runs a goal
 # or fetches. No contract refuses them, since nothing is promised about who works when; the stored run of crew_rows has to. Each is built by
 # `rt try` from a copy, and given the first rows of that run one by one: it is caught where a row isn't answered as it is stored. Each takes some
-# minutes. `fetch_in_a_turn` isn't caught by the rows that there are. usage: crew_wrongs.sh [NAME ..], of the names below; all if absent.
+# minutes. usage: crew_wrongs.sh [NAME ..], of the names below; all if absent.
 . "$(dirname "$0")/cases.sh"
 command -v rt > /dev/null || stop "the command rt of the Rattle kit is not on the PATH"
 wanted=" $* "

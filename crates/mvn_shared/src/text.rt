@@ -71,11 +71,11 @@ impl Text {
         }
     }
 
-    /// A copy of a text, which its own copies share.
+    /// A copy of a text. It alone has its bytes: a copy of it copies them.
     pub fn from_str(alloc: Global, text: &str) -> Mem<Text>
         ensures { IfOk result (λ copy. copy ≡ text.now) }
     {
-        Text::of(String::from_str(alloc, text)?).shared(alloc)
+        Ok(Text::of(String::from_str(alloc, text)?))
     }
 
     /// The text that a `String` holds. Takes no memory; a copy of it copies its bytes.

@@ -93,6 +93,13 @@ fn filled_or<'a>(nodes: &'a [Node], node: Option<&'a Node>, name: &str, default:
     filled(nodes, node, name).unwrap_or(default)
 }
 
+// A copy of a text, which its own copies share: coordinates are copied into keys and edges often.
+fn copied(alloc: Global, text: &str) -> Mem<Text>
+    ensures { IfOk result (λ copy. copy ≡ text.now) }
+{
+    Text::from_str(alloc, text)?.shared(alloc)
+}
+
 /// The text of the first element of a name, where it isn't empty. Costs the number of elements, and the text.
 pub(crate) fn text_of(
     alloc: Global,
@@ -103,7 +110,7 @@ pub(crate) fn text_of(
     ensures { IfOk result (λ text. text ≡ text_of nodes.now name.now (option_copied node.entry)) }
 {
     match filled(nodes, node, name) {
-        Some(text) => Ok(Some(Text::from_str(alloc, text)?)),
+        Some(text) => Ok(Some(copied(alloc, text)?)),
         None => Ok(None),
     }
 }
@@ -119,7 +126,7 @@ pub(crate) fn text_or(
     ensures { IfOk result (λ text.
         text ≡ text_or nodes.now name.now default.now (option_copied node.entry)) }
 {
-    Text::from_str(alloc, filled_or(nodes, node, name, default))
+    copied(alloc, filled_or(nodes, node, name, default))
 }
 
 /// Whether the first element of a name has a text that isn't empty.

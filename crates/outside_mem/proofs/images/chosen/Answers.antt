@@ -1,4 +1,4 @@
-use Rattle.std.proofs.Common.{◌≡◌, ◌∙◌, arith, drop}
+use Rattle.std.proofs.Common.{◌∙◌, arith, drop}
 use Rattle.outside_mem.specs.Image.{chosen}
 use Rattle.outside_mem.proofs.Moments.{chosen_end, nothing_more}
 use Rattle.outside_mem.proofs.images.chosen.Goals as goal

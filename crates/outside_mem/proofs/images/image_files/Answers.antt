@@ -1,4 +1,4 @@
-use Rattle.std.proofs.Common.{◌≡◌, ap, ◌∙◌}
+use Rattle.std.proofs.Common.{ap, ◌∙◌}
 use Rattle.outside_mem.specs.FilesNamed.{files_named}
 use Rattle.outside_mem.proofs.Moments.{made_files}
 use Rattle.outside_mem.proofs.images.image_files.Goals as goal

@@ -1,4 +1,4 @@
-use Rattle.std.proofs.Common.{◌≡◌, ◌≤◌, ℕ, List, sym, subst, arith}
+use Rattle.std.proofs.Common.{◌≤◌, ℕ, List, sym, subst, arith}
 use Rattle.outside_mem.specs.Image.{settled_at}
 use Rattle.outside_mem.proofs.Moments.{one_date}
 use Rattle.outside_mem.proofs.shelf.MemShelf.note.Goals as goal

@@ -10,9 +10,9 @@ use Rattle.build_core.specs.declared.event.Event.{Event}
 use Rattle.outcome_laws.specs.Crews.{hand_of}
 use Rattle.crew_outcome.specs.Left.{HandFailed}
 use Rattle.crew_outcome.specs.declared.outcome.Outcome.{Outcome}
-use Rattle.mvn_top.specs.Ending.{IsWhole}
-use Rattle.mvn_top.specs.Headline.{Comes, IsWanted, OneFailed}
-use Rattle.mvn_top.specs.Seen.{After, Seen, used}
+use Rattle.mvn_call.specs.Ending.{IsWhole}
+use Rattle.mvn_call.specs.Headline.{Comes, IsWanted, OneFailed}
+use Rattle.mvn_call.specs.Seen.{After, Seen, used}
 use Rattle.call_laws.specs.Complete.{EndsCall, IsAnswered, NothingFailed}
 
 -- a count that stands, and not at its end, hasn't risen

@@ -30,8 +30,8 @@ use Rattle.crew_turns.proofs.Opening.{open_is}
 use Rattle.cli_words.specs.declared.command_line.CommandLine.{CommandLine}
 use Rattle.outcome_laws.specs.Crews.{start_of, told_of}
 use Rattle.crew_outcome.specs.declared.outcome.Outcome.{Outcome}
-use Rattle.mvn_top.specs.Headline.{IsHistory}
-use Rattle.mvn_top.specs.Seen.{After, Seen, used}
+use Rattle.mvn_call.specs.Headline.{IsHistory}
+use Rattle.mvn_call.specs.Seen.{After, Seen, used}
 use Rattle.call_laws.specs.Numbered.{AreKeptOnce, begins, begun_by, goal_by, goals_from, goals_of_trace, numbers_of}
 
 -- ---- the module that a worker has open is the one that it began last

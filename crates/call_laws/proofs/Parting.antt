@@ -19,9 +19,9 @@ use Rattle.outcome_laws.proofs.Names.{told_contents}
 use Rattle.outcome_laws.proofs.Sides as sides
 use Rattle.crew_outcome.specs.Left.{IsCallRun, IsIdle}
 use Rattle.crew_outcome.specs.declared.outcome.Outcome.{Outcome}
-use Rattle.mvn_top.specs.Headline.{IsFoundIn, IsHistory}
-use Rattle.mvn_top.specs.Seen.{After, Seen, used}
-use Rattle.mvn_top.proofs.Present.{found_is, is_present_told}
+use Rattle.mvn_call.specs.Headline.{IsFoundIn, IsHistory}
+use Rattle.mvn_call.specs.Seen.{After, Seen, used}
+use Rattle.mvn_call.proofs.Present.{found_is, is_present_told}
 use Rattle.call_laws.specs.Apart.{FaultsStayApart}
 
 -- what a repository tells behind a run's publishes, so many of them settled

@@ -13,8 +13,8 @@ use Rattle.outcome_laws.specs.AsOne.{EndsApart}
 use Rattle.plan_numbers.specs.declared.selected.Planned.{Planned}
 use Rattle.crew_outcome.specs.Left.{IsCallRun}
 use Rattle.crew_outcome.specs.declared.outcome.Outcome.{Outcome}
-use Rattle.mvn_top.specs.Headline.{IsFoundIn}
-use Rattle.mvn_top.specs.Seen.{After, Seen, used}
+use Rattle.mvn_call.specs.Headline.{IsFoundIn}
+use Rattle.mvn_call.specs.Seen.{After, Seen, used}
 
 -- A plan of the line was built by the hands that are used, with these events and answers. By any answers that extend the kept ones, a module
 -- that no fault touched stands and keeps outputs as in the build by one thread, and so does each that ended otherwise; and each file of

@@ -1,4 +1,4 @@
-pub use Rattle.mvn_top.specs.Headline
+pub use Rattle.mvn_call.specs.Headline
 pub mod Apart
 pub mod Complete
 pub mod Numbered

@@ -4,8 +4,8 @@ ghost use Rattle.build_core.specs.declared.event.Answered.{Answered};
 ghost use Rattle.build_core.specs.declared.event.Event.{Event};
 ghost use Rattle.cli_words.specs.declared.command_line.CommandLine.{CommandLine};
 ghost use Rattle.crew_outcome.specs.declared.outcome.Outcome.{Outcome};
-ghost use Rattle.mvn_top.specs.Headline.{IsHistory};
-ghost use Rattle.mvn_top.specs.Seen.{After, Seen};
+ghost use Rattle.mvn_call.specs.Headline.{IsHistory};
+ghost use Rattle.mvn_call.specs.Seen.{After, Seen};
 ghost use Rattle.call_laws.specs.Numbered.{AreKeptOnce, goals_of_trace, numbers_of};
 
 /// A law: what the clause `history` of `mvn` says of a call makes its answers those of its trace, one for each event `Answer`, in order, to

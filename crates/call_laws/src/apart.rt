@@ -8,8 +8,8 @@ ghost use Rattle.cli_words.specs.declared.command_line.CommandLine.{CommandLine}
 ghost use Rattle.outcome_laws.specs.Crews.{AllTellFiles};
 ghost use Rattle.crew_outcome.specs.Left.{IsIdle};
 ghost use Rattle.crew_outcome.specs.declared.outcome.Outcome.{Outcome};
-ghost use Rattle.mvn_top.specs.Headline.{IsHistory};
-ghost use Rattle.mvn_top.specs.Seen.{After, Seen, used};
+ghost use Rattle.mvn_call.specs.Headline.{IsHistory};
+ghost use Rattle.mvn_call.specs.Seen.{After, Seen, used};
 ghost use Rattle.call_laws.specs.Apart.{FaultsStayApart};
 
 /// A law: whatever fails in a call, and with every status, the clause `history` of `mvn` says that nothing was done, or that a plan was

@@ -11,8 +11,8 @@ use Rattle.crew_outcome.specs.declared.outcome.Outcome.{Outcome}
 use Rattle.crew_stages.specs.Hands.{HandState}
 use Rattle.crew_outcome.specs.Left.{IsIdle, Outside, TellAsBefore, outside_by}
 use Rattle.mvn_top.specs.Calls.{Calls}
-use Rattle.mvn_top.specs.Ending.{Ends, HasNone, IsFault, IsLow, IsWhole, without_memory}
-use Rattle.mvn_top.specs.Seen.{After, Seen}
+use Rattle.mvn_call.specs.Ending.{Ends, HasNone, IsFault, IsLow, IsWhole, without_memory}
+use Rattle.mvn_call.specs.Seen.{After, Seen}
 use Rattle.mvn_top.proofs.Calling.{calls_none}
 use Rattle.mvn_top.proofs.First.{same_tells}
 use Rattle.mvn_top.proofs.Stops.{stops_between}

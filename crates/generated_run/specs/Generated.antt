@@ -16,8 +16,8 @@ use Rattle.event_core.specs.declared.entry.RunEntry.{RunEntry}
 use Rattle.plan_numbers.specs.declared.selected.Planned.{Planned}
 use Rattle.crew_outcome.specs.Left.{IsCallRun, Outside}
 use Rattle.crew_outcome.specs.declared.outcome.Outcome.{Outcome}
-use Rattle.mvn_top.specs.Found.{IsFound}
-use Rattle.mvn_top.specs.Headline.{Agrees, World, files_after, supply_of, told_of}
+use Rattle.mvn_call.specs.Found.{IsFound}
+use Rattle.mvn_call.specs.Headline.{Agrees, World, files_after, supply_of, told_of}
 use Rattle.make_project.specs.Summaries.{summary_text}
 use Rattle.generated_run.specs.Made.{made, project, remote}
 

@@ -1,4 +1,4 @@
-pub use Rattle.mvn_top.specs.Headline
+pub use Rattle.mvn_call.specs.Headline
 pub use Rattle.make_project.specs.Projects
 pub use Rattle.make_project.specs.Summaries
 pub mod Generated

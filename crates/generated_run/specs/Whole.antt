@@ -9,9 +9,9 @@ use Rattle.cli_words.specs.declared.command_line.CommandLine.{CommandLine}
 use Rattle.crew_outcome.specs.Left.{AreEmpty, TellAsBefore}
 use Rattle.crew_outcome.specs.Once.{PublishesOnce, StopsBetween}
 use Rattle.crew_outcome.specs.declared.outcome.Outcome.{Outcome}
-use Rattle.mvn_top.specs.Ending.{Ends, IsWhole, without_memory}
-use Rattle.mvn_top.specs.Headline.{IsCall, IsHistory, IsUnchanged, IsWanted, NoneFailed, OneFailed}
-use Rattle.mvn_top.specs.Seen.{After, IfAllTell, LeavesSo, Seen, used}
+use Rattle.mvn_call.specs.Ending.{Ends, IsWhole, without_memory}
+use Rattle.mvn_call.specs.Headline.{IsCall, IsHistory, IsUnchanged, IsWanted, NoneFailed, OneFailed}
+use Rattle.mvn_call.specs.Seen.{After, IfAllTell, LeavesSo, Seen, used}
 use Rattle.generated_run.specs.Generated.{IsGenerated, IsGeneratedRun, IsNothing, IsOfRun}
 
 -- what a call answered and wrote: its status, the sink before and after, and how often that failed so far

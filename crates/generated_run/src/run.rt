@@ -2,7 +2,7 @@
 ghost use Rattle.std.specs.Prelude.{◌≡◌, ◌≤◌, [], length, map, replicate, IfOk};
 ghost use Rattle.event_core.specs.SoundPlans.{IsSoundPlan};
 ghost use Rattle.mvn_outside.specs.Shelf.{files_now};
-ghost use Rattle.mvn_top.specs.Found.{given_of};
+ghost use Rattle.mvn_call.specs.Found.{given_of};
 ghost use Rattle.outside_mem.specs.Shelf.{shelf_told};
 ghost use Rattle.outside_mem.specs.Tree.{tree_files};
 ghost use Rattle.run_law.specs.Given.{IsPresent};

@@ -2,8 +2,8 @@
 ghost use Rattle.std.specs.Prelude.{◌≡◌, ◌≤◌, length};
 ghost use Rattle.crew_stages.specs.Hands.{state_by};
 ghost use Rattle.crew_outcome.specs.Left.{outside_by};
-ghost use Rattle.mvn_top.specs.Commands.{asked};
-ghost use Rattle.mvn_top.specs.Seen.{After, OthersStay, Seen};
+ghost use Rattle.mvn_call.specs.Commands.{asked};
+ghost use Rattle.mvn_call.specs.Seen.{After, OthersStay, Seen};
 ghost use Rattle.generated_run.specs.Whole.{IsGeneratedCall, IsWordsCall};
 
 use crate::run::build_generated;

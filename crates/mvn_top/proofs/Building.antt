@@ -18,14 +18,14 @@ use Rattle.crew_outcome.specs.declared.outcome.Outcome.{Outcome}
 use Rattle.crew_outcome.specs.Left.{Outside, outside_by}
 use Rattle.crew_outcome.specs.Reports.{Reports}
 use Rattle.mvn_top.specs.Calls.{Calls}
-use Rattle.mvn_top.specs.Found.{given_of, IsFoundBy}
-use Rattle.mvn_top.specs.Headline.{IsFoundIn, told_of}
-use Rattle.mvn_top.specs.Outcome.{fault_line}
+use Rattle.mvn_call.specs.Found.{given_of, IsFoundBy}
+use Rattle.mvn_call.specs.Headline.{IsFoundIn, told_of}
+use Rattle.mvn_call.specs.Outcome.{fault_line}
 use Rattle.mvn_top.specs.Project.{GivesPlan}
-use Rattle.mvn_top.specs.Seen.{After, IsAskedFirst, OthersStay, Seen, counts_of, first_remote, used, with_first}
+use Rattle.mvn_call.specs.Seen.{After, IsAskedFirst, OthersStay, Seen, counts_of, first_remote, used, with_first}
 use Rattle.mvn_top.proofs.Calling.{calls_build, calls_device, calls_planning}
 use Rattle.mvn_top.proofs.First.{asked_same, asked_tells, drop_more, outside_same}
-use Rattle.mvn_top.proofs.Present.{found_is, is_present_told, line_workers}
+use Rattle.mvn_call.proofs.Present.{found_is, is_present_told, line_workers}
 
 -- ---- no device failed while planning
 

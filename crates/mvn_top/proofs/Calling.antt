@@ -23,10 +23,10 @@ use Rattle.crew_outcome.specs.Left.{AllStill, HasHistory, IsIdle, Outside, TellA
 use Rattle.crew_outcome.specs.Once.{PublishesOnce}
 use Rattle.crew_outcome.specs.Reports.{Reports}
 use Rattle.mvn_top.specs.Calls.{Calls}
-use Rattle.mvn_top.specs.Found.{given_of, IsFound}
-use Rattle.mvn_top.specs.Headline.{Comes, by_build, by_device, by_planning, by_words, IsFoundIn, IsHistory, IsOutcome, IsUnchanged, NoneFailed, OneFailed, supply_of, told_of}
-use Rattle.mvn_top.specs.Outcome.{fault_line}
-use Rattle.mvn_top.specs.Seen.{After, IsAskedFirst, LeavesSo, Seen, counts_of, count_used, used, with_first}
+use Rattle.mvn_call.specs.Found.{given_of, IsFound}
+use Rattle.mvn_call.specs.Headline.{Comes, by_build, by_device, by_planning, by_words, IsFoundIn, IsHistory, IsOutcome, IsUnchanged, NoneFailed, OneFailed, supply_of, told_of}
+use Rattle.mvn_call.specs.Outcome.{fault_line}
+use Rattle.mvn_call.specs.Seen.{After, IsAskedFirst, LeavesSo, Seen, counts_of, count_used, used, with_first}
 use Rattle.mvn_top.proofs.First.{first_used, same_tells, some_used, whole_tells}
 use Rattle.mvn_top.proofs.Statuses.{device_status, lower_low, planning_status, three_below, three_low, three_lower, two_below, two_low, two_three}
 use Rattle.mvn_top.proofs.Telling.{IfAll, all_any, all_if, all_map, all_told, all_with}

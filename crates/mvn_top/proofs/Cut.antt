@@ -11,7 +11,7 @@ use Rattle.crew_stages.specs.Hands.{HandState}
 use Rattle.crew_outcome.specs.declared.outcome.Outcome.{Outcome}
 use Rattle.crew_outcome.specs.Left.{outside_by}
 use Rattle.crew_outcome.specs.Reports.{Reports}
-use Rattle.mvn_top.specs.Seen.{with_first}
+use Rattle.mvn_call.specs.Seen.{with_first}
 use Rattle.mvn_top.proofs.First.{drop_all, take_all}
 
 module _ {S H : Type 0} (told : S → Option ShelfTold) (faults : S → ℕ) (state : H → HandState) (plan : Plan) (details : List Details) (n : ℕ) (shelf left : S) (old first new back : List H)

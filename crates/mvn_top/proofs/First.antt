@@ -4,7 +4,7 @@ use Rattle.mvn_outside.specs.declared.shelf.ShelfTold.{ShelfTold}
 use Rattle.crew_stages.specs.Hands.{HandState}
 use Rattle.outcome_laws.specs.Crews.{hand_of, told_of}
 use Rattle.crew_outcome.specs.Left.{Outside, TellAsBefore, outside_by}
-use Rattle.mvn_top.specs.Seen.{IsAskedFirst}
+use Rattle.mvn_call.specs.Seen.{IsAskedFirst}
 
 -- ---- lists that are cut
 

@@ -3,9 +3,7 @@ pub mod Calling
 pub mod Cut
 pub mod First
 pub mod Planned
-pub mod Present
 pub mod Statuses
 pub mod Stops
 pub mod Telling
-pub mod Workers
 pub mod Writing

@@ -14,8 +14,8 @@ use Rattle.plan_numbers.specs.declared.selected.Planned.{Planned}
 use Rattle.build_plan.specs.declared.planning.PlanFault.{PlanFault}
 use Rattle.build_plan.specs.Planning.{IsPlan, KnowsFiles, NamesWord, Plans}
 use Rattle.crew_outcome.specs.declared.outcome.Outcome.{Outcome}
-use Rattle.mvn_top.specs.Found.{Finds, IfTold}
-use Rattle.mvn_top.specs.Headline.{told_of}
+use Rattle.mvn_call.specs.Found.{Finds, IfTold}
+use Rattle.mvn_call.specs.Headline.{told_of}
 use Rattle.mvn_top.specs.Project.{GivesPlan, IsMadeOf}
 
 -- where no device failed

@@ -9,9 +9,9 @@ use Rattle.plan_numbers.specs.declared.selected.Planned.{Planned}
 use Rattle.build_plan.specs.declared.planning.PlanFault.{PlanFault}
 use Rattle.build_plan.specs.declared.planning.PlanFault.TheVariants.{Build, Unknown}
 use Rattle.crew_outcome.specs.declared.outcome.Outcome.{Outcome}
-use Rattle.mvn_top.specs.Commands.{of_options}
-use Rattle.mvn_top.specs.Found.{Finds}
-use Rattle.mvn_top.specs.Outcome.{fault_line, refused_by, unknown_module, word_fault}
+use Rattle.mvn_call.specs.Commands.{of_options}
+use Rattle.mvn_call.specs.Found.{Finds}
+use Rattle.mvn_call.specs.Outcome.{fault_line, refused_by, unknown_module, word_fault}
 
 word_status : (fault : WordFault) → (word_fault fault).status ≡ 2
 unfolding word_fault

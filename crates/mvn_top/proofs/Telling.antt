@@ -5,7 +5,7 @@ use Rattle.mvn_outside.specs.Shelf.{files_now}
 use Rattle.mvn_outside.specs.declared.shelf.ShelfTold.{ShelfTold}
 use Rattle.crew_stages.specs.Hands.{HandState}
 use Rattle.outcome_laws.specs.Crews.{AllTellFiles, told_of}
-use Rattle.mvn_top.specs.Found.{IfTold}
+use Rattle.mvn_call.specs.Found.{IfTold}
 
 -- as `IfAllTell`, by the parts
 abbrev pub IfAll : Option Files → Option ShelfTold → List HandState → ((tree : Files) (told : ShelfTold) (remote : Files) → Type 0) → Type 0

@@ -14,9 +14,9 @@ use Rattle.build_core.specs.declared.event.Event.{Event}
 use Rattle.crew_outcome.specs.declared.outcome.Outcome.{Outcome}
 use Rattle.crew_outcome.specs.Left.{AreEmpty}
 use Rattle.mvn_top.specs.Calls.{Calls}
-use Rattle.mvn_top.specs.Ending.{IsWhole, Ends, IsFault, IsLow, HasNone, without_memory}
-use Rattle.mvn_top.specs.Headline.{Comes, IsCall, IsOutcome, IsUnchanged, IsWanted, NoneFailed, OneFailed}
-use Rattle.mvn_top.specs.Seen.{After, IfAllTell, LeavesSo, Seen, used}
+use Rattle.mvn_call.specs.Ending.{IsWhole, Ends, IsFault, IsLow, HasNone, without_memory}
+use Rattle.mvn_call.specs.Headline.{Comes, IsCall, IsOutcome, IsUnchanged, IsWanted, NoneFailed, OneFailed}
+use Rattle.mvn_call.specs.Seen.{After, IfAllTell, LeavesSo, Seen, used}
 use Rattle.mvn_top.proofs.Telling.{all_map}
 
 leaves_more : (told : ShelfTold) (now : Option ShelfTold) (R Q : Files → Files → Type 0) → ((a b : Files) → R a b → Q a b) → LeavesSo told now R → LeavesSo told now Q

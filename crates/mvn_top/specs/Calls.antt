@@ -8,8 +8,8 @@ use Rattle.cli_words.specs.declared.command_line.CommandLine.{CommandLine}
 use Rattle.crew_outcome.specs.Left.{AreEmpty, TellAsBefore}
 use Rattle.crew_outcome.specs.Once.{PublishesOnce}
 use Rattle.crew_outcome.specs.declared.outcome.Outcome.{Outcome}
-use Rattle.mvn_top.specs.Headline.{Comes, IsHistory, IsOutcome, IsUnchanged, NoneFailed, OneFailed}
-use Rattle.mvn_top.specs.Seen.{After, IfAllTell, LeavesSo, Seen, used}
+use Rattle.mvn_call.specs.Headline.{Comes, IsHistory, IsOutcome, IsUnchanged, NoneFailed, OneFailed}
+use Rattle.mvn_call.specs.Seen.{After, IfAllTell, LeavesSo, Seen, used}
 
 pub record Calls (asked : Result CommandLine Outcome) (seen : Seen) (after : After) (trace : List Event) (answers : List Answered) (said : Result Outcome OutOfMemory) : Type 0 where
   pub outcome : IfAllTell asked seen (λ files told there. IfOk said (λ answer. answer.status < 3 →

@@ -8,8 +8,8 @@ use Rattle.model_resolver.specs.declared.failures.PomDevice.{PomDevice}
 use Rattle.plan_numbers.specs.declared.selected.Planned.{Planned}
 use Rattle.build_plan.specs.declared.planning.PlanFault.{PlanFault}
 use Rattle.crew_outcome.specs.declared.outcome.Outcome.{Outcome}
-use Rattle.mvn_top.specs.Found.{Finds, IsFoundBy}
-use Rattle.mvn_top.specs.Outcome.{fault_line}
+use Rattle.mvn_call.specs.Found.{Finds, IsFoundBy}
+use Rattle.mvn_call.specs.Outcome.{fault_line}
 
 -- what is made of what planning gave: where a device failed its line, and else the plan or what is answered in its place
 abbrev pub IsMadeOf : Result Planned PlanFault → Option PomDevice → Result Planned Outcome → Type 0

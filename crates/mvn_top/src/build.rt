@@ -7,10 +7,10 @@ ghost use Rattle.crew_stages.specs.Hands.{state_by};
 ghost use Rattle.crew_outcome.specs.Left.{outside_by};
 ghost use Rattle.crew_outcome.specs.Reports.{Reports};
 ghost use Rattle.mvn_top.specs.Calls.{Calls};
-ghost use Rattle.mvn_top.specs.Commands.{asked};
-ghost use Rattle.mvn_top.specs.Found.{given_of};
-ghost use Rattle.mvn_top.specs.Headline.{told_of};
-ghost use Rattle.mvn_top.specs.Seen.{OthersStay, with_first};
+ghost use Rattle.mvn_call.specs.Commands.{asked};
+ghost use Rattle.mvn_call.specs.Found.{given_of};
+ghost use Rattle.mvn_call.specs.Headline.{told_of};
+ghost use Rattle.mvn_call.specs.Seen.{OthersStay, with_first};
 
 use crate::command::asked;
 use crate::given::given_of;

@@ -1,6 +1,6 @@
 // The words of a call.
 ghost use Rattle.std.specs.Prelude.{◌≡◌, ◌≤◌, IfOk};
-ghost use Rattle.mvn_top.specs.Commands.{asked};
+ghost use Rattle.mvn_call.specs.Commands.{asked};
 
 use crate::outcome::word_fault;
 use cli_words::{CommandLine, WordError, options};

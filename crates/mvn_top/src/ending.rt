@@ -1,7 +1,7 @@
 // What is written of an answer, and the status then.
 ghost use Rattle.std.specs.Prelude.{◌≡◌, ◌≤◌, ◌<◌, ◌⊎◌, IfOk};
 ghost use Rattle.mvn_shared.specs.Cause.{HasRisen};
-ghost use Rattle.mvn_top.specs.Ending.{Ends, HasNone, IsFault, IsLow, IsWhole};
+ghost use Rattle.mvn_call.specs.Ending.{Ends, HasNone, IsFault, IsLow, IsWhole};
 
 use crew_outcome::{FAULT, NO_MEMORY, Outcome};
 use mvn_outside::{DeviceFault, Sink, write_all};

@@ -1,6 +1,6 @@
 // What is given to all POMs of a call.
 ghost use Rattle.std.specs.Prelude.{◌≡◌, IfOk};
-ghost use Rattle.mvn_top.specs.Found.{given_of};
+ghost use Rattle.mvn_call.specs.Found.{given_of};
 
 use cli_words::CommandLine;
 use mvn_base::{Choice, Machine, Pair};

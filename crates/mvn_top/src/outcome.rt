@@ -4,7 +4,7 @@ ghost use Rattle.std.specs.String.{string_bytes};
 ghost use Rattle.pom_source.specs.Answers.{fault_failed};
 ghost use Rattle.build_plan.specs.Planning.{plan_failed};
 ghost use Rattle.build_plan.specs.declared.planning.PlanFault.TheVariants as faults;
-ghost use Rattle.mvn_top.specs.Outcome.{device_name, fault_line, line, refused_by, root_missing, unknown_module, word_fault};
+ghost use Rattle.mvn_call.specs.Outcome.{device_name, fault_line, line, refused_by, root_missing, unknown_module, word_fault};
 ghost use Rattle.mvn_top.specs.Project.{IsMadeOf};
 
 use build_plan::{PlanFault, Planning};
@@ -27,7 +27,7 @@ fn line(text: String) -> Mem<Bytes>
 }
 
 /// The answer to words of which this is the first fault.
-#[tactic(auto, unfolding(crate::specs::Outcome::word_fault))]
+#[tactic(auto, unfolding(mvn_call::specs::Outcome::word_fault))]
 pub(crate) fn word_fault(alloc: Global, fault: WordFault) -> Mem<Outcome>
     ensures { IfOk result (λ outcome. outcome ≡ word_fault fault) }
 {
@@ -50,7 +50,7 @@ fn device_name(device: PomDevice) -> &'static str
 }
 
 // The answer where a device failed.
-#[tactic(auto, unfolding(crate::specs::Outcome::fault_line))]
+#[tactic(auto, unfolding(mvn_call::specs::Outcome::fault_line))]
 fn fault_line(alloc: Global, device: PomDevice) -> Mem<Outcome>
     ensures { IfOk result (λ outcome. outcome ≡ fault_line device) }
 {
@@ -64,7 +64,7 @@ fn fault_line(alloc: Global, device: PomDevice) -> Mem<Outcome>
 }
 
 // A refusal.
-#[tactic(auto, unfolding(crate::specs::Outcome::refused_by))]
+#[tactic(auto, unfolding(mvn_call::specs::Outcome::refused_by))]
 fn refused_by(alloc: Global, refusal: &Refusal) -> Mem<Outcome>
     ensures { IfOk result (λ outcome. outcome ≡ refused_by refusal.now) }
 {

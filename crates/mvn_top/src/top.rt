@@ -6,10 +6,10 @@ ghost use Rattle.crew_stages.specs.Hands.{state_by};
 ghost use Rattle.crew_outcome.specs.declared.outcome.Outcome.{Outcome};
 ghost use Rattle.crew_outcome.specs.Left.{AreEmpty, TellAsBefore, outside_by};
 ghost use Rattle.crew_outcome.specs.Once.{PublishesOnce, StopsBetween};
-ghost use Rattle.mvn_top.specs.Commands.{asked};
-ghost use Rattle.mvn_top.specs.Ending.{Ends};
-ghost use Rattle.mvn_top.specs.Headline.{IsCall, IsHistory, IsUnchanged, IsWanted, NoneFailed, OneFailed};
-ghost use Rattle.mvn_top.specs.Seen.{IfAllTell, LeavesSo, OthersStay, used};
+ghost use Rattle.mvn_call.specs.Commands.{asked};
+ghost use Rattle.mvn_call.specs.Ending.{Ends};
+ghost use Rattle.mvn_call.specs.Headline.{IsCall, IsHistory, IsUnchanged, IsWanted, NoneFailed, OneFailed};
+ghost use Rattle.mvn_call.specs.Seen.{IfAllTell, LeavesSo, OthersStay, used};
 
 use crate::build::build;
 use crate::ending::write_answer;

@@ -9,7 +9,7 @@ use Rattle.build_plan.specs.Planning.{IsSaid}
 use Rattle.build_plan.specs.declared.planning.PlanFault.{PlanFault}
 use Rattle.build_plan.specs.declared.planning.PlanFault.TheVariants.{Build, Unknown}
 use Rattle.crew_outcome.specs.declared.outcome.Outcome.{Outcome}
-use Rattle.mvn_top.specs.Found.{Finds, IsFound, given_of}
+use Rattle.mvn_call.specs.Found.{Finds, IsFound, given_of}
 use Rattle.plan_laws.proofs.Stepping.{one_answer}
 
 -- what is found comes from something that planning says

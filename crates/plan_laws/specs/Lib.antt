@@ -1,2 +1,2 @@
 pub use Rattle.build_plan.specs.Planning
-pub use Rattle.mvn_top.specs.Found
+pub use Rattle.mvn_call.specs.Found

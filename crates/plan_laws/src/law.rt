@@ -5,7 +5,7 @@ ghost use Rattle.cli_words.specs.declared.command_line.CommandLine.{CommandLine}
 ghost use Rattle.mvn_shared.specs.Files.{Files};
 ghost use Rattle.crew_outcome.specs.declared.outcome.Outcome.{Outcome};
 ghost use Rattle.mvn_base.specs.declared.machine.Machine.{Machine};
-ghost use Rattle.mvn_top.specs.Found.{IsFound};
+ghost use Rattle.mvn_call.specs.Found.{IsFound};
 ghost use Rattle.plan_numbers.specs.declared.selected.Planned.{Planned};
 ghost use Rattle.pom_source.specs.declared.found.Given.{Given};
 

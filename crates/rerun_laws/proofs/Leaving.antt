@@ -13,10 +13,10 @@ use Rattle.crew_outcome.specs.Left.{IsCallRun}
 use Rattle.crew_outcome.specs.declared.outcome.Outcome.{Outcome}
 use Rattle.event_core.specs.Runs.{contents}
 use Rattle.event_core.specs.declared.entry.RunEntry.{RunEntry}
-use Rattle.mvn_top.specs.Found.{IfTold, IsFound, given_of}
-use Rattle.mvn_top.specs.Headline.{IsFoundIn, IsHistory, World, files_after, supply_of}
-use Rattle.mvn_top.specs.Seen.{After, LeavesSo, Seen, first_remote, used}
-use Rattle.mvn_top.proofs.Present.{found_is, is_present_told}
+use Rattle.mvn_call.specs.Found.{IfTold, IsFound, given_of}
+use Rattle.mvn_call.specs.Headline.{IsFoundIn, IsHistory, World, files_after, supply_of}
+use Rattle.mvn_call.specs.Seen.{After, LeavesSo, Seen, first_remote, used}
+use Rattle.mvn_call.proofs.Present.{found_is, is_present_told}
 use Rattle.outcome_laws.specs.AsOne.{EndsApart, IsSupplyOf}
 use Rattle.outcome_laws.specs.Crews.{IsCrewRun}
 use Rattle.outcome_laws.proofs.Names.{told_contents}

@@ -19,8 +19,8 @@ use Rattle.plan_law.specs.Ready.{AreOrdered}
 use Rattle.plan_law.proofs.Whole.{is_numbered, sound_numbered}
 use Rattle.build_plan.specs.Planning.{IsPlanned}
 use Rattle.crew_outcome.specs.declared.outcome.Outcome.{Outcome}
-use Rattle.mvn_top.specs.Commands.{asked, of_options}
-use Rattle.mvn_top.proofs.Workers.{workers_of}
+use Rattle.mvn_call.specs.Commands.{asked, of_options}
+use Rattle.mvn_call.proofs.Workers.{workers_of}
 use Rattle.rerun_laws.specs.Reruns.{HasWorkers}
 use Rattle.rerun_laws.proofs.Valid.{model_valid}
 

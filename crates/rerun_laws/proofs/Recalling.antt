@@ -17,9 +17,9 @@ use Rattle.plan_numbers.specs.declared.selected.Planned.{Planned}
 use Rattle.plan_laws.proofs.Founding.{one_found}
 use Rattle.run_law.proofs.Laws.{again_same}
 use Rattle.crew_outcome.specs.declared.outcome.Outcome.{Outcome}
-use Rattle.mvn_top.specs.Ending.{IsWhole}
-use Rattle.mvn_top.specs.Found.{Finds, IsFound, IsFoundOf, given_of}
-use Rattle.mvn_top.specs.Headline.{Agrees, IsCall, World, asks_full, files_after, outcome, supply_of, told_of}
+use Rattle.mvn_call.specs.Ending.{IsWhole}
+use Rattle.mvn_call.specs.Found.{Finds, IsFound, IsFoundOf, given_of}
+use Rattle.mvn_call.specs.Headline.{Agrees, IsCall, World, asks_full, files_after, outcome, supply_of, told_of}
 use Rattle.rerun_laws.specs.Again.{found_over, planned_over, world_over}
 use Rattle.rerun_laws.specs.Reruns.{IfPlanned, IsBehind, IsFirst, MayAgain, world_by}
 use Rattle.rerun_laws.proofs.Growing.{grown}

@@ -8,9 +8,9 @@ use Rattle.crew_outcome.specs.declared.outcome.Outcome.{Outcome}
 use Rattle.mvn_base.specs.declared.machine.Machine.{Machine}
 use Rattle.mvn_outside.specs.Shelf.{Between, files_now}
 use Rattle.mvn_outside.specs.declared.shelf.ShelfTold.{ShelfTold}
-use Rattle.mvn_top.specs.Found.{IsFound, given_of}
-use Rattle.mvn_top.specs.Headline.{World, files_after}
-use Rattle.mvn_top.specs.Seen.{Seen, first_remote, used}
+use Rattle.mvn_call.specs.Found.{IsFound, given_of}
+use Rattle.mvn_call.specs.Headline.{World, files_after}
+use Rattle.mvn_call.specs.Seen.{Seen, first_remote, used}
 use Rattle.outcome_laws.specs.Crews.{AllTellFiles}
 use Rattle.plan_numbers.specs.declared.selected.Planned.{Planned}
 use Rattle.run_law.specs.Given.{Extends}

@@ -7,9 +7,9 @@ ghost use Rattle.build_core.specs.declared.event.Answered.{Answered};
 ghost use Rattle.build_core.specs.declared.event.Event.{Event};
 ghost use Rattle.cli_words.specs.declared.command_line.CommandLine.{CommandLine};
 ghost use Rattle.crew_outcome.specs.declared.outcome.Outcome.{Outcome};
-ghost use Rattle.mvn_top.specs.Found.{IsFound};
-ghost use Rattle.mvn_top.specs.Headline.{IsHistory, World};
-ghost use Rattle.mvn_top.specs.Seen.{After, LeavesSo, Seen};
+ghost use Rattle.mvn_call.specs.Found.{IsFound};
+ghost use Rattle.mvn_call.specs.Headline.{IsHistory, World};
+ghost use Rattle.mvn_call.specs.Seen.{After, LeavesSo, Seen};
 ghost use Rattle.plan_numbers.specs.declared.selected.Planned.{Planned};
 ghost use Rattle.rerun_laws.specs.Reruns.{IsBehind, IsSeen};
 

@@ -5,7 +5,7 @@ ghost use Rattle.mvn_shared.specs.Files.{Files};
 ghost use Rattle.build_plan.specs.Planning.{IsPlanned};
 ghost use Rattle.cli_words.specs.declared.command_line.CommandLine.{CommandLine};
 ghost use Rattle.event_core.specs.SoundPlans.{IsSoundPlan};
-ghost use Rattle.mvn_top.specs.Commands.{asked};
+ghost use Rattle.mvn_call.specs.Commands.{asked};
 ghost use Rattle.pom_source.specs.declared.found.Given.{Given};
 ghost use Rattle.plan_numbers.specs.declared.selected.Planned.{Planned};
 ghost use Rattle.rerun_laws.specs.Reruns.{HasWorkers};

@@ -8,7 +8,7 @@ use Rattle.plan_numbers.specs.declared.selected.Planned.{Planned}
 use Rattle.crew_outcome.specs.Left.{Outside}
 use Rattle.crew_outcome.specs.declared.outcome.Outcome.{Outcome}
 use Rattle.mvn_top.specs.Project.{GivesPlan}
-use Rattle.mvn_top.specs.Seen.{counts_of, first_remote}
+use Rattle.mvn_call.specs.Seen.{counts_of, first_remote}
 use Rattle.outside_mem.specs.Shelf.{shelf_told}
 use Rattle.outside_mem.specs.Tree.{tree_files}
 use Rattle.generated_run.specs.Made.{made}

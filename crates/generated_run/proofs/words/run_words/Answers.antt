@@ -4,8 +4,8 @@ use Rattle.cli_words.specs.declared.command_line.CommandLine.{CommandLine}
 use Rattle.crew_stages.specs.Hands.{state_by}
 use Rattle.crew_outcome.specs.Left.{outside_by}
 use Rattle.crew_outcome.specs.declared.outcome.Outcome.{Outcome}
-use Rattle.mvn_top.specs.Commands.{asked}
-use Rattle.mvn_top.specs.Seen.{After, Seen}
+use Rattle.mvn_call.specs.Commands.{asked}
+use Rattle.mvn_call.specs.Seen.{After, Seen}
 use Rattle.generated_run.specs.Whole.{IsMvn, Written}
 use Rattle.generated_run.proofs.Calls.{same_shelf, words_error, words_generated, words_line, words_none}
 use Rattle.generated_run.proofs.words.run_words.Goals as goal

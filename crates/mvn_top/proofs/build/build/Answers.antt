@@ -5,8 +5,8 @@ use Rattle.cli_words.specs.declared.command_line.CommandLine.{CommandLine}
 use Rattle.crew_stages.specs.Hands.{state_by}
 use Rattle.crew_outcome.specs.declared.outcome.Outcome.{Outcome}
 use Rattle.crew_outcome.specs.Left.{outside_by}
-use Rattle.mvn_top.specs.Commands.{asked}
-use Rattle.mvn_top.specs.Seen.{After, Seen}
+use Rattle.mvn_call.specs.Commands.{asked}
+use Rattle.mvn_call.specs.Seen.{After, Seen}
 use Rattle.mvn_top.proofs.Calling.{calls_none, calls_words}
 use Rattle.mvn_top.proofs.First.{outside_left, same_tells}
 use Rattle.mvn_top.proofs.Statuses.{words_status}

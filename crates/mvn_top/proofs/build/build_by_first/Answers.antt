@@ -1,6 +1,6 @@
 use Rattle.std.proofs.Common.{◌≡◌, ◌++◌, length, sym, ap, ◌∙◌}
 use Rattle.crew_stages.specs.Hands.{state_by}
-use Rattle.mvn_top.specs.Headline.{told_of}
+use Rattle.mvn_call.specs.Headline.{told_of}
 use Rattle.mvn_top.proofs.Cut.{as_many, by_first, others_stay}
 use Rattle.mvn_top.proofs.build.build_by_first.Goals as goal
 

@@ -1,7 +1,7 @@
 use Rattle.std.proofs.Common.{Ok, ap, map, refl}
 use Rattle.crew_stages.specs.Hands.{state_by}
 use Rattle.crew_outcome.specs.Left.{outside_by}
-use Rattle.mvn_top.specs.Seen.{After, Seen}
+use Rattle.mvn_call.specs.Seen.{After, Seen}
 use Rattle.mvn_top.proofs.Calling.{calls_none}
 use Rattle.mvn_top.proofs.First.{same_tells}
 use Rattle.mvn_top.proofs.build.build_line.Goals as goal

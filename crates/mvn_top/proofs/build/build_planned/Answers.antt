@@ -4,7 +4,7 @@ use Rattle.crew_stages.specs.Hands.{state_by}
 use Rattle.crew_outcome.specs.Left.{Outside, outside_by}
 use Rattle.crew_outcome.specs.Reports.{Reports}
 use Rattle.crew_outcome.proofs.Idle.{without_memory}
-use Rattle.mvn_top.specs.Headline.{told_of}
+use Rattle.mvn_call.specs.Headline.{told_of}
 use Rattle.mvn_top.proofs.First.{same_tells}
 use Rattle.mvn_top.proofs.Planned.{told_by}
 use Rattle.mvn_top.proofs.build.build_planned.Goals as goal

@@ -1,8 +1,8 @@
 use Rattle.std.proofs.Common.{length}
 use Rattle.crew_stages.specs.Hands.{state_by}
 use Rattle.crew_outcome.specs.Left.{outside_by}
-use Rattle.mvn_top.specs.Commands.{asked}
-use Rattle.mvn_top.specs.Seen.{After, Seen}
+use Rattle.mvn_call.specs.Commands.{asked}
+use Rattle.mvn_call.specs.Seen.{After, Seen}
 use Rattle.mvn_top.proofs.Stops.{stops_between}
 use Rattle.mvn_top.proofs.Writing.{call_areas, call_ends, call_fault, call_of, call_quiet, call_refused, call_settled}
 use Rattle.mvn_top.proofs.top.mvn.Goals as goal

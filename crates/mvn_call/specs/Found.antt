@@ -12,7 +12,7 @@ use Rattle.build_plan.specs.declared.planning.PlanFault.{PlanFault}
 use Rattle.build_plan.specs.declared.planning.PlanFault.TheVariants.{Build, Unknown}
 use Rattle.build_plan.specs.Planning.{IsPlan, KnowsFiles, NamesWord, Plans}
 use Rattle.crew_outcome.specs.declared.outcome.Outcome.{Outcome}
-use Rattle.mvn_top.specs.Outcome.{refused_by, root_missing, unknown_module}
+use Rattle.mvn_call.specs.Outcome.{refused_by, root_missing, unknown_module}
 
 -- the machine, and what the command line says: the properties that it defines, and the profiles that it chooses
 abbrev pub given_of : Machine → CommandLine → Given

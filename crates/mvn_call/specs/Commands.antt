@@ -4,7 +4,7 @@ use Rattle.cli_words.specs.Options.{options}
 use Rattle.cli_words.specs.declared.command_line.CommandLine.{CommandLine}
 use Rattle.cli_words.specs.declared.fault.WordFault.{WordFault}
 use Rattle.crew_outcome.specs.declared.outcome.Outcome.{Outcome}
-use Rattle.mvn_top.specs.Outcome.{word_fault}
+use Rattle.mvn_call.specs.Outcome.{word_fault}
 
 abbrev pub of_options : Result CommandLine WordFault → Result CommandLine Outcome
 of_options (Err fault) = Err (word_fault fault)

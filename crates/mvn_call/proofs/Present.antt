@@ -19,7 +19,7 @@ use Rattle.build_plan.specs.Planning.{IsPlan, KnowsFiles}
 use Rattle.build_plan.specs.declared.planning.PlanFault.{PlanFault}
 use Rattle.build_plan.specs.declared.planning.PlanFault.TheVariants.{Build, Unknown}
 use Rattle.crew_outcome.specs.declared.outcome.Outcome.{Outcome}
-use Rattle.mvn_top.specs.Found.{Finds, IsFoundBy}
+use Rattle.mvn_call.specs.Found.{Finds, IsFoundBy}
 
 abbrev plan_of : Planned → Result Planned Outcome
 plan_of p = Ok p

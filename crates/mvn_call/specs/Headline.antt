@@ -19,10 +19,10 @@ use Rattle.crew_outcome.specs.Answering.{AnswersBuild}
 use Rattle.crew_outcome.specs.Left.{AllStill, IsCallRun, IsIdle, SomeFailed}
 use Rattle.crew_outcome.specs.Outcomes.{ran}
 use Rattle.crew_outcome.specs.declared.outcome.Outcome.{Outcome}
-use Rattle.mvn_top.specs.Ending.{IsWhole, without_memory}
-use Rattle.mvn_top.specs.Found.{given_of, IsFound, IsFoundBy}
-use Rattle.mvn_top.specs.Outcome.{fault_line}
-use Rattle.mvn_top.specs.Seen.{After, IsAskedFirst, Seen, counts_of, first_remote, used}
+use Rattle.mvn_call.specs.Ending.{IsWhole, without_memory}
+use Rattle.mvn_call.specs.Found.{given_of, IsFound, IsFoundBy}
+use Rattle.mvn_call.specs.Outcome.{fault_line}
+use Rattle.mvn_call.specs.Seen.{After, IsAskedFirst, Seen, counts_of, first_remote, used}
 
 -- ---- the outcome, as that of the build by one hand
 

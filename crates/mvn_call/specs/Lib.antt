@@ -1,0 +1,21 @@
+pub use Rattle.mvn_shared.specs.Cause
+pub use Rattle.mvn_shared.specs.Files
+pub use Rattle.mvn_shared.specs.Told
+pub use Rattle.mvn_base.specs.Refusal
+pub use Rattle.mvn_outside.specs.Shelf
+pub use Rattle.cli_words.specs.Faults
+pub use Rattle.cli_words.specs.Options
+pub use Rattle.model_resolver.specs.Devices
+pub use Rattle.build_plan.specs.Planning
+pub use Rattle.full_report.specs.Details as module_details
+pub use Rattle.crew_stages.specs.Hands
+pub use Rattle.outcome_laws.specs.Crews
+pub use Rattle.crew_outcome.specs.Answering
+pub use Rattle.crew_outcome.specs.Left
+pub use Rattle.crew_outcome.specs.Outcomes
+pub mod Commands
+pub mod Ending
+pub mod Found
+pub mod Headline
+pub mod Outcome
+pub mod Seen

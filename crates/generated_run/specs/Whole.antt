@@ -12,6 +12,7 @@ use Rattle.crew_outcome.specs.declared.outcome.Outcome.{Outcome}
 use Rattle.mvn_call.specs.Ending.{Ends, IsWhole, without_memory}
 use Rattle.mvn_call.specs.Headline.{IsCall, IsHistory, IsUnchanged, IsWanted, NoneFailed, OneFailed}
 use Rattle.mvn_call.specs.Seen.{After, IfAllTell, LeavesSo, Seen, used}
+use Rattle.rerun_laws.specs.Reruns.{IsCallAgain, LeavesBehind}
 use Rattle.generated_run.specs.Generated.{IsGenerated, IsGeneratedRun, IsNothing, IsOfRun}
 
 -- what a call answered and wrote: its status, the sink before and after, and how often that failed so far
@@ -26,6 +27,9 @@ pub record Written : Type 0 where
 pub record IsMvn (asked : Result CommandLine Outcome) (seen : Seen) (after : After) (trace : List Event) (answers : List Answered) (out : Written) : Type 0 where
   pub outcome : IfAllTell asked seen (λ files told there. out.status < 3 →
       LeavesSo told after.outside.shelf (IsCall asked files there seen.machine answers out.status out.before out.now))
+  pub again : IfAllTell asked seen (λ files told there. out.status < 3 →
+      LeavesSo told after.outside.shelf (IsCallAgain asked files there seen.machine answers out.status out.before out.now))
+  pub remains : LeavesBehind asked seen after.outside.shelf answers
   pub history : IsHistory asked seen after trace answers
   pub causes : (wanted : Outcome) × IsWanted asked seen after trace answers wanted × Ends wanted out.status out.before out.now out.faults out.count
   pub refused : out.status ≡ 2 → IsUnchanged seen after trace answers

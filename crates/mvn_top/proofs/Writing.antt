@@ -17,6 +17,8 @@ use Rattle.mvn_top.specs.Calls.{Calls}
 use Rattle.mvn_call.specs.Ending.{IsWhole, Ends, IsFault, IsLow, HasNone, without_memory}
 use Rattle.mvn_call.specs.Headline.{Comes, IsCall, IsOutcome, IsUnchanged, IsWanted, NoneFailed, OneFailed}
 use Rattle.mvn_call.specs.Seen.{After, IfAllTell, LeavesSo, Seen, used}
+use Rattle.rerun_laws.specs.Reruns.{IsCallAgain}
+use Rattle.rerun_laws.proofs.Recalling.{call_again}
 use Rattle.mvn_top.proofs.Telling.{all_map}
 
 leaves_more : (told : ShelfTold) (now : Option ShelfTold) (R Q : Files → Files → Type 0) → ((a b : Files) → R a b → Q a b) → LeavesSo told now R → LeavesSo told now Q
@@ -41,6 +43,17 @@ call_of asked seen after trace answers out status written now is whole low =
     all_map seen.tree seen.outside.shelf (used asked seen.outside).hands (λ files told there. IfOk out (λ wanted. wanted.status < 3 → LeavesSo told after.outside.shelf (IsOutcome asked files there seen.machine answers wanted)))
     (λ files told there. status < 3 → LeavesSo told after.outside.shelf (IsCall asked files there seen.machine answers status written now))
     (λ files told there p. call_low asked files there seen.machine answers out status written now told after.outside.shelf whole low p) is.outcome
+
+-- so it is one that is made again
+pub again_of : (asked : Result CommandLine Outcome) (seen : Seen) (after : After) (trace : List Event) (answers : List Answered) (out : Result Outcome OutOfMemory) (status : ℕ) (written now : Option (List ℕ)) → Calls asked seen after trace answers out
+    → IfOk out (λ wanted. status < 3 → IsWhole wanted status written now) → (status < 3 → IsLow out)
+    → IfAllTell asked seen (λ files told there. status < 3 → LeavesSo told after.outside.shelf (IsCallAgain asked files there seen.machine answers status written now))
+again_of asked seen after trace answers out status written now is whole low =
+    all_map seen.tree seen.outside.shelf (used asked seen.outside).hands (λ files told there. status < 3 → LeavesSo told after.outside.shelf (IsCall asked files there seen.machine answers status written now))
+    (λ files told there. status < 3 → LeavesSo told after.outside.shelf (IsCallAgain asked files there seen.machine answers status written now))
+    (λ files told there call l. leaves_more told after.outside.shelf (IsCall asked files there seen.machine answers status written now) (IsCallAgain asked files there seen.machine answers status written now)
+    (λ before left. call_again asked files there before seen.machine answers status written now left) (call l))
+    (call_of asked seen after trace answers out status written now is whole low)
 
 -- ---- what is written
 

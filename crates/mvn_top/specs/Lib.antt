@@ -13,5 +13,6 @@ pub use Rattle.mvn_call.specs.Found
 pub use Rattle.mvn_call.specs.Headline
 pub use Rattle.mvn_call.specs.Outcome
 pub use Rattle.mvn_call.specs.Seen
+pub use Rattle.rerun_laws.specs.Reruns
 pub mod Calls
 pub mod Project

@@ -10,6 +10,7 @@ ghost use Rattle.mvn_call.specs.Commands.{asked};
 ghost use Rattle.mvn_call.specs.Ending.{Ends};
 ghost use Rattle.mvn_call.specs.Headline.{IsCall, IsHistory, IsUnchanged, IsWanted, NoneFailed, OneFailed};
 ghost use Rattle.mvn_call.specs.Seen.{IfAllTell, LeavesSo, OthersStay, used};
+ghost use Rattle.rerun_laws.specs.Reruns.{IsCallAgain, LeavesBehind};
 
 use crate::build::build;
 use crate::ending::write_answer;
@@ -78,6 +79,30 @@ where
         (λ files told there. result.status < 3 → LeavesSo told (S.told result.shelf)
         (IsCall (asked words.now (length hands.old)) files there machine result.answers
         result.status (O.written out.old) (O.written out.new))) }
+
+    // Made again, below 3 and where they tell: over files that an earlier call or a stop in it left, the text, the status and the repository's
+    // files are those of the call over the files at the start of that one, with the same answers of the goals, if each module that is built
+    // is known in its project. At every status a call leaves such files, where they tell, and so does a stop in it.
+    ensures again { IfAllTell (asked words.now (length hands.old))
+        (record {
+          tree = T.files tree.old;
+          faults = T.faults tree.old;
+          machine = machine;
+          outside = outside_by S.told S.faults (state_by R.files R.faults S.Area.contents
+              S.Area.faults S.Area.pieces G.answers G.faults) shelf hands.old;
+        })
+        (λ files told there. result.status < 3 → LeavesSo told (S.told result.shelf)
+        (IsCallAgain (asked words.now (length hands.old)) files there machine result.answers
+        result.status (O.written out.old) (O.written out.new))) }
+    ensures remains { LeavesBehind (asked words.now (length hands.old))
+        (record {
+          tree = T.files tree.old;
+          faults = T.faults tree.old;
+          machine = machine;
+          outside = outside_by S.told S.faults (state_by R.files R.faults S.Area.contents
+              S.Area.faults S.Area.pieces G.answers G.faults) shelf hands.old;
+        })
+        (S.told result.shelf) result.answers }
 
     // Over any objects, at every status: no event, no answer and nothing published; or the trace is the events of a complete run of a
     // plan of the line by the hands that are used, each of whose entries fits what its hand told, the answers are those that the run

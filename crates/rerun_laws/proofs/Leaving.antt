@@ -24,7 +24,7 @@ use Rattle.outcome_laws.proofs.Sides.{apart}
 use Rattle.plan_laws.proofs.Founding.{one_found}
 use Rattle.plan_numbers.specs.declared.selected.Planned.{Planned}
 use Rattle.run_law.specs.Given.{Extends, IsPresent}
-use Rattle.rerun_laws.specs.Reruns.{IsBehind, IsSeen}
+use Rattle.rerun_laws.specs.Reruns.{IsBehind, IsSeen, LeavesBehind}
 
 -- files between files that lie behind a call lie behind it
 pub behind_between : (world : World) (found : Result Planned Outcome) (low files high : Files) → IsBehind world found low → IsBehind world found high → Between low files high → IsBehind world found files
@@ -88,3 +88,10 @@ module _ (asked : Result CommandLine Outcome) (seen : Seen) (after : After) (tra
       let one : found ≡ Ok r.1 = one_found asked world.tree world.start world.remote world.machine found (Ok r.1) is_found
       (subst (λ (a : Result CommandLine Outcome). IsFound a world.tree world.start world.remote world.machine (Ok r.1)) (sym r.3) (told_plan r.0 r.1 r.4)) in
       subst (λ (f : Result Planned Outcome). LeavesSo told after.outside.shelf (λ before now. IsBehind world f now)) (sym one) (run_behind r.0 r.1 r.2 r.4 r.5)
+
+-- so do those that a stop in it leaves
+pub left_behind : (asked : Result CommandLine Outcome) (seen : Seen) (after : After) (trace : List Event) (kept : List Answered) → IsHistory asked seen after trace kept → LeavesBehind asked seen after.outside.shelf kept
+left_behind asked seen after trace kept history told world found is is_found =
+    let left = history_behind asked seen after trace kept told world is found is_found history in
+    let start : IsBehind world found (files_now told) = λ name. inl (ap (λ files. file_at files name) (sym is.start)) in
+    (left.0, left.1, λ files lies. behind_between world found (files_now told) files (files_now left.0) start left.2 lies)

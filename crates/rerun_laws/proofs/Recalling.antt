@@ -21,7 +21,7 @@ use Rattle.mvn_call.specs.Ending.{IsWhole}
 use Rattle.mvn_call.specs.Found.{Finds, IsFound, IsFoundOf, given_of}
 use Rattle.mvn_call.specs.Headline.{Agrees, IsCall, World, asks_full, files_after, outcome, supply_of, told_of}
 use Rattle.rerun_laws.specs.Again.{found_over, planned_over, world_over}
-use Rattle.rerun_laws.specs.Reruns.{IfPlanned, IsBehind, IsFirst, MayAgain, world_by}
+use Rattle.rerun_laws.specs.Reruns.{IfPlanned, IsBehind, IsCallAgain, IsFirst, MayAgain, world_by}
 use Rattle.rerun_laws.proofs.Growing.{grown}
 use Rattle.rerun_laws.proofs.Planless.{build_same, report_same, told}
 use Rattle.rerun_laws.proofs.Replanning.{apart_again, planned_again}
@@ -165,10 +165,9 @@ world_is tree start remote machine kept world agrees = λ i. record {
 }
 
 -- what a call over the files that were left answers and leaves, a call over the start does
-pub call_again : (asked : Result CommandLine Outcome) (tree start remote files : Files) (machine : Machine) (kept : List Answered) (found : Found) (status : ℕ) (written now : Option (List ℕ)) (after : Files)
-    → IsFirst asked (world_by tree start remote machine kept) found → IsBehind (world_by tree start remote machine kept) found files
-    → IsCall asked tree remote machine kept status written now files after → IsCall asked tree remote machine kept status written now start after
-call_again asked tree start remote files machine kept found status written now after first behind call =
+pub call_again : (asked : Result CommandLine Outcome) (tree remote files : Files) (machine : Machine) (kept : List Answered) (status : ℕ) (written now : Option (List ℕ)) (after : Files)
+    → IsCall asked tree remote machine kept status written now files after → IsCallAgain asked tree remote machine kept status written now files after
+call_again asked tree remote files machine kept status written now after call start found first behind =
     let world = world_by tree start remote machine kept in
     let ended = call.2 (world_over files world) (record { tree = refl; start = refl; remote = refl; machine = refl; answers = λ m i. refl }) in
     let whole = subst (λ (o : Outcome). IsWhole o status written now) (again_outcome asked world found call.0 files (asks_full asked) first behind call.1) ended.0 in

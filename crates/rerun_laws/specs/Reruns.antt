@@ -1,5 +1,5 @@
 -- A call that may be made again, and the files that it may be made over. Project rules.
-use Rattle.std.specs.Prelude.{◌≡◌, ◌≤◌, List, Some, Result, Ok, Err}
+use Rattle.std.specs.Prelude.{◌≡◌, ◌≤◌, ℕ, List, Option, Some, Result, Ok, Err}
 use Rattle.mvn_shared.specs.Files.{Files}
 use Rattle.build_core.specs.OneThread.{answer_at}
 use Rattle.build_core.specs.declared.event.Answered.{Answered}
@@ -9,8 +9,8 @@ use Rattle.mvn_base.specs.declared.machine.Machine.{Machine}
 use Rattle.mvn_outside.specs.Shelf.{Between, files_now}
 use Rattle.mvn_outside.specs.declared.shelf.ShelfTold.{ShelfTold}
 use Rattle.mvn_call.specs.Found.{IsFound, given_of}
-use Rattle.mvn_call.specs.Headline.{World, files_after}
-use Rattle.mvn_call.specs.Seen.{Seen, first_remote, used}
+use Rattle.mvn_call.specs.Headline.{IsCall, World, files_after}
+use Rattle.mvn_call.specs.Seen.{LeavesSo, Seen, first_remote, used}
 use Rattle.outcome_laws.specs.Crews.{AllTellFiles}
 use Rattle.plan_numbers.specs.declared.selected.Planned.{Planned}
 use Rattle.run_law.specs.Given.{Extends}
@@ -44,6 +44,13 @@ IsBehind world found files = Between world.start files (files_after world found)
 abbrev pub world_by : (tree start remote : Files) → Machine → List Answered → World
 world_by tree start remote machine kept = record { tree = tree; start = start; remote = remote; machine = machine; answers = answer_at kept }
 
+-- A call made again, over files that a call or a stop left of one that may be made again, with the same answers of the goals: its text, its status
+-- and the files that it leaves are those of the call over the start.
+abbrev pub IsCallAgain : Result CommandLine Outcome → (tree remote : Files) → Machine → List Answered → (status : ℕ) → (written now : Option (List ℕ)) → (before after : Files) → Type 0
+IsCallAgain asked tree remote machine kept status written now before after = (start : Files) (found : Result Planned Outcome)
+    → IsFirst asked (world_by tree start remote machine kept) found → IsBehind (world_by tree start remote machine kept) found before
+    → IsCall asked tree remote machine kept status written now start after
+
 -- The world is what a call saw: the folder and the repository told its files, and so did the remotes of the hands that are used, the first hand's
 -- among them; and its answers are those that the call kept, where it kept any.
 pub record IsSeen (asked : Result CommandLine Outcome) (seen : Seen) (told : ShelfTold) (kept : List Answered) (world : World) : Type 0 where
@@ -54,3 +61,9 @@ pub record IsSeen (asked : Result CommandLine Outcome) (seen : Seen) (told : She
   pub remotes : AllTellFiles (used asked seen.outside).hands world.remote
   pub machine : world.machine ≡ seen.machine
   pub answers : Extends kept world.answers
+
+-- whatever a call did, the files that it leaves lie behind it, and so do those that a stop in it leaves: in each world that it saw, of what is found there
+abbrev pub LeavesBehind : Result CommandLine Outcome → Seen → (now : Option ShelfTold) → List Answered → Type 0
+LeavesBehind asked seen now kept = (told : ShelfTold) (world : World) (found : Result Planned Outcome) → IsSeen asked seen told kept world
+    → IsFound asked world.tree world.start world.remote world.machine found
+    → LeavesSo told now (λ before left. (files : Files) → Between before files left → IsBehind world found files)

@@ -9,7 +9,7 @@ ghost use Rattle.mvn_call.specs.Found.{IsFound};
 ghost use Rattle.mvn_call.specs.Headline.{IsCall, World, files_after, outcome};
 ghost use Rattle.plan_numbers.specs.declared.selected.Planned.{Planned};
 ghost use Rattle.rerun_laws.specs.Again.{found_over, world_over};
-ghost use Rattle.rerun_laws.specs.Reruns.{IsBehind, IsFirst, world_by};
+ghost use Rattle.rerun_laws.specs.Reruns.{IsBehind, IsCallAgain, IsFirst};
 
 /// A law: a call that is made again ends as it would have from the start. Over files that a call or a stop left, what is asked finds the same plan,
 /// but that it says anew which of its files are there, or the same answer in its place; and with the same answers of the goals the text, the
@@ -36,14 +36,12 @@ pub fn outcomes_again()
         → IsFirst asked (world_over files world) (found_over files found) }
 {}
 
-/// A law, in the words of `mvn`'s clause on its outcome: a call over the files that a call or a stop left, which answers so, writes so and leaves such
+/// A law, in the words of `mvn`'s clauses: a call over the files that a call or a stop left, which answers so, writes so and leaves such
 /// files, is one that does so over the files at the start, with the same answers of the goals. Does nothing. Project rule.
 pub fn calls_again()
-    ensures { (asked : Result CommandLine answers.Outcome) (tree start remote files : Files)
-        (machine : Machine) (kept : List Answered) (found : Result Planned answers.Outcome)
-        (status : ℕ) (written now : Option (List ℕ)) (after : Files)
-        → IsFirst asked (world_by tree start remote machine kept) found
-        → IsBehind (world_by tree start remote machine kept) found files
-        → IsCall asked tree remote machine kept status written now files after
-        → IsCall asked tree remote machine kept status written now start after }
+    ensures { (asked : Result CommandLine answers.Outcome) (tree remote before : Files)
+        (machine : Machine) (kept : List Answered) (status : ℕ)
+        (written now : Option (List ℕ)) (after : Files)
+        → IsCall asked tree remote machine kept status written now before after
+        → IsCallAgain asked tree remote machine kept status written now before after }
 {}

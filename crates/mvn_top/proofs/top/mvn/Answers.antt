@@ -4,7 +4,8 @@ use Rattle.crew_outcome.specs.Left.{outside_by}
 use Rattle.mvn_call.specs.Commands.{asked}
 use Rattle.mvn_call.specs.Seen.{After, Seen}
 use Rattle.mvn_top.proofs.Stops.{stops_between}
-use Rattle.mvn_top.proofs.Writing.{call_areas, call_ends, call_fault, call_of, call_quiet, call_refused, call_settled}
+use Rattle.mvn_top.proofs.Writing.{again_of, call_areas, call_ends, call_fault, call_of, call_quiet, call_refused, call_settled}
+use Rattle.rerun_laws.proofs.Leaving.{left_behind}
 use Rattle.mvn_top.proofs.top.mvn.Goals as goal
 
 pub returns-clause-outcome : goal.returns-clause-outcome
@@ -15,6 +16,22 @@ returns-clause-outcome g c =
     let after : After = record { faults = g.T.Files.faults call.new.tree; outside = outside_by g.S.Shelf.told g.S.Shelf.faults (state_by g.R.Remote.files g.R.Remote.faults g.S.Area.Area.contents g.S.Area.Area.faults g.S.Area.Area.pieces g.G.Gate.answers g.G.Gate.faults) call.result.shelf call.new.hands } in
     call_of (asked c.args.words.now (length c.args.hands.now)) seen after call.result.trace call.result.answers call.result.outcome wrote.result (g.O.Sink.written c.args.out.now) (g.O.Sink.written wrote.new.out)
     call.ensures.calls wrote.ensures.whole wrote.ensures.low
+
+pub returns-clause-again : goal.returns-clause-again
+returns-clause-again g c =
+    let seen : Seen = record { tree = g.T.Tree.files c.args.tree.now; faults = g.T.Files.faults c.args.tree.now; machine = c.args.machine; outside = outside_by g.S.Shelf.told g.S.Shelf.faults (state_by g.R.Remote.files g.R.Remote.faults g.S.Area.Area.contents g.S.Area.Area.faults g.S.Area.Area.pieces g.G.Gate.answers g.G.Gate.faults) c.args.shelf c.args.hands.now } in
+    let call = c.build-call in
+    let wrote = c.write_answer-status in
+    let after : After = record { faults = g.T.Files.faults call.new.tree; outside = outside_by g.S.Shelf.told g.S.Shelf.faults (state_by g.R.Remote.files g.R.Remote.faults g.S.Area.Area.contents g.S.Area.Area.faults g.S.Area.Area.pieces g.G.Gate.answers g.G.Gate.faults) call.result.shelf call.new.hands } in
+    again_of (asked c.args.words.now (length c.args.hands.now)) seen after call.result.trace call.result.answers call.result.outcome wrote.result (g.O.Sink.written c.args.out.now) (g.O.Sink.written wrote.new.out)
+    call.ensures.calls wrote.ensures.whole wrote.ensures.low
+
+pub returns-clause-remains : goal.returns-clause-remains
+returns-clause-remains g c =
+    let seen : Seen = record { tree = g.T.Tree.files c.args.tree.now; faults = g.T.Files.faults c.args.tree.now; machine = c.args.machine; outside = outside_by g.S.Shelf.told g.S.Shelf.faults (state_by g.R.Remote.files g.R.Remote.faults g.S.Area.Area.contents g.S.Area.Area.faults g.S.Area.Area.pieces g.G.Gate.answers g.G.Gate.faults) c.args.shelf c.args.hands.now } in
+    let call = c.build-call in
+    let after : After = record { faults = g.T.Files.faults call.new.tree; outside = outside_by g.S.Shelf.told g.S.Shelf.faults (state_by g.R.Remote.files g.R.Remote.faults g.S.Area.Area.contents g.S.Area.Area.faults g.S.Area.Area.pieces g.G.Gate.answers g.G.Gate.faults) call.result.shelf call.new.hands } in
+    left_behind (asked c.args.words.now (length c.args.hands.now)) seen after call.result.trace call.result.answers call.ensures.calls.history
 
 pub returns-clause-causes : goal.returns-clause-causes
 returns-clause-causes g c =

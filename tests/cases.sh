@@ -59,7 +59,7 @@ another_user() {
   [ "$(id -u)" = 0 ] || return 0
   as_other=(setpriv --reuid 54321 --regid 54321 --clear-groups)
   cp "$mvn" "$work/mvn" && chmod 755 "$work/mvn" && mvn=$work/mvn || exit 1
-  "${as_other[@]}" "$mvn" --version > /dev/null || stop "no other user may run a program in $work: TMPDIR has to name a folder that all may enter"
+  "${as_other[@]}" test -x "$mvn" || stop "no other user may enter $work: TMPDIR has to name a folder that all may enter"
 }
 
 # The last line of a script, and its status

@@ -47,7 +47,7 @@ waits() {
   lines+="$(printf 'total 5 built %d failed %d skipped 0\nstatus %d' $((5 - failed)) "$failed" $((failed > 0)))"
   rm -rf "$MVN_REPO" "$BEGUN"
   mkdir "$BEGUN"
-  TENTHS=$([ "$failed" = 0 ] && echo 6000 || echo 2)
+  TENTHS=$([ "$failed" = 0 ] && echo 1200 || echo 2)
   got=$(MVN_GATE=$work/goal "$mvn" install -T "$3"; echo "status $?")
   if [ "$got" = "$lines" ]; then pass "$1, by $3"; else fail "$1, by $3" "$got"; fi
 }

@@ -1,8 +1,11 @@
 # Common to the scripts of tests/ that try cases, each of which reads this first: a temporary folder, `work`, that is removed at the
-# end, and functions that print and count the cases.
+# end, and functions that print and count the cases. Whoever calls a script may have any umask, language and variables.
 set -u
 . "$(dirname "${BASH_SOURCE[0]}")/program.sh"
-work=$(mktemp -d)
+umask 022
+export LC_ALL=C
+unset CDPATH MVN_REPO MVN_REMOTE MVN_GATE MVN_JDK
+work=$(mktemp -d) && work=$(realpath "$work") || stop "no temporary folder can be made"
 trap 'rm -rf "$work"' EXIT
 passed=0
 failed=0
@@ -32,6 +35,31 @@ want() {
   else
     fail "$name" "$(printf 'wanted %s %q, got %s %q' "$status" "$text" "$code" "$got")"
   fi
+}
+
+# PROCESS, CONDITION: waits until the condition, in words of `[`, holds, or this child has ended. It starts no process meanwhile, so whoever
+# called it goes on at once.
+until_or_ended() {
+  until [ "${@:2}" ] || ! kill -0 "$1"; do :; done 2> /dev/null
+}
+
+# MILLISECONDS: waits for them
+nap() { [ "$1" = 0 ] || sleep "$(printf '%d.%03d' $(($1 / 1000)) $(($1 % 1000)))"; }
+
+# Makes the descriptor 9 the end of a pipe that nobody reads
+unread_pipe() {
+  mkfifo "$work/unread" && exec 8<> "$work/unread" 9> "$work/unread" 8>&- && rm "$work/unread" || stop "no pipe can be made"
+}
+
+# For cases in which root's rights would count: lets another user into `work`, and leaves in `as_other` the words before a command by which that user
+# runs it, and in `mvn` a copy of the program there. Where this user isn't root, there are no such words.
+as_other=()
+another_user() {
+  chmod 755 "$work"
+  [ "$(id -u)" = 0 ] || return 0
+  as_other=(setpriv --reuid 54321 --regid 54321 --clear-groups)
+  cp "$mvn" "$work/mvn" && chmod 755 "$work/mvn" && mvn=$work/mvn || exit 1
+  "${as_other[@]}" test -x "$mvn" || stop "no other user may enter $work: TMPDIR has to name a folder that all may enter"
 }
 
 # The last line of a script, and its status

@@ -223,26 +223,22 @@ printf '%s' "$pom" > pom.xml
 # a pipe that nobody reads, and a full device
 status=$( { "$mvn" validate; echo $? >&2; } 2>&1 >/dev/full )
 if [ "$status" = 3 ]; then pass 'a full device'; else fail 'a full device' "status $status"; fi
-{ sleep 0.2; "$mvn" validate; echo $? > status; } | true
-if [ "$(cat status)" = 3 ]; then pass 'a closed pipe'; else fail 'a closed pipe' "status $(cat status)"; fi
+unread_pipe
+"$mvn" validate >&9
+status=$?
+exec 9>&-
+if [ "$status" = 3 ]; then pass 'a closed pipe'; else fail 'a closed pipe' "status $status"; fi
 
 # files and folders without permission, for whoever is not root
-chmod 755 "$work"
-as_nobody=()
-if [ "$(id -u)" = 0 ]; then
-  cp "$mvn" "$work/mvn"
-  chmod 755 "$work/mvn"
-  mvn=$work/mvn
-  as_nobody=(setpriv --reuid 65534 --regid 65534 --clear-groups)
-fi
+another_user
 chmod 000 pom.xml
-got=$("${as_nobody[@]}" "$mvn" validate 2>&1; echo "status $?")
+got=$("${as_other[@]}" "$mvn" validate 2>&1; echo "status $?")
 if [ "$got" = $'fault tree\nstatus 3' ]; then pass 'no permission to read'; else fail 'no permission to read' "$got"; fi
 chmod 644 pom.xml
 mkdir -p .m2/repository/demo
 chmod 777 .m2 .m2/repository
 chmod 555 .m2/repository/demo
-got=$("${as_nobody[@]}" "$mvn" install 2>&1; echo "status $?")
+got=$("${as_other[@]}" "$mvn" install 2>&1; echo "status $?")
 if [ "$got" = $'failed demo:app:1.0 fault shelf\ntotal 1 built 0 failed 1 skipped 0\nstatus 3' ] \
   && [ -z "$(find .m2/repository/demo -mindepth 1)" ]; then pass 'no permission to publish'; else fail 'no permission to publish' "$got"; fi
 chmod 777 .m2/repository/demo
@@ -251,9 +247,9 @@ echo '<project><modelVersion>4.0.0</modelVersion><groupId>x</groupId><artifactId
 : > .m2/remote/x/y/1/y-1.jar
 chmod 000 .m2/remote/x/y/1/y-1.jar
 printf '%s' "${pom%</project>}<dependencies><dependency><groupId>x</groupId><artifactId>y</artifactId><version>1</version></dependency></dependencies></project>" > pom.xml
-got=$("${as_nobody[@]}" "$mvn" install 2>&1; echo "status $?")
+got=$("${as_other[@]}" "$mvn" install 2>&1; echo "status $?")
 if [ "$got" = $'failed demo:app:1.0 fault remote\ntotal 1 built 0 failed 1 skipped 0\nstatus 3' ]; then pass 'no permission to fetch'; else fail 'no permission to fetch' "$got"; fi
 chmod 644 .m2/remote/x/y/1/y-1.jar
-got=$("${as_nobody[@]}" "$mvn" install 2>&1; echo "status $?")
+got=$("${as_other[@]}" "$mvn" install 2>&1; echo "status $?")
 if [ "$got" = "${report}status 0" ]; then pass 'and then with it'; else fail 'and then with it' "$got"; fi
 tell

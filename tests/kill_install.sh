@@ -1,9 +1,10 @@
 #!/usr/bin/env bash
 # Shows that a killed install leaves no torn file, and that the next run ends as if nothing had happened: kills installs by one and by eight
-# workers, of a project of eight modules that stand on one another or not and need libraries that are fetched, at random moments up to half as
-# late again as one install takes. One module fails in its tests, one needs it and is skipped, and of one a library is nowhere. After each
-# kill every POM and every jar is absent, or has all its old bytes or all its new ones, and the next run says what an undisturbed one says, and
-# leaves its files and no piece. The same with pieces of an earlier run, so that some are killed while they remove these.
+# workers, of a project of eight modules that stand on one another or not and need libraries that are fetched. One module fails in its tests, one
+# needs it and is skipped, and of one a library is nowhere. Half of the installs are killed at a random moment, up to half as late again as one
+# takes, and half soon after a certain file is published, so that whatever the machine does most are killed while they run. After each kill every
+# POM and every jar is absent, or has all its old bytes or all its new ones, and the next run says what an undisturbed one says, and leaves its
+# files and no piece. Then the same over pieces of an earlier run, where each install is killed when a certain piece is gone.
 # usage: kill_install.sh [KILLS], 40 if absent. The program is the one that MVN names, or bin/mvn.
 . "$(dirname "$0")/cases.sh"
 find_program
@@ -79,14 +80,13 @@ jar=demo/app/1/app-1.jar
 torn_files() { sums "$MVN_REPO" | grep -v ' ./.staging/' | LC_ALL=C sort | LC_ALL=C comm -13 both.sums -; }
 LC_ALL=C sort -u old.sums new.sums > both.sums
 
-# WORKERS: an install that is killed at a random moment; `killed` counts those that were
+# WORKERS, COMMAND: an install of the process `pid` that is killed when the command has ended; `killed` counts those that were
 kill_one() {
-  local moment=$((RANDOM % longest)) pid
   set -m
   "$mvn" install -T "$1" > /dev/null 2>&1 &
   pid=$!
   set +m
-  sleep "$(printf '%d.%03d' $((moment / 1000)) $((moment % 1000)))"
+  "${@:2}"
   # the group of the processes of this one install
   kill -9 -- "-$pid" 2> /dev/null
   wait "$pid" 2> /dev/null
@@ -94,12 +94,22 @@ kill_one() {
   [ -z "$(torn_files)" ] || torn=$((torn + 1))
 }
 
+# FILE: waits until it is published, and for a random part of the time until the next one is
+published() {
+  until_or_ended "$pid" -e "$MVN_REPO/$1"
+  nap $((RANDOM % (longest / 40 + 2)))
+}
+
+# FILE: waits until it is gone
+gone() { until_or_ended "$pid" ! -e "$1"; }
+
 # SIDE: the next install, by as many workers as any before it
 rerun() {
   "$mvn" install -T 8 > said
   [ $? = 1 ] && cmp -s said "$1.said" && sums "$MVN_REPO" | cmp -s - "$1.sums" || differ=$((differ + 1))
 }
 
+mapfile -t files < <(sed 's/^[^ ]*  //' new.sums)
 torn=0
 killed=0
 changed=0
@@ -108,7 +118,16 @@ for ((i = 0; i < kills; i++)); do
   [ $((i % 4)) -gt 1 ] || rm -rf "$MVN_REPO"
   side=$([ $((i % 2)) = 0 ] && echo old || echo new)
   write_sources "$side"
-  kill_one $((i % 3 == 0 ? 1 : 8))
+  workers=$((i % 3 == 0 ? 1 : 8))
+  if [ $((i / 4 % 2)) = 1 ]; then
+    kill_one "$workers" nap $((RANDOM % longest))
+  else
+    # the first and some others behind the jar of app
+    file=${files[RANDOM % ${#files[@]}]}
+    [ $((i % 5)) != 0 ] || file=$jar
+    rm -f "$MVN_REPO/$file"
+    kill_one "$workers" published "$file"
+  fi
   [ ! -e "$MVN_REPO/$jar" ] || ! cmp -s "$MVN_REPO/$jar" "$side.files/$jar" || changed=$((changed + 1))
   rerun "$side"
 done 2> /dev/null
@@ -121,17 +140,18 @@ else
 fi
 if [ "$differ" = 0 ]; then pass 'each next install ends like an undisturbed one'; else fail 'each next install ends like an undisturbed one' "$differ of $kills differ"; fi
 
-# 1,000 pieces of an earlier run for each worker
+# 500 pieces of an earlier run for each worker, which are removed hand by hand. Should none be killed meanwhile, it is tried again.
 differ=0
 inside=0
-for ((i = 0; i < kills / 4 + 5; i++)); do
-  for hand in 0 1 2 3 4 5 6 7; do
+for ((i = 0; i < kills / 4 + 5 || (inside == 0 && i < 60); i++)); do
+  for hand in {0..7}; do
     mkdir -p "$MVN_REPO/.staging/$hand"
-    (cd "$MVN_REPO/.staging/$hand" && touch old-{1..1000}) || exit 1
+    (cd "$MVN_REPO/.staging/$hand" && touch old-{1..500}) || exit 1
   done
-  kill_one 8
+  piece=$MVN_REPO/.staging/$((RANDOM % 6))/old-$((RANDOM % 500 + 1))
+  kill_one 8 gone "$piece"
   left=$(find "$MVN_REPO/.staging" -name 'old-*' | wc -l)
-  [ "$left" = 0 ] || [ "$left" = 8000 ] || inside=$((inside + 1))
+  [ "$left" = 0 ] || [ "$left" = 4000 ] || inside=$((inside + 1))
   rerun "$side"
 done 2> /dev/null
 if [ "$torn" = 0 ] && [ "$differ" = 0 ] && [ "$inside" != 0 ]; then

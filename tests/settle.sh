@@ -6,14 +6,8 @@
 # The program is the one that MVN names, or bin/mvn.
 . "$(dirname "$0")/cases.sh"
 find_program
-chmod 755 "$work"
+another_user
 cd "$work" || exit 1
-as_nobody=()
-if [ "$(id -u)" = 0 ]; then
-  cp "$mvn" "$work/mvn" && chmod 755 "$work/mvn" || exit 1
-  mvn=$work/mvn
-  as_nobody=(setpriv --reuid 65534 --regid 65534 --clear-groups)
-fi
 printf '<project><modelVersion>4.0.0</modelVersion><groupId>demo</groupId><artifactId>app</artifactId><version>1.0</version></project>' > pom.xml
 repository=$work/m2/repository
 chain=("$repository" "$repository/demo" "$repository/demo/app" "$repository/demo/app/1.0")
@@ -25,7 +19,7 @@ for folder in "${chain[@]}"; do
   mkdir -p "${chain[3]}" "$repository/.staging/0"
   chmod -R 777 m2
   chmod 333 "$folder"
-  got=$("${as_nobody[@]}" "$mvn" install 2>&1; echo "status $?")
+  got=$("${as_other[@]}" "$mvn" install 2>&1; echo "status $?")
   chmod 777 "$folder"
   name=${folder#"$work/"}
   if [ "$got" = "$report"$'\nfault settle\nstatus 3' ]; then pass "$name is settled though it was there"; else fail "$name is settled though it was there" "$got"; fi

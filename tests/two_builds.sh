@@ -2,9 +2,9 @@
 # Shows that two builds at once over one repository don't disturb each other: runs pairs of `mvn install -T 4` of one project of three modules,
 # from two folders with different sources and POMs, which need a library that is fetched, and checks after each pair what the two answered
 # and that no file is torn: each POM and jar has all bytes of the one or of the other, and the library's files those of the remote
-# repository. Then the same with one of the two killed at a random moment: the other has to answer as if it were alone. Last, one more
-# install is not hindered by a leftover staged file, and leaves none. usage: two_builds.sh [PAIRS], of each kind; if absent, as many as there
-# is time for in 15 seconds. The program is the one that MVN names, or bin/mvn.
+# repository. Then the same with one of the two killed, at a random moment or when a certain file is there: the other has to answer as if it were
+# alone. Last, one more install is not hindered by a leftover staged file, and leaves none. usage: two_builds.sh [PAIRS], of each kind; if absent,
+# as many as there is time for in 15 seconds. The program is the one that MVN names, or bin/mvn.
 . "$(dirname "$0")/cases.sh"
 find_program
 pairs=${1-}
@@ -55,12 +55,6 @@ begin() {
   (cd "$1" && exec "$mvn" install -T 4) > "$1.said" 2>&1 &
 }
 
-# MILLISECONDS AT MOST: waits for a random part of them
-pause() {
-  local moment=$((RANDOM % ($1 + 1)))
-  sleep "$(printf '%d.%03d' $((moment / 1000)) $((moment % 1000)))"
-}
-
 # SIDE, ITS STATUS: counts an answer that isn't that of an install
 answered() {
   [ "$2" = 0 ] && [ "$(cat "$1.said")" = "$report" ] || { wrong=$((wrong + 1)); said="status $2, $(tail -n 2 "$1.said" | tr '\n' ' ')"; }
@@ -78,11 +72,12 @@ look() {
   done
 }
 
-# KIND OF PAIR, FUNCTION: runs it for as many pairs as are wanted, half of them over a new repository, and tells what came of them
+# KIND OF PAIR, FUNCTION: runs it for as many pairs as are wanted, half of them over a new repository, and tells what came of them; for more
+# while no two ran at once
 try() {
   local until=$((SECONDS + 7))
   ran=0 torn=0 wrong=0 shown=0 said=
-  while if [ -n "$pairs" ]; then [ "$ran" -lt "$pairs" ]; else [ "$SECONDS" -lt "$until" ]; fi; do
+  while if [ -n "$pairs" ]; then [ "$ran" -lt "$pairs" ]; else [ "$SECONDS" -lt "$until" ]; fi || { [ "$shown" = 0 ] && [ "$ran" -lt 50 ]; }; do
     [ $((RANDOM % 2)) = 0 ] && rm -rf "$MVN_REPO"
     "$2"
     look
@@ -96,11 +91,12 @@ try() {
   fi
 }
 
+# every other pair begins at once, and so is at work at once however fast the machine is
 both() {
   local one two
   begin old
   one=$!
-  pause $((longest / 2))
+  [ $((ran % 2)) = 0 ] || nap $((RANDOM % (longest / 2 + 1)))
   begin new
   two=$!
   kill -0 "$one" 2> /dev/null && shown=$((shown + 1))
@@ -110,14 +106,17 @@ both() {
   answered new $?
 }
 
+# every other time the one is killed when a file is there that was taken away before
 one_killed() {
-  local sides=(old new) killed one two
+  local sides=(old new) file one two
   [ $((RANDOM % 2)) = 0 ] && sides=(new old)
+  file=$(file "${modules[RANDOM % 3]}" jar)
+  rm -f "$file"
   begin "${sides[0]}"
   one=$!
   begin "${sides[1]}"
   two=$!
-  pause "$longest"
+  if [ $((ran % 2)) = 0 ]; then until_or_ended "$one" -e "$file"; else nap $((RANDOM % (longest + 1))); fi
   kill -9 "$one" 2> /dev/null
   wait "$one" 2> /dev/null
   [ $? = 137 ] && kill -0 "$two" 2> /dev/null && shown=$((shown + 1))

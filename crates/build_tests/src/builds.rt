@@ -159,15 +159,15 @@ fn call<W: Threads + Wait + Sync>(
     rt: &W,
     alloc: Global,
     words: &[Bytes],
+    machine: Machine,
     tree: &mut MemTree<Calls>,
     shelf: MemShelf<Calls>,
     workers: &mut [Worker],
     sink: &mut MemSink<Calls>,
-) -> Mem<Run>
+) -> Run
     requires { (1 ≤ length workers.old) × (length workers.old ≤ 16) }
 {
-    let machine = machine(alloc)?;
-    Ok(run_words(rt, alloc, words, machine, tree, shelf, workers, sink))
+    run_words(rt, alloc, words, machine, tree, shelf, workers, sink)
 }
 
 // What a command line leaves.
@@ -179,13 +179,24 @@ fn build<W: Threads + Wait + Sync>(
     sink: &mut MemSink<Calls>,
 ) -> Mem<Run> {
     let words = words(alloc, line)?;
+    let machine = machine(alloc)?;
     let mut tree = tree(alloc, manner)?;
     let mut workers = workers(alloc, manner)?;
     if workers.is_empty() || workers.len() > 16 {
         return Err(OutOfMemory);
     }
     let shelf = shelf(alloc, manner)?;
-    call(rt, alloc, &words, &mut tree, shelf, &mut workers, sink)
+    let run = call(
+        rt,
+        alloc,
+        &words,
+        machine,
+        &mut tree,
+        shelf,
+        &mut workers,
+        sink,
+    );
+    Ok(run)
 }
 
 fn starts(trace: &[Event]) -> usize {

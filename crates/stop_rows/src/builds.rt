@@ -81,15 +81,15 @@ fn call<W: Threads + Wait + Sync, F: Failures + Send + Drop>(
     rt: &W,
     alloc: Global,
     words: &[Bytes],
+    machine: Machine,
     tree: &mut MemTree<NoFailures>,
     shelf: MemShelf<F>,
     hands: &mut [Worker<F>],
     sink: &mut MemSink<NoFailures>,
-) -> Mem<Ended<MemShelf<F>>>
+) -> Ended<MemShelf<F>>
     requires { (1 ≤ length hands.old) × (length hands.old ≤ 16) }
 {
-    let machine = machine(alloc)?;
-    Ok(mvn(rt, alloc, words, machine, tree, shelf, hands, sink))
+    mvn(rt, alloc, words, machine, tree, shelf, hands, sink)
 }
 
 // The same over a project, by so many workers.
@@ -106,8 +106,10 @@ fn installed<W: Threads + Wait + Sync, F: Failures + Send + Drop>(
         return Err(OutOfMemory);
     }
     let words = words(alloc, workers)?;
+    let machine = machine(alloc)?;
     let mut tree = MemTree::without_failures(alloc, project.tree.clone()?)?;
-    call(rt, alloc, &words, &mut tree, shelf, hands, sink)
+    let ended = call(rt, alloc, &words, machine, &mut tree, shelf, hands, sink);
+    Ok(ended)
 }
 
 /// What an install by so many workers leaves, over this repository and these hands; there are 1 to 16 of them.

@@ -29,7 +29,7 @@ type Worker = Hand<MemRemote<Calls>, MemArea<Calls>, MemGate<Calls>>;
 type Run = Ended<MemShelf<Calls>>;
 
 /// How a project is built: its POMs, how many workers there are, what their remotes have and what their goals answer, and which call fails.
-#[derive(Clone, Copy)]
+#[derive(Drop)]
 pub(crate) struct Manner<'a> {
     pub(crate) poms: &'a [Pom],
     pub(crate) workers: u32,

@@ -3,34 +3,46 @@
 //! what a model costs is the difference of two runs.
 #![tactic(auto)]
 
+use model_types::RawModel;
 use mvn_base::{ModelError, PomId};
-use mvn_shared::Text;
+use mvn_shared::{Mem, Text};
 use pom_model::read_model;
-use pom_text::{PomText, read_text};
+use pom_text::{PomText, TextFault, read_text};
+use std::alloc::Global;
 use std::env::Env;
 use std::io::Read;
 
-// What a POM of these elements states.
-fn print_model(rt: &HostRuntime, text: &PomText) -> anyhow::Result<()> {
-    let Ok(path) = Text::from_str(rt.alloc(), "pom.xml") else {
-        println!(rt; "out of memory")?;
-        return Ok(());
-    };
-    match read_model(rt.alloc(), text, &PomId::Path(path)) {
+// How many profiles a model states, or its refusal.
+fn model_text(alloc: Global, model: &Result<RawModel, ModelError>) -> Mem<String> {
+    match model {
         Ok(model) => {
             let profiles = model.profiles.as_slice().len();
-            println!(rt; "{profiles} profiles")?;
+            Ok(format!(in alloc; "{profiles} profiles")?)
         }
-        Err(ModelError::Refused(refusal)) => println!(rt; "{refusal}")?,
-        Err(ModelError::Memory) => println!(rt; "out of memory")?,
+        Err(ModelError::Refused(refusal)) => Ok(format!(in alloc; "{refusal}")?),
+        Err(ModelError::Memory) => Ok(String::from_str(alloc, "out of memory")?),
     }
-    Ok(())
 }
 
-fn print_text(rt: &HostRuntime, text: &PomText) -> anyhow::Result<()> {
+// The same of a POM of these elements.
+fn told_model(alloc: Global, text: &PomText) -> Mem<String> {
+    let pom = PomId::Path(Text::from_str(alloc, "pom.xml")?);
+    let model = read_model(alloc, text, &pom);
+    model_text(alloc, &model)
+}
+
+fn told_elements(alloc: Global, text: &PomText) -> Mem<String> {
     let elements = text.nodes.as_slice().len();
-    println!(rt; "{elements} elements")?;
-    Ok(())
+    Ok(format!(in alloc; "{elements} elements")?)
+}
+
+// What is told of a POM, or why it is none.
+fn told(alloc: Global, text: &Result<PomText, TextFault>, has_word: bool) -> Mem<String> {
+    match text {
+        Ok(text) if has_word => told_model(alloc, text),
+        Ok(text) => told_elements(alloc, text),
+        Err(fault) => Ok(format!(in alloc; "{fault}")?),
+    }
 }
 
 fn main(rt: HostRuntime) -> anyhow::Result<()> {
@@ -38,15 +50,8 @@ fn main(rt: HostRuntime) -> anyhow::Result<()> {
     rt.stdin().read_to_end(&mut bytes)?;
     let mut word = [0u8; 64];
     let has_word = rt.arg(1, &mut word).is_ok();
-    match read_text(rt.alloc(), bytes.as_slice()) {
-        Ok(text) => {
-            if has_word {
-                print_model(&rt, &text)?;
-            } else {
-                print_text(&rt, &text)?;
-            }
-        }
-        Err(fault) => println!(rt; "{fault}")?,
-    }
+    let text = read_text(rt.alloc(), bytes.as_slice());
+    let told = told(rt.alloc(), &text, has_word)?;
+    println!(rt; "{told}")?;
     Ok(())
 }

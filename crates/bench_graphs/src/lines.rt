@@ -78,15 +78,49 @@ impl Read {
         Ok(())
     }
 
+    // Puts in a library with these dependencies.
+    fn put(&mut self, alloc: Global, gav: Gav, needs: List<Shared<Dependency>>) -> Mem<()> {
+        self.add_version(alloc, &gav)?;
+        let model = model(alloc, gav.clone()?, &self.build, needs)?;
+        self.libraries.put_model(gav, model)
+    }
+
     /// Ends the library that was begun.
     pub(crate) fn end(&mut self, alloc: Global) -> Mem<()> {
         let needs = replace(&mut self.needs, List::new(alloc));
         match self.begun.take() {
-            None => self.direct = needs,
-            Some(gav) => {
-                self.add_version(alloc, &gav)?;
-                let model = model(alloc, gav.clone()?, &self.build, needs)?;
-                self.libraries.put_model(gav, model)?;
+            None => {
+                self.direct = needs;
+                Ok(())
+            }
+            Some(gav) => self.put(alloc, gav, needs),
+        }
+    }
+
+    // Begins a library.
+    fn begin(&mut self, alloc: Global, words: &[&str]) -> Mem<()> {
+        if let [_, group, artifact, version] = words {
+            self.end(alloc)?;
+            self.begun = Some(gav(alloc, group, artifact, version)?);
+        }
+        Ok(())
+    }
+
+    // One dependency more of what was begun.
+    fn add_need(&mut self, alloc: Global, words: &[&str]) -> Mem<()> {
+        if let [_, .., optional, exclusions] = words {
+            if let Some(declared) = declared(words, optional, exclusions) {
+                self.needs.push(dependency(alloc, &declared)?)?;
+            }
+        }
+        Ok(())
+    }
+
+    // One dependency more that the project manages.
+    fn add_managed(&mut self, alloc: Global, words: &[&str]) -> Mem<()> {
+        if let [_, .., exclusions] = words {
+            if let Some(declared) = declared(words, "-", exclusions) {
+                self.managed.push(dependency(alloc, &declared)?)?;
             }
         }
         Ok(())
@@ -95,23 +129,12 @@ impl Read {
     /// One line more.
     pub(crate) fn line(&mut self, alloc: Global, line: &str) -> Mem<()> {
         let words = words(alloc, line)?;
-        match words.as_slice() {
-            ["pom", group, artifact, version] => {
-                self.end(alloc)?;
-                self.begun = Some(gav(alloc, group, artifact, version)?);
-            }
-            ["needs", .., optional, exclusions] => {
-                if let Some(declared) = declared(&words, optional, exclusions) {
-                    self.needs.push(dependency(alloc, &declared)?)?;
-                }
-            }
-            ["managed", .., exclusions] => {
-                if let Some(declared) = declared(&words, "-", exclusions) {
-                    self.managed.push(dependency(alloc, &declared)?)?;
-                }
-            }
-            _ => {}
+        let (kind, _) = line.split_once(' ').unwrap_or((line, ""));
+        match kind {
+            "pom" => self.begin(alloc, words.as_slice()),
+            "needs" => self.add_need(alloc, words.as_slice()),
+            "managed" => self.add_managed(alloc, words.as_slice()),
+            _ => Ok(()),
         }
-        Ok(())
     }
 }

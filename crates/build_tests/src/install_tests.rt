@@ -1,30 +1,15 @@
 // Installs of one POM, and of three, over objects in memory, of which one call may fail (`mvn_top`).
-ghost use Rattle.std.specs.Prelude.{◌≤◌, length};
-
-use goal_types::{GoalAnswer, SourceFile};
-use mvn_base::Machine;
-use mvn_outside::Hand;
-use mvn_shared::{Bytes, List, Mem, Text};
-use mvn_top::mvn;
-use outside_mem::{Calls, MemArea, MemFile, MemGate, MemRemote, MemShelf, MemSink, MemTree};
+use crate::builds::{Fault, Manner, NO_FAULT, Pom, check};
+use mvn_shared::Mem;
 use std::alloc::Global;
 use std::process::Abort;
 use std::sync::Wait;
-use std::test::Fail;
 use std::thread::Threads;
 
 const POM: &[u8] =
     b"<project><modelVersion>4.0.0</modelVersion><groupId>demo</groupId><artifactId>app</artifactId><version>1.0</version></project>";
 
-// The path of a POM, and its text.
-pub(crate) type Pom = (&'static str, &'static [u8]);
-
 const ONE: &[Pom] = &[("pom.xml", POM)];
-
-// The object of which a call fails, and the number of that call.
-pub(crate) type Fault = (char, u64);
-
-pub(crate) const NO_FAULT: Fault = ('-', 0);
 
 // A POM whose parent has to be looked up by its coordinates.
 const CHILD: &[u8] =
@@ -44,135 +29,37 @@ const B: &[u8] =
 
 pub(crate) const THREE: &[Pom] = &[("pom.xml", ROOT), ("a/pom.xml", A), ("b/pom.xml", B)];
 
-type Worker = Hand<MemRemote<Calls>, MemArea<Calls>, MemGate<Calls>>;
-
-// The calls of an object that fail.
-pub(crate) fn failing(alloc: Global, fault: Fault, object: char) -> Mem<List<u64>> {
-    let mut calls = List::new(alloc);
-    if fault.0 == object {
-        calls.push(fault.1)?;
-    }
-    Ok(calls)
-}
-
-fn file(alloc: Global, pom: &Pom) -> Mem<SourceFile> {
-    let path = Text::from_str(alloc, pom.0)?;
-    let bytes = Bytes::from_slice(alloc, pom.1)?;
-    Ok(SourceFile { path, bytes })
-}
-
-pub(crate) fn tree(alloc: Global, poms: &[Pom], fault: Fault) -> Mem<MemTree<Calls>> {
-    let mut files = List::new(alloc);
-    for pom in poms {
-        files.push(file(alloc, pom)?)?;
-    }
-    MemTree::new(alloc, files, &failing(alloc, fault, 't')?)
-}
-
-// The answer of a letter: `Done` for `d`, an error for `f`, and else a byte of output.
-fn answer(alloc: Global, letter: u8) -> Mem<GoalAnswer> {
-    match letter {
-        b'd' => Ok(GoalAnswer::Done),
-        b'f' => Ok(GoalAnswer::Failed(Text::from_str(alloc, "1 error")?)),
-        _ => Ok(GoalAnswer::Produced(Bytes::from_slice(alloc, &[letter])?)),
-    }
-}
-
-fn gate(alloc: Global, letters: &str, fault: Fault) -> Mem<MemGate<Calls>> {
-    let mut answers = List::new(alloc);
-    for letter in letters.as_bytes() {
-        answers.push(answer(alloc, *letter)?)?;
-    }
-    MemGate::new(alloc, answers, &failing(alloc, fault, 'g')?)
-}
-
-// A worker whose remote has these files.
-pub(crate) fn worker(
-    alloc: Global,
-    files: List<MemFile>,
-    letters: &str,
-    fault: Fault,
-) -> Mem<Worker> {
-    let remote = MemRemote::new(alloc, files, &failing(alloc, fault, 'r')?)?;
-    let area = MemArea::new(alloc, &failing(alloc, fault, 'a')?)?;
-    let gate = gate(alloc, letters, fault)?;
-    Ok(Hand { remote, area, gate })
-}
-
-// A machine of which the folder of the project alone is known.
-pub(crate) fn machine(alloc: Global) -> Mem<Machine> {
-    let root = Text::from_str(alloc, "/w")?;
-    Ok(Machine {
-        root,
-        env: List::new(alloc),
-        system: List::new(alloc),
-        jdk: Text::of(String::new(alloc)),
-        os_name: Text::of(String::new(alloc)),
-        os_family: Text::of(String::new(alloc)),
-        os_arch: Text::of(String::new(alloc)),
-        os_version: Text::of(String::new(alloc)),
-    })
-}
-
-// What an install leaves.
-#[derive(Drop)]
-pub(crate) struct Left {
-    pub(crate) status: u8,
-    pub(crate) names: u64,
-    pub(crate) answers: usize,
-}
-
-// What these words leave, by these workers.
-pub(crate) fn installed<W: Threads + Wait + Sync>(
-    rt: &W,
-    alloc: Global,
-    words: &[Bytes],
-    tree: &mut MemTree<Calls>,
-    shelf: MemShelf<Calls>,
-    workers: &mut [Worker],
-    sink: &mut MemSink<Calls>,
-) -> Mem<Left>
-    requires { (1 ≤ length workers.old) × (length workers.old ≤ 16) }
-{
-    let machine = machine(alloc)?;
-    let ended = mvn(rt, alloc, words, machine, tree, shelf, workers, sink);
-    Ok(Left {
-        status: ended.status,
-        names: ended.shelf.names(),
-        answers: ended.answers.len(),
-    })
-}
-
-// An install by one worker of these POMs, with these answers and this fault.
-fn install<W: Threads + Wait + Sync>(
+// An install of these POMs, by one worker whose goals have these answers.
+fn check_install<W: Abort + Threads + Wait + Sync>(
     rt: &W,
     alloc: Global,
     poms: &[Pom],
     letters: &str,
     fault: Fault,
-    sink: &mut MemSink<Calls>,
-) -> Mem<Left> {
-    let mut tree = tree(alloc, poms, fault)?;
-    let shelf = MemShelf::new(alloc, List::new(alloc), &failing(alloc, fault, 's')?)?;
-    let mut workers = [worker(alloc, List::new(alloc), letters, fault)?];
-    let words = [Bytes::from_slice(alloc, b"install")?];
-    installed(rt, alloc, &words, &mut tree, shelf, &mut workers, sink)
+    wanted: (u8, u64),
+    text: &str,
+) -> Mem<(usize, usize)> {
+    let manner = Manner {
+        poms,
+        workers: 1,
+        parts: &[],
+        letters,
+        fault,
+    };
+    check(rt, alloc, &["install"], &manner, wanted, text)
 }
 
-// Such an install ends with this status, so many names in the repository and so many answers, and writes this text.
-fn check<W: Abort + Threads + Wait + Sync>(
+// An install of one POM ends with this status, so many names in the repository and so many answers, and writes this text.
+fn check_answers<W: Abort + Threads + Wait + Sync>(
     rt: &W,
     alloc: Global,
     letters: &str,
-    fault: Fault,
     wanted: (u8, u64, usize),
     text: &str,
 ) -> Mem<()> {
-    let mut sink = MemSink::new(alloc, &failing(alloc, fault, 'o')?)?;
-    let left = install(rt, alloc, ONE, letters, fault, &mut sink)?;
-    assert_eq!(rt; (left.status, left.names), (wanted.0, wanted.1), "{text}");
-    assert!(rt; left.answers == wanted.2 || left.status > 2);
-    assert!(rt; sink.bytes() == text.as_bytes());
+    let (status, names, count) = wanted;
+    let (_, answers) = check_install(rt, alloc, ONE, letters, NO_FAULT, (status, names), text)?;
+    assert!(rt; answers == count);
     Ok(())
 }
 
@@ -185,11 +72,10 @@ const NO_ARTIFACT: &str = "failed demo:app:1.0 no artifact\ntotal 1 built 0 fail
 
 // The goals are resources, compile, testResources, testCompile, test and jar.
 #[test]
-fn an_install_runs_six_goals_and_puts_two_files(rt: HostRuntime) -> Result<(), Fail> {
-    check(&rt, rt.alloc(), "dcdtdj", NO_FAULT, (0, 2, 6), BUILT)?;
-    check(&rt, rt.alloc(), "df", NO_FAULT, (1, 0, 2), GOAL)?;
-    check(&rt, rt.alloc(), "", NO_FAULT, (1, 0, 6), NO_ARTIFACT)?;
-    Ok(())
+fn an_install_runs_six_goals_and_puts_two_files(rt: HostRuntime) -> Mem<()> {
+    check_answers(&rt, rt.alloc(), "dcdtdj", (0, 2, 6), BUILT)?;
+    check_answers(&rt, rt.alloc(), "df", (1, 0, 2), GOAL)?;
+    check_answers(&rt, rt.alloc(), "", (1, 0, 6), NO_ARTIFACT)
 }
 
 // An install of which one of these calls of the object fails ends with status 3, so many names and this text.
@@ -202,7 +88,7 @@ fn check_fault<W: Abort + Threads + Wait + Sync>(
     text: &str,
 ) -> Mem<()> {
     for call in calls.0..calls.1 {
-        check(rt, alloc, "dcdtdj", (object, call), (3, names, 0), text)?;
+        check_install(rt, alloc, ONE, "dcdtdj", (object, call), (3, names), text)?;
     }
     Ok(())
 }
@@ -220,7 +106,7 @@ pub(crate) const SETTLE: &str =
     "built demo:app:1.0\ntotal 1 built 1 failed 0 skipped 0\nfault settle\n";
 
 #[test]
-fn each_call_that_fails_is_told(rt: HostRuntime) -> Result<(), Fail> {
+fn each_call_that_fails_is_told(rt: HostRuntime) -> Mem<()> {
     check_fault(&rt, rt.alloc(), 't', (0, 5), 0, "fault tree\n")?;
     check_fault(&rt, rt.alloc(), 'a', (0, 1), 0, "fault area\n")?;
     check_fault(&rt, rt.alloc(), 'a', (1, 4), 0, AREA)?;
@@ -242,17 +128,14 @@ fn check_child<W: Abort + Threads + Wait + Sync>(
     status: u8,
     text: &str,
 ) -> Mem<()> {
-    let mut sink = MemSink::new(alloc, &failing(alloc, fault, 'o')?)?;
-    let left = install(rt, alloc, ALONE, "", fault, &mut sink)?;
-    assert_eq!(rt; (left.status, left.names), (status, 0), "{text}");
-    assert!(rt; sink.bytes() == text.as_bytes());
+    check_install(rt, alloc, ALONE, "", fault, (status, 0), text)?;
     Ok(())
 }
 
 const NO_PARENT: &str = "refused pom.xml rule 11 ParentNotFound at g:p:1\n";
 
 #[test]
-fn a_look_up_that_fails_names_the_device(rt: HostRuntime) -> Result<(), Fail> {
+fn a_look_up_that_fails_names_the_device(rt: HostRuntime) -> Mem<()> {
     check_child(&rt, rt.alloc(), ('t', 0), 3, "fault tree\n")?;
     check_child(&rt, rt.alloc(), ('s', 0), 3, "fault shelf\n")?;
     check_child(&rt, rt.alloc(), ('r', 0), 3, "fault remote\n")?;
@@ -270,10 +153,15 @@ fn check_three<W: Abort + Threads + Wait + Sync>(
     text: &str,
 ) -> Mem<()> {
     for call in calls.0..calls.1 {
-        let mut sink = MemSink::new(alloc, &failing(alloc, (object, call), 'o')?)?;
-        let left = install(rt, alloc, THREE, "dcdtdjdcdtdj", (object, call), &mut sink)?;
-        assert_eq!(rt; (left.status, left.names), wanted, "{text}");
-        assert!(rt; sink.bytes() == text.as_bytes());
+        check_install(
+            rt,
+            alloc,
+            THREE,
+            "dcdtdjdcdtdj",
+            (object, call),
+            wanted,
+            text,
+        )?;
     }
     Ok(())
 }
@@ -289,7 +177,7 @@ const GATE_B: &str =
 
 // The goals of `a` are the first six.
 #[test]
-fn a_goal_that_fails_of_three_modules(rt: HostRuntime) -> Result<(), Fail> {
+fn a_goal_that_fails_of_three_modules(rt: HostRuntime) -> Mem<()> {
     check_three(&rt, rt.alloc(), '-', (0, 1), (0, 5), ALL)?;
     check_three(&rt, rt.alloc(), 'g', (0, 6), (3, 1), GATE_A)?;
     check_three(&rt, rt.alloc(), 'g', (6, 12), (3, 3), GATE_B)?;
@@ -311,7 +199,7 @@ const AREA_B: &str =
 
 // The area is swept, and then each of five files is begun, written and sealed.
 #[test]
-fn an_area_that_fails_below_three_modules(rt: HostRuntime) -> Result<(), Fail> {
+fn an_area_that_fails_below_three_modules(rt: HostRuntime) -> Mem<()> {
     check_three(&rt, rt.alloc(), 'a', (0, 1), (3, 0), "fault area\n")?;
     check_three(&rt, rt.alloc(), 'a', (1, 4), (3, 0), AREA_ROOT)?;
     check_three(&rt, rt.alloc(), 'a', (4, 7), (3, 1), AREA_A)?;
@@ -336,7 +224,7 @@ const UNSETTLED: &str =
 
 // It is asked for the fourteen files that the modules may have, gets five, and is settled.
 #[test]
-fn a_repository_that_fails_below_three_modules(rt: HostRuntime) -> Result<(), Fail> {
+fn a_repository_that_fails_below_three_modules(rt: HostRuntime) -> Mem<()> {
     check_three(&rt, rt.alloc(), 's', (0, 14), (3, 0), "fault shelf\n")?;
     check_three(&rt, rt.alloc(), 's', (14, 15), (3, 0), SHELF_ROOT)?;
     check_three(&rt, rt.alloc(), 's', (15, 16), (3, 1), SHELF_A)?;

@@ -2,8 +2,12 @@
 #![tactic(auto)]
 
 #[cfg(test)]
+mod builds;
+#[cfg(test)]
 mod fetch_tests;
 #[cfg(test)]
 mod generated_tests;
 #[cfg(test)]
 mod install_tests;
+#[cfg(test)]
+mod library;

@@ -125,15 +125,15 @@ fn call<W: Threads + Wait + Sync>(
     rt: &W,
     alloc: Global,
     words: &[Bytes],
+    machine: Machine,
     tree: &mut MemTree<Calls>,
     shelf: MemShelf<Calls>,
     hands: &mut [Worker],
     sink: &mut MemSink<Calls>,
-) -> Mem<Ended<MemShelf<Calls>>>
+) -> Ended<MemShelf<Calls>>
     requires { (1 ≤ length hands.old) × (length hands.old ≤ 16) }
 {
-    let machine = machine(alloc)?;
-    Ok(mvn(rt, alloc, words, machine, tree, shelf, hands, sink))
+    mvn(rt, alloc, words, machine, tree, shelf, hands, sink)
 }
 
 // The same over the objects of a project.
@@ -145,13 +145,17 @@ fn installed<W: Threads + Wait + Sync>(
     sink: &mut MemSink<Calls>,
 ) -> Mem<Ended<MemShelf<Calls>>> {
     let words = words(alloc, manner.workers)?;
+    let machine = machine(alloc)?;
     let mut tree = tree(alloc, project)?;
     let mut hands = workers(alloc, project, manner)?;
     if hands.is_empty() || hands.len() > 16 {
         return Err(OutOfMemory);
     }
     let shelf = shelf(alloc, project, manner)?;
-    call(rt, alloc, &words, &mut tree, shelf, &mut hands, sink)
+    let ended = call(
+        rt, alloc, &words, machine, &mut tree, shelf, &mut hands, sink,
+    );
+    Ok(ended)
 }
 
 // What stands under a name; a call that fails is made again, since a call fails once.

@@ -26,47 +26,54 @@ fn paths(alloc: Global, poms: &List<ModulePom>) -> Mem<String> {
 }
 
 // Why there are none.
-fn fault_text(alloc: Global, fault: &BuildFault) -> anyhow::Result<String> {
-    let text = match fault {
-        BuildFault::Refused(refusal) => format!(in alloc; "{refusal}")?,
-        BuildFault::Absent => String::from_str(alloc, "no such POM")?,
-        BuildFault::Source => String::from_str(alloc, "the source failed")?,
-        BuildFault::Memory => String::from_str(alloc, "out of memory")?,
-    };
-    Ok(text)
-}
-
-// What is found.
-fn found(
-    alloc: Global,
-    project: &mut Project,
-    ids: &str,
-) -> anyhow::Result<Result<List<ModulePom>, BuildFault>> {
-    let given = given(alloc, ids)?;
-    let mut store = Store::new(alloc);
-    Ok(discover(alloc, &mut store, project, &given))
-}
-
-fn told(alloc: Global, project: &mut Project, ids: &str) -> anyhow::Result<String> {
-    match found(alloc, project, ids)? {
-        Ok(poms) => Ok(paths(alloc, &poms)?),
-        Err(fault) => fault_text(alloc, &fault),
+fn fault_text(alloc: Global, fault: &BuildFault) -> Mem<String> {
+    match fault {
+        BuildFault::Refused(refusal) => Ok(format!(in alloc; "{refusal}")?),
+        BuildFault::Absent => Ok(String::from_str(alloc, "no such POM")?),
+        BuildFault::Source => Ok(String::from_str(alloc, "the source failed")?),
+        BuildFault::Memory => Ok(String::from_str(alloc, "out of memory")?),
     }
 }
 
-// How many POMs are found.
-fn counted(alloc: Global, project: &mut Project) -> anyhow::Result<String> {
-    match found(alloc, project, "")? {
+// What is found.
+type Found = Result<List<ModulePom>, BuildFault>;
+
+fn found(alloc: Global, project: &mut Project, ids: &str) -> Found {
+    let given = given(alloc, ids)?;
+    let mut store = Store::new(alloc);
+    discover(alloc, &mut store, project, &given)
+}
+
+fn found_text(alloc: Global, found: &Found) -> Mem<String> {
+    match found {
+        Ok(poms) => paths(alloc, poms),
+        Err(fault) => fault_text(alloc, fault),
+    }
+}
+
+fn told(alloc: Global, project: &mut Project, ids: &str) -> Mem<String> {
+    let found = found(alloc, project, ids);
+    found_text(alloc, &found)
+}
+
+fn count_text(alloc: Global, found: &Found) -> Mem<String> {
+    match found {
         Ok(poms) => {
             let count = poms.len();
             Ok(format!(in alloc; "{count}")?)
         }
-        Err(fault) => fault_text(alloc, &fault),
+        Err(fault) => fault_text(alloc, fault),
     }
 }
 
+// How many POMs are found.
+fn counted(alloc: Global, project: &mut Project) -> Mem<String> {
+    let found = found(alloc, project, "");
+    count_text(alloc, &found)
+}
+
 /// What is told of a project that is spelled, with profiles switched on.
-pub(crate) fn spelled(alloc: Global, fields: &[&str]) -> anyhow::Result<String> {
+pub(crate) fn spelled(alloc: Global, fields: &[&str]) -> Mem<String> {
     let mut project = empty(alloc, &List::new(alloc))?;
     if let Some((ids, files)) = fields.split_first() {
         put_fields(alloc, &mut project, files)?;
@@ -76,7 +83,7 @@ pub(crate) fn spelled(alloc: Global, fields: &[&str]) -> anyhow::Result<String> 
 }
 
 /// What is told where a call fails.
-pub(crate) fn failing(alloc: Global, fields: &[&str]) -> anyhow::Result<String> {
+pub(crate) fn failing(alloc: Global, fields: &[&str]) -> Mem<String> {
     let mut numbers = List::new(alloc);
     numbers.push(field(fields, 0).parse::<u64>().unwrap_or(0))?;
     let mut project = empty(alloc, &numbers)?;
@@ -87,14 +94,14 @@ pub(crate) fn failing(alloc: Global, fields: &[&str]) -> anyhow::Result<String> 
 }
 
 /// How many POMs there are where each lists the next.
-pub(crate) fn deep(alloc: Global, row: &str) -> anyhow::Result<String> {
+pub(crate) fn deep(alloc: Global, row: &str) -> Mem<String> {
     let mut project = empty(alloc, &List::new(alloc))?;
     put_deep(alloc, &mut project, row.parse::<u32>().unwrap_or(0))?;
     counted(alloc, &mut project)
 }
 
 /// How many there are where the root lists all.
-pub(crate) fn wide(alloc: Global, row: &str) -> anyhow::Result<String> {
+pub(crate) fn wide(alloc: Global, row: &str) -> Mem<String> {
     let mut project = empty(alloc, &List::new(alloc))?;
     put_wide(alloc, &mut project, row.parse::<u32>().unwrap_or(0))?;
     counted(alloc, &mut project)
@@ -137,17 +144,27 @@ fn ordered_text(alloc: Global, models: &[Shared<Model>], words: &str) -> Mem<Str
     }
 }
 
-// The same of a project.
-fn selected_text(alloc: Global, project: &mut Project, words: &str) -> anyhow::Result<String> {
-    let given = given(alloc, "")?;
-    match models(alloc, project, &given) {
-        Ok(models) => Ok(ordered_text(alloc, &models, words)?),
-        Err(fault) => fault_text(alloc, &fault),
+// The same of a project's models.
+fn models_text(
+    alloc: Global,
+    models: &Result<Vec<Shared<Model>>, BuildFault>,
+    words: &str,
+) -> Mem<String> {
+    match models {
+        Ok(models) => ordered_text(alloc, models.as_slice(), words),
+        Err(fault) => fault_text(alloc, fault),
     }
 }
 
+// The same of a project.
+fn selected_text(alloc: Global, project: &mut Project, words: &str) -> Mem<String> {
+    let given = given(alloc, "")?;
+    let models = models(alloc, project, &given);
+    models_text(alloc, &models, words)
+}
+
 /// The modules that words select, in the order in which they are built.
-pub(crate) fn selected(alloc: Global, fields: &[&str]) -> anyhow::Result<String> {
+pub(crate) fn selected(alloc: Global, fields: &[&str]) -> Mem<String> {
     let mut project = empty(alloc, &List::new(alloc))?;
     if let Some((words, files)) = fields.split_first() {
         put_all_named(alloc, &mut project, files)?;

@@ -15,11 +15,12 @@ mod given;
 mod ordering;
 mod project;
 
+use mvn_shared::Mem;
 use row_models::split_row;
 use std::alloc::Global;
 
 // What is told of a row.
-fn told(alloc: Global, kind: &str, row: &str) -> anyhow::Result<String> {
+fn told(alloc: Global, kind: &str, row: &str) -> Mem<String> {
     let fields = split_row(alloc, row)?;
     match kind {
         "discover" => answers::spelled(alloc, fields.as_slice()),

@@ -146,16 +146,42 @@ fn pairs(alloc: Global, variables: &BTreeMap<Text, Text>) -> Mem<List<Pair>> {
     Ok(pairs)
 }
 
+// What the system is.
+#[derive(Drop)]
+struct System {
+    name: Text,
+    family: Text,
+    arch: Text,
+    version: Text,
+}
+
+fn linux(alloc: Global) -> Mem<System> {
+    let name = Text::from_str(alloc, "linux")?;
+    let family = Text::from_str(alloc, "unix")?;
+    let arch = Text::from_str(alloc, "")?;
+    let version = Text::from_str(alloc, "")?;
+    Ok(System {
+        name,
+        family,
+        arch,
+        version,
+    })
+}
+
 /// What a project may ask of this machine.
 pub(crate) fn machine(alloc: Global, variables: &BTreeMap<Text, Text>) -> Mem<Machine> {
+    let root = variable_or(alloc, variables, "PWD", ".")?;
+    let jdk = variable_or(alloc, variables, "MVN_JDK", "")?;
+    let env = pairs(alloc, variables)?;
+    let system = linux(alloc)?;
     Ok(Machine {
-        root: variable_or(alloc, variables, "PWD", ".")?,
-        env: pairs(alloc, variables)?,
+        root,
+        env,
         system: List::new(alloc),
-        jdk: variable_or(alloc, variables, "MVN_JDK", "")?,
-        os_name: Text::from_str(alloc, "linux")?,
-        os_family: Text::from_str(alloc, "unix")?,
-        os_arch: Text::from_str(alloc, "")?,
-        os_version: Text::from_str(alloc, "")?,
+        jdk,
+        os_name: system.name,
+        os_family: system.family,
+        os_arch: system.arch,
+        os_version: system.version,
     })
 }

@@ -6,15 +6,19 @@ ghost use Rattle.mvn_cli.specs.Gates.{named_program, gate_program};
 
 mod environment;
 mod gates;
+mod places;
 mod words;
 
-use environment::{machine, process_name, variable_or, variables, words};
+use environment::{machine, variables, words};
 use gates::{RealGate, gate};
 use generated_run::run_words;
+use mvn_base::Machine;
 use mvn_outside::{DeviceFault, Hand, Sink, write_all};
 use mvn_shared::{Bytes, Mem, Text};
 use mvn_top::{FAULT, NO_MEMORY};
 use outside_real::{RealArea, RealRemote, RealShelf, RealSink, RealTree};
+use places::{Places, named_places};
+use std::alloc::Global;
 use std::os::fd::AsFd;
 use std::process::{ChildStdin, ExitCode};
 use std::sync::Wait;
@@ -107,43 +111,49 @@ fn status_of_text<O: Sink>(sink: &mut O, text: &str) -> u8 {
 }
 
 // The hand with this number: the remote, its own staging folder in the repository, and what runs the goals.
-fn hand<'a>(
-    rt: &'a HostRuntime,
-    repository: &Text,
-    remote: &Text,
-    process: &Text,
-    program: &Text,
-    number: usize,
-) -> Mem<RealHand<'a>>
-    ensures { IfOk result (λ hand. gate_program hand.gate ≡ named_program program.now) }
+fn hand<'a>(rt: &'a HostRuntime, places: &Places, number: usize) -> Mem<RealHand<'a>>
+    ensures { IfOk result (λ hand.
+        gate_program hand.gate ≡ named_program places.now.program) }
 {
     let alloc = rt.alloc();
+    let repository = &places.repository;
     let staging = format!(in alloc; "{repository}/.staging/{number}")?;
     Ok(Hand {
-        remote: RealRemote::new(rt, remote.clone()?),
-        area: RealArea::new(rt, Text::of(staging), process.clone()?),
-        gate: gate(rt, program)?,
+        remote: RealRemote::new(rt, places.remote.clone()?),
+        area: RealArea::new(rt, Text::of(staging), places.process.clone()?),
+        gate: gate(rt, &places.program)?,
     })
 }
 
 // The hands, all of which run the goals alike.
-fn hands<'a>(
-    rt: &'a HostRuntime,
-    repository: &Text,
-    remote: &Text,
-    process: &Text,
-    program: &Text,
-) -> Mem<Vec<RealHand<'a>>>
+fn hands<'a>(rt: &'a HostRuntime, places: &Places) -> Mem<Vec<RealHand<'a>>>
     ensures count { IfOk result (λ hands. length hands.items ≡ 16) }
     ensures gates { IfOk result (λ hands. map (λ hand. gate_program hand.gate) hands.items
-        ≡ replicate 16 (named_program program.now)) }
+        ≡ replicate 16 (named_program places.now.program)) }
 {
     let alloc = rt.alloc();
     let mut hands = Vec::with_capacity(alloc, HANDS)?;
     for i in 0..HANDS {
-        hands.push(hand(rt, repository, remote, process, program, i)?)?;
+        hands.push(hand(rt, places, i)?)?;
     }
     Ok(hands)
+}
+
+// Runs the words over these devices, in threads that `threads` starts. The exit status.
+fn run_over<'a, W: Threads + Wait + Sync, O: Sink>(
+    threads: &W,
+    alloc: Global,
+    words: &[Bytes],
+    machine: Machine,
+    tree: &mut RealTree<'a, HostRuntime>,
+    shelf: RealShelf<'a, HostRuntime>,
+    hands: &mut [RealHand<'a>],
+    out: &mut O,
+) -> u8
+    requires { length hands.old ≡ 16 }
+{
+    let ended = run_words(threads, alloc, words, machine, tree, shelf, hands, out);
+    ended.status
 }
 
 // Builds the project in the current folder, in threads that `threads` starts.
@@ -155,18 +165,14 @@ fn build<W: Threads + Wait + Sync, O: Sink>(
 ) -> Mem<u8> {
     let alloc = rt.alloc();
     let variables = variables(rt, alloc)?;
+    let places = named_places(rt, alloc, &variables)?;
     let machine = machine(alloc, &variables)?;
-    let repository = variable_or(alloc, &variables, "MVN_REPO", ".m2/repository")?;
-    let remote = variable_or(alloc, &variables, "MVN_REMOTE", ".m2/remote")?;
-    let program = variable_or(alloc, &variables, "MVN_GATE", "")?;
-    let process = process_name(rt, alloc)?;
-    let mut hands = hands(rt, &repository, &remote, &process, &program)?;
+    let mut hands = hands(rt, &places)?;
     let mut tree = RealTree::new(rt, Text::from_str(alloc, ".")?);
-    let shelf = RealShelf::new(rt, repository);
-    let ended = run_words(
+    let shelf = RealShelf::new(rt, places.repository.clone()?);
+    Ok(run_over(
         threads, alloc, words, machine, &mut tree, shelf, &mut hands, out,
-    );
-    Ok(ended.status)
+    ))
 }
 
 // The exit status of a run.

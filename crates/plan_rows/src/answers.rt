@@ -1,63 +1,26 @@
 // What is told of rows.
-use crate::planning::{Failing, NONE, plan};
+use crate::planning::{Failing, NONE, told};
 use crate::project::{Files, files_of, no_files, put_file, put_module};
-use crate::shown::{count_text, order_text, plan_text};
+use crate::shown::Shown;
 use mvn_shared::{Bytes, Mem};
-use plan_numbers::Planned;
 use row_models::field;
 use std::alloc::Global;
 
-// The plan of a row's files for its words, or why there is none.
-fn plan_of(alloc: Global, fields: &[&str], failing: Failing) -> Mem<Result<Planned, String>> {
+/// What is told of the plan of a row's files for its words, or why there is none.
+pub(crate) fn planned(alloc: Global, fields: &[&str], shown: Shown) -> Mem<String> {
     match fields.split_first() {
-        Some((words, files)) => {
-            let files = files_of(alloc, files)?;
-            plan(alloc, files, *words, failing)
-        }
-        None => plan(alloc, no_files(alloc), "", failing),
-    }
-}
-
-/// The modules in their order.
-pub(crate) fn ordered(alloc: Global, fields: &[&str]) -> anyhow::Result<String> {
-    match plan_of(alloc, fields, NONE)? {
-        Ok(planned) => Ok(order_text(alloc, &planned.plan)?),
-        Err(text) => Ok(text),
-    }
-}
-
-/// The whole plan.
-pub(crate) fn planned(alloc: Global, fields: &[&str]) -> anyhow::Result<String> {
-    match plan_of(alloc, fields, NONE)? {
-        Ok(planned) => Ok(plan_text(alloc, &planned.plan)?),
-        Err(text) => Ok(text),
-    }
-}
-
-/// Its counts.
-pub(crate) fn counted(alloc: Global, fields: &[&str]) -> anyhow::Result<String> {
-    match plan_of(alloc, fields, NONE)? {
-        Ok(planned) => Ok(count_text(alloc, &planned.plan)?),
-        Err(text) => Ok(text),
+        Some((words, files)) => told(alloc, files_of(alloc, files)?, *words, NONE, shown),
+        None => told(alloc, no_files(alloc), "", NONE, shown),
     }
 }
 
 // The modules in their order, for words, where a device's call fails.
-fn failing_text(
-    alloc: Global,
-    words: &str,
-    files: &[&str],
-    failing: Failing,
-) -> anyhow::Result<String> {
-    let files = files_of(alloc, files)?;
-    match plan(alloc, files, words, failing)? {
-        Ok(planned) => Ok(order_text(alloc, &planned.plan)?),
-        Err(text) => Ok(text),
-    }
+fn failing_text(alloc: Global, words: &str, files: &[&str], failing: Failing) -> Mem<String> {
+    told(alloc, files_of(alloc, files)?, words, failing, Shown::Order)
 }
 
 /// The modules in their order where a call fails: the first field is the device, the call's number, and the words.
-pub(crate) fn failing(alloc: Global, fields: &[&str]) -> anyhow::Result<String> {
+pub(crate) fn failing(alloc: Global, fields: &[&str]) -> Mem<String> {
     let first = field(fields, 0);
     let (device, rest) = first.split_once(' ').unwrap_or((first, ""));
     let (number, words) = rest.split_once(' ').unwrap_or((rest, ""));
@@ -69,7 +32,7 @@ pub(crate) fn failing(alloc: Global, fields: &[&str]) -> anyhow::Result<String> 
 }
 
 // Calls of a device fail in turn, until one more isn't asked for.
-fn faults_text(alloc: Global, words: &str, files: &[&str], device: &str) -> anyhow::Result<String> {
+fn faults_text(alloc: Global, words: &str, files: &[&str], device: &str) -> Mem<String> {
     let wanted = format!(in alloc; "fault {device}")?;
     for number in 0..1000u64 {
         let told = failing_text(alloc, words, files, (device, number))?;
@@ -81,7 +44,7 @@ fn faults_text(alloc: Global, words: &str, files: &[&str], device: &str) -> anyh
 }
 
 /// How many calls of a device there are: each fails in turn, and is named; and the modules in their order after that.
-pub(crate) fn faults(alloc: Global, fields: &[&str]) -> anyhow::Result<String> {
+pub(crate) fn faults(alloc: Global, fields: &[&str]) -> Mem<String> {
     let first = field(fields, 0);
     let (device, words) = first.split_once(' ').unwrap_or((first, ""));
     match fields.split_first() {
@@ -121,13 +84,10 @@ fn wide_files(alloc: Global, count: u32) -> Mem<Files> {
 }
 
 /// The counts of the plan of a root and so many modules.
-pub(crate) fn wide(alloc: Global, row: &str) -> anyhow::Result<String> {
+pub(crate) fn wide(alloc: Global, row: &str) -> Mem<String> {
     let (number, words) = row.split_once(' ').unwrap_or((row, ""));
     let files = wide_files(alloc, number.parse::<u32>().unwrap_or(0))?;
-    match plan(alloc, files, words, NONE)? {
-        Ok(planned) => Ok(count_text(alloc, &planned.plan)?),
-        Err(text) => Ok(text),
-    }
+    told(alloc, files, words, NONE, Shown::Counts)
 }
 
 fn put_source(alloc: Global, files: &mut Files, number: u32) -> Mem<()> {
@@ -151,11 +111,8 @@ fn many_files(alloc: Global, count: u32) -> Mem<Files> {
 }
 
 /// The modules in their order, of a project with so many sources.
-pub(crate) fn many(alloc: Global, row: &str) -> anyhow::Result<String> {
+pub(crate) fn many(alloc: Global, row: &str) -> Mem<String> {
     let (number, words) = row.split_once(' ').unwrap_or((row, ""));
     let files = many_files(alloc, number.parse::<u32>().unwrap_or(0))?;
-    match plan(alloc, files, words, NONE)? {
-        Ok(planned) => Ok(order_text(alloc, &planned.plan)?),
-        Err(text) => Ok(text),
-    }
+    told(alloc, files, words, NONE, Shown::Order)
 }

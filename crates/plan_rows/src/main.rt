@@ -26,16 +26,18 @@ mod planning;
 mod project;
 mod shown;
 
+use mvn_shared::Mem;
 use row_models::split_row;
+use shown::Shown;
 use std::alloc::Global;
 
 // What is told of a row.
-fn told(alloc: Global, kind: &str, row: &str) -> anyhow::Result<String> {
+fn told(alloc: Global, kind: &str, row: &str) -> Mem<String> {
     let fields = split_row(alloc, row)?;
     match kind {
-        "order" => answers::ordered(alloc, fields.as_slice()),
-        "plan" => answers::planned(alloc, fields.as_slice()),
-        "count" => answers::counted(alloc, fields.as_slice()),
+        "order" => answers::planned(alloc, fields.as_slice(), Shown::Order),
+        "plan" => answers::planned(alloc, fields.as_slice(), Shown::Whole),
+        "count" => answers::planned(alloc, fields.as_slice(), Shown::Counts),
         "failing" => answers::failing(alloc, fields.as_slice()),
         "faults" => answers::faults(alloc, fields.as_slice()),
         "wide" => answers::wide(alloc, row),

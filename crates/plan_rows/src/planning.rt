@@ -1,13 +1,13 @@
 // The plan of a project in memory.
 use crate::given::{given, line};
 use crate::project::Files;
+use crate::shown::{Shown, plan_text};
 use build_plan::{PlanFault, Planning, plan_build};
 use cli_words::CommandLine;
 use goal_types::SourceFile;
 use model_resolver::PomDevice;
 use mvn_shared::{List, Mem, OutOfMemory};
 use outside_mem::{Calls, MemFile, MemRemote, MemShelf, MemTree};
-use plan_numbers::Planned;
 use pom_source::{BuildFault, Given};
 use std::alloc::Global;
 
@@ -96,34 +96,41 @@ fn fault_text(alloc: Global, fault: &PlanFault, failed: Option<PomDevice>) -> Me
     }
 }
 
-// The plan for a command line, or why there is none.
-fn plan_of(
+// What is told of what planning gives.
+fn planning_text(alloc: Global, planning: &Planning, shown: Shown) -> Mem<String> {
+    match &planning.answer {
+        Ok(planned) => plan_text(alloc, &planned.plan, shown),
+        Err(fault) => fault_text(alloc, fault, planning.failed),
+    }
+}
+
+// What is told for a command line.
+fn line_text(
     alloc: Global,
     files: Files,
     given: &Given,
     line: &CommandLine,
     failing: Failing,
-) -> Mem<Result<Planned, String>> {
-    let Planning { answer, failed } = planning(alloc, files, given, line, failing)?;
-    match answer {
-        Ok(planned) => Ok(Ok(planned)),
-        Err(fault) => Ok(Err(fault_text(alloc, &fault, failed)?)),
-    }
+    shown: Shown,
+) -> Mem<String> {
+    let planning = planning(alloc, files, given, line, failing)?;
+    planning_text(alloc, &planning, shown)
 }
 
-/// The plan for the words of a command line, or why there is none.
-pub(crate) fn plan(
+/// What is told of the plan for the words of a command line, or why there is none.
+pub(crate) fn told(
     alloc: Global,
     files: Files,
     words: &str,
     failing: Failing,
-) -> Mem<Result<Planned, String>> {
+    shown: Shown,
+) -> Mem<String> {
     let Ok(first) = line(alloc, words) else {
-        return Ok(Err(String::from_str(alloc, "no command line")?));
+        return Ok(String::from_str(alloc, "no command line")?);
     };
     let given = given(alloc, first)?;
     let Ok(line) = line(alloc, words) else {
-        return Ok(Err(String::from_str(alloc, "no command line")?));
+        return Ok(String::from_str(alloc, "no command line")?);
     };
-    plan_of(alloc, files, &given, &line, failing)
+    line_text(alloc, files, &given, &line, failing, shown)
 }

@@ -5,6 +5,17 @@ use mvn_base::FileName;
 use mvn_shared::{Mem, Text};
 use std::alloc::Global;
 
+/// What is told of a plan.
+#[derive(Clone, Copy)]
+pub(crate) enum Shown {
+    /// The artifacts of the modules in their order, each with the places of those that it stands on.
+    Order,
+    /// The names and the files, and a line for each module.
+    Whole,
+    /// How many modules, names and files there are, the workers, the events, and the first module's budget.
+    Counts,
+}
+
 // A module's artifact, and the places of those that it stands on.
 fn push_placed(alloc: Global, text: &mut String, module: &PlanModule) -> Mem<()> {
     if !text.is_empty() {
@@ -14,8 +25,8 @@ fn push_placed(alloc: Global, text: &mut String, module: &PlanModule) -> Mem<()>
     push_numbers(alloc, text, "on", module.upstream.as_slice())
 }
 
-/// The artifacts of the modules in their order, each with the places of those that it stands on.
-pub(crate) fn order_text(alloc: Global, plan: &Plan) -> Mem<String> {
+// The artifacts of the modules in their order, each with the places of those that it stands on.
+fn order_text(alloc: Global, plan: &Plan) -> Mem<String> {
     let mut text = String::new(alloc);
     for module in plan.modules.as_slice() {
         push_placed(alloc, &mut text, module)?;
@@ -23,8 +34,8 @@ pub(crate) fn order_text(alloc: Global, plan: &Plan) -> Mem<String> {
     Ok(text)
 }
 
-/// How many modules, names and files there are, the workers, the events, and the first module's budget.
-pub(crate) fn count_text(alloc: Global, plan: &Plan) -> Mem<String> {
+// How many modules, names and files there are, the workers, the events, and the first module's budget.
+fn count_text(alloc: Global, plan: &Plan) -> Mem<String> {
     let modules = plan.modules.len();
     let names = plan.names.len();
     let files = plan.files.len();
@@ -68,8 +79,8 @@ fn push_files(text: &mut String, plan: &Plan) -> Mem<()> {
     Ok(())
 }
 
-/// The names and the files of a plan, and a line for each module.
-pub(crate) fn plan_text(alloc: Global, plan: &Plan) -> Mem<String> {
+// The names and the files of a plan, and a line for each module.
+fn whole_text(alloc: Global, plan: &Plan) -> Mem<String> {
     let mut text = String::new(alloc);
     push_names(&mut text, plan.names.as_slice())?;
     push_files(&mut text, plan)?;
@@ -77,4 +88,13 @@ pub(crate) fn plan_text(alloc: Global, plan: &Plan) -> Mem<String> {
         push_module(alloc, &mut text, module)?;
     }
     Ok(text)
+}
+
+/// A plan as it is told.
+pub(crate) fn plan_text(alloc: Global, plan: &Plan, shown: Shown) -> Mem<String> {
+    match shown {
+        Shown::Order => order_text(alloc, plan),
+        Shown::Whole => whole_text(alloc, plan),
+        Shown::Counts => count_text(alloc, plan),
+    }
 }

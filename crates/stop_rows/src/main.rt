@@ -22,6 +22,7 @@ mod builds;
 mod compared;
 mod project;
 
+use mvn_shared::Mem;
 use std::alloc::{AllocError, Global};
 use std::sync::Wait;
 use std::thread::Threads;
@@ -32,25 +33,20 @@ fn split<'a>(alloc: Global, files: &'a str) -> Result<Vec<&'a str>, AllocError> 
 }
 
 // What is told of a row.
-fn told<W: Threads + Wait + Sync>(
-    rt: &W,
-    alloc: Global,
-    kind: &str,
-    row: &str,
-) -> anyhow::Result<String> {
+fn told<W: Threads + Wait + Sync>(rt: &W, alloc: Global, kind: &str, row: &str) -> Mem<String> {
     let (numbers, files) = row.split_once('|').unwrap_or((row, ""));
     let numbers = answers::numbers(alloc, numbers)?;
     let files = split(alloc, files)?;
     let project = project::project_of(alloc, files.as_slice())?;
     match kind {
-        "leftovers" => Ok(answers::leftovers(rt, alloc, &project, numbers.as_slice())?),
-        "area" => Ok(answers::area(rt, alloc, &project, numbers.as_slice())?),
-        _ => Ok(answers::images(rt, alloc, &project, numbers.as_slice())?),
+        "leftovers" => answers::leftovers(rt, alloc, &project, numbers.as_slice()),
+        "area" => answers::area(rt, alloc, &project, numbers.as_slice()),
+        _ => answers::images(rt, alloc, &project, numbers.as_slice()),
     }
 }
 
 // What is printed for a line.
-fn answer<W: Threads + Wait + Sync>(rt: &W, alloc: Global, line: &str) -> anyhow::Result<String> {
+fn answer<W: Threads + Wait + Sync>(rt: &W, alloc: Global, line: &str) -> Mem<String> {
     if line.starts_with('#') {
         return Ok(format!(in alloc; "{line}")?);
     }

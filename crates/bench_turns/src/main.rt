@@ -1,22 +1,24 @@
 //! Counts what workers note under a turn lock, each worker in a thread of its own. Each line of standard input is a number of workers, from 1 to
 //! 16, a number of notes for each, and a way or none; prints how many notes there are, and how many of them stand in their worker's order. The ways:
-//! `rounds`, each rests until all before it in its round have noted; `idle`, the same, and each sleeps for 20 ms before it notes; `held`, each sleeps
-//! for 20 ms in a turn of its own before it notes; `turns`, as with none, and their order isn't looked at (it prints 0); `mutex`, the same under a
-//! plain mutex in place of the lock. With `idle` and `held` it prints too whether the process needed less than a tenth of the time that was slept
-//! (`parked`), so that threads that wait do nothing, or not (`busy`).
+//! `rounds`, each rests until all before it in its round have noted; `idle`, the same, and each sleeps for 100 ms before it notes; `held`, each sleeps
+//! for 100 ms in a turn of its own before it notes; `turns`, as with none, and their order isn't looked at (it prints 0); `mutex`, the same under a
+//! plain mutex in place of the lock. With `idle` and `held` it prints too whether the process used less than half of one processor while it ran
+//! (`parked`), so that threads that wait do nothing, or not (`busy`). The sleeps follow one another, so there is a hundredth of that to do: a host
+//! that takes the processors away for most of the time doesn't make it half of one.
 #![tactic(auto)]
 
 mod plain;
 
 use mvn_shared::Mem;
 use std::alloc::Global;
+use std::io;
 use std::sync::Wait;
 use std::thread::Threads;
 use std::time::{Clock, CpuClock, Duration};
 use turn_lock::tally::{Tally, Task, tallied};
 
 // How long a worker sleeps before each note where it does, in milliseconds.
-const SLEEP: u32 = 20;
+const SLEEP: u32 = 100;
 
 // A line of standard input.
 #[derive(Drop)]
@@ -73,20 +75,34 @@ fn counts<R: Threads + Wait + Clock + Sync>(
     Ok((tally.notes.len(), in_order(&tally, looked_at)))
 }
 
-// Whether the workers of a line used less than a tenth of the time that they slept.
-fn rested(line: &Line, used: Duration) -> bool {
-    let slept = (line.workers as u64)
-        .wrapping_mul(line.count as u64)
-        .wrapping_mul(SLEEP as u64);
-    used < Duration::from_millis(slept / 10)
+// Two times of the process: what it used of the processors, and what passed.
+#[derive(Clone, Copy)]
+struct Times {
+    used: Duration,
+    passed: Duration,
 }
 
-// How much the processors did, where the line asks for it.
-fn effort(line: &Line, used: Duration) -> &'static str {
+// The times until now.
+fn times<R: Clock + CpuClock>(rt: &R) -> io::Result<Times> {
+    Ok(Times {
+        used: rt.process_cpu_time()?,
+        passed: rt.monotonic()?,
+    })
+}
+
+// Whether less than half of one processor was used between two moments.
+fn rested(before: Times, after: Times) -> bool {
+    let used = after.used.saturating_sub(before.used);
+    let passed = after.passed.saturating_sub(before.passed);
+    used < passed / 2
+}
+
+// How much the processors did between two moments, where the line asks for it.
+fn effort(line: &Line, before: Times, after: Times) -> &'static str {
     if line.way != "idle" && line.way != "held" {
         return "";
     }
-    if rested(line, used) {
+    if rested(before, after) {
         " parked"
     } else {
         " busy"
@@ -110,10 +126,10 @@ fn main(rt: HostRuntime) -> anyhow::Result<()> {
     for line in rt.lines(rt.alloc()) {
         let line = line?;
         if let Some(words) = read(line.as_str()) {
-            let before = rt.process_cpu_time()?;
+            let before = times(&rt)?;
             let counted = counts(&rt, rt.alloc(), &words);
-            let used = rt.process_cpu_time()?.saturating_sub(before);
-            print_counts(&rt, line.as_str(), counted, effort(&words, used))?;
+            let after = times(&rt)?;
+            print_counts(&rt, line.as_str(), counted, effort(&words, before, after))?;
         }
     }
     Ok(())

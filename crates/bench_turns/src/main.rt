@@ -83,7 +83,7 @@ struct Times {
 }
 
 // The times until now.
-fn times<R: Clock + CpuClock>(rt: &R) -> io::Result<Times> {
+fn until_now<R: Clock + CpuClock>(rt: &R) -> io::Result<Times> {
     Ok(Times {
         used: rt.process_cpu_time()?,
         passed: rt.monotonic()?,
@@ -126,9 +126,9 @@ fn main(rt: HostRuntime) -> anyhow::Result<()> {
     for line in rt.lines(rt.alloc()) {
         let line = line?;
         if let Some(words) = read(line.as_str()) {
-            let before = times(&rt)?;
+            let before = until_now(&rt)?;
             let counted = counts(&rt, rt.alloc(), &words);
-            let after = times(&rt)?;
+            let after = until_now(&rt)?;
             print_counts(&rt, line.as_str(), counted, effort(&words, before, after))?;
         }
     }

@@ -2,3 +2,4 @@ mod Lists
 mod Plain
 mod Refusals
 mod Steps
+mod Standing

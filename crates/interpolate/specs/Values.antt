@@ -1,5 +1,5 @@
 -- The value of a name, and texts filled with values. POM Reference, "Properties"; limits, and which refusal comes first, are own rules.
-use Rattle.std.specs.Prelude.{ℕ, zero, suc, Bool, not, nat_lt, List, [], ◌∷◌, ◌++◌, length, filter, Result, Ok, Err, if◌then◌else◌}
+use Rattle.std.specs.Prelude.{ℕ, zero, suc, Bool, not, nat_lt, ◌==◌, ◌&&◌, List, [], ◌∷◌, ◌++◌, length, filter, Result, Ok, Err, if◌then◌else◌}
 use Rattle.std.specs.List.{list_any}
 use Rattle.std.specs.Option.{option_map_or}
 use Rattle.std.specs.Str.{bytes_eq}
@@ -40,6 +40,10 @@ filled_from place value done (p ∷ ps) = with_part place value done p >>= (λ m
 -- a text, with values in the place of its expressions
 abbrev pub filled : List ℕ → (List ℕ → Filled (List ℕ)) → List ℕ → Filled (List ℕ)
 filled place value text = filled_from place value [] (parts text)
+
+-- a text that stands as it is written: no `$` is in it, and it isn't too long
+abbrev pub stands : List ℕ → Bool
+stands text = not (list_any (λ c. c == 36) text) && not (nat_lt 65536 (length text))
 
 -- a name that is met again on its own way
 abbrev pub again : List ℕ → Filled (List ℕ)

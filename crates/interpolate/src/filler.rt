@@ -1,4 +1,4 @@
-ghost use Rattle.std.specs.Prelude.{◌≡◌, ◌++◌, ◌+◌, ◌*◌, ℕ, [], ◌∷◌, Ok, vec_len, List as Items, Some, None, is_some, reverse, if◌then◌else◌, OnOk, IfOk, IfSome, MatchOption};
+ghost use Rattle.std.specs.Prelude.{◌≡◌, ◌++◌, ◌+◌, ◌*◌, ◌==◌, ℕ, [], ◌∷◌, Ok, vec_len, List as Items, Some, None, is_some, reverse, if◌then◌else◌, OnOk, IfOk, IfSome, MatchOption};
 ghost use Rattle.std.specs.Option.{option_copied};
 ghost use Rattle.std.specs.Vec.Iter.{into_iter_len};
 ghost use Rattle.std.specs.Str.{bytes_eq};
@@ -12,10 +12,11 @@ ghost use Rattle.expressions.specs.Parts.{parts, spelled};
 ghost use Rattle.expressions.specs.Named.{last_named};
 ghost use Rattle.interpolate.specs.Tables.{AskCounts, Asks, Ends, Gives, Goes, IsStep, IsTable, IsWay, StopCounts, Stops, TurnCounts, Turns, Waits, WholeCounts, begun_in, names, fresh_count, fresh_in};
 ghost use Rattle.interpolate.specs.Filling.{first_name, name_of, text_of};
-ghost use Rattle.interpolate.specs.Values.{part_value, value, with_part};
+ghost use Rattle.interpolate.specs.Values.{part_value, stands, value, with_part};
+ghost use Rattle.std.specs.List.{list_any};
 
 use crate::fault::{FillFault, refused};
-use crate::step::{Step, longer};
+use crate::step::{LONGEST, Step, longer};
 use expressions::{Part, parts};
 use mvn_base::{Pair, Rule};
 use mvn_shared::{List, Mem, Text};
@@ -69,6 +70,20 @@ fn written(alloc: Global, name: &Text) -> Mem<Text>
     ensures { IfOk result (λ text. text ≡ spelled (Name name.now)) }
 {
     Ok(Text::of(format!(in alloc; "${{{name}}}")?))
+}
+
+// Whether a `$` stands in a text.
+fn has_dollar(text: &[u8]) -> bool
+    ensures { result ≡ list_any (λ c. c == 36) text.now }
+{
+    text.contains(&b'$')
+}
+
+// Whether a text stands as it is written: no expression begins in it, and it is no longer than a filled text may be.
+fn stands(text: &Text) -> bool
+    ensures { result ≡ stands text.now }
+{
+    !has_dollar(text.as_bytes()) && text.len() <= LONGEST
 }
 
 // The first expression in some parts.
@@ -384,8 +399,9 @@ impl Filler {
         }
     }
 
-    /// A text with values in the place of its expressions. Costs what it comes to, and the texts that haven't been asked for before.
-    #[tactic(auto, unfolding(crate::specs::Filling::text_of))]
+    /// A text with values in the place of its expressions: the text itself where none begins in it, so that its copies share its bytes
+    /// if it does. Costs what it comes to, and the texts that haven't been asked for before.
+    #[tactic(auto, unfolding(crate::specs::Filling::text_of), using(crate::proofs::Standing::text_stands))]
     pub(crate) fn text(
         &mut self,
         alloc: Global,
@@ -395,6 +411,9 @@ impl Filler {
         ensures { (known : Items pairs.Pair) → IsTable known [] self.old →
             Gives known (text_of known place.now text.now) self.new result }
     {
+        if stands(text) {
+            return Ok(copy(text)?);
+        }
         let list = parts(alloc, text)?;
         let mut done = Text::of(String::new(alloc));
         for part in list.as_slice() {
@@ -407,7 +426,7 @@ impl Filler {
     }
 
     /// A text in which no expression may be left.
-    #[tactic(auto, unfolding(crate::specs::Filling::name_of))]
+    #[tactic(auto, unfolding(crate::specs::Filling::name_of), using(crate::proofs::Standing::name_stands))]
     pub(crate) fn name(
         &mut self,
         alloc: Global,
@@ -417,6 +436,9 @@ impl Filler {
         ensures { (known : Items pairs.Pair) → IsTable known [] self.old →
             Gives known (name_of known place.now text.now) self.new result }
     {
+        if stands(text) {
+            return Ok(copy(text)?);
+        }
         let text = self.text(alloc, place, text)?;
         match unresolved(alloc, &text)? {
             Some(name) => Err(refused(alloc, Rule::Unresolved, name.as_str())),

@@ -11,7 +11,7 @@ use std::alloc::Global;
 use std::vec::IntoIter;
 
 // The bytes that a filled text may have.
-const LONGEST: usize = 65536;
+pub(crate) const LONGEST: usize = 65536;
 
 /// A name on the way: what is left of the parts of its text, and what those before them came to.
 #[derive(Drop)]

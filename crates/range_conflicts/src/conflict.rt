@@ -48,7 +48,7 @@ fn first_of<'a>(winners: &'a Winners, keys: &HashSet<Key>) -> Option<&'a Winner>
 
 /// The first winner, in their order, whose version some declaration of its key doesn't admit: a hard requirement of the project's or
 /// of a winner's POM, also one that loses. `own` is what the project declares, `below` what the POM of each winner does. Costs
-/// a look-up for each declaration, and its requirement is parsed. Project rule.
+/// a look at the text of each requirement; one that is a range is parsed, and its winner is looked up. Project rule.
 pub fn first_conflict<'a>(
     alloc: Global,
     own: &[Edge],

@@ -1,5 +1,6 @@
 ghost use Rattle.std.specs.Prelude.{◌≡◌, IfOk};
-ghost use Rattle.version_order.specs.Requirements.{requirement};
+ghost use Rattle.version_order.specs.Requirements.{is_divider, requirement};
+ghost use Rattle.version_order.specs.Spelling.{is_plain};
 ghost use Rattle.range_conflicts.specs.Conflicts.{conflicts, is_unmet, refuses};
 
 use collector::Edge;
@@ -32,10 +33,33 @@ fn is_unmet(alloc: Global, text: &Text, version: &Text) -> Mem<bool>
     }
 }
 
-// Whether an edge's requirement doesn't admit the version of its key's winner.
+// A bracket or a comma.
+fn is_divider(byte: u8) -> bool
+    ensures { result ≡ is_divider byte }
+{
+    byte == b'[' || byte == b']' || byte == b'(' || byte == b')' || byte == b','
+}
+
+// Whether a text has neither, so that it requires no range.
+fn is_plain(text: &[u8]) -> bool
+    ensures { result ≡ is_plain text.now }
+{
+    for byte in text {
+        if is_divider(*byte) {
+            return false;
+        }
+    }
+    true
+}
+
+// Whether an edge's requirement doesn't admit the version of its key's winner. One that is no range admits all, so no winner is looked up.
+#[tactic(auto, using(crate::proofs::Plain::plain_met))]
 pub fn conflicts(alloc: Global, winners: &Winners, edge: &Edge) -> Mem<bool>
     ensures { IfOk result (λ it. it ≡ conflicts winners.now edge.now) }
 {
+    if is_plain(edge.requirement.as_bytes()) {
+        return Ok(false);
+    }
     match winners.find(&edge.key) {
         Some(winner) => is_unmet(alloc, &edge.requirement, &winner.version),
         None => Ok(false),

@@ -8,7 +8,7 @@ use crate::fault::RequirementError;
 use crate::interval::Interval;
 use crate::reader::Stand;
 use crate::version::Version;
-use mvn_shared::{List, Text};
+use mvn_shared::{List, Mem, Text};
 use std::alloc::Global;
 
 /// What a dependency states of its version: one that it would like, or intervals of which one has to have it. POM
@@ -31,7 +31,7 @@ impl Requirement {
     {
         let place = divider_place(text.as_bytes());
         if place == text.len() {
-            return soft(alloc, text);
+            return soft(text);
         }
         match Stand::read(alloc, text.as_str())? {
             Ok(intervals) => Ok(Requirement::Hard(intervals)),
@@ -87,13 +87,20 @@ fn divider_place(text: &[u8]) -> usize
     text.len()
 }
 
+// A copy of a text, which shares its bytes if the text does.
+fn copied(text: &Text) -> Mem<Text>
+    ensures { IfOk result (λ copy. copy ≡ text.now) }
+{
+    Ok(text.clone()?)
+}
+
 // A text without a divider.
-fn soft(alloc: Global, text: &Text) -> Result<Requirement, RequirementError>
+fn soft(text: &Text) -> Result<Requirement, RequirementError>
     ensures value { IfOk result (λ parsed. soft text.now ≡ Ok parsed) }
     ensures refused { IfErr result (λ error. Refuses error (soft text.now)) }
 {
     if text.is_empty() {
         return Err(RequirementError::BadRange { place: 0 });
     }
-    Ok(Requirement::Soft(Text::from_str(alloc, text.as_str())?))
+    Ok(Requirement::Soft(copied(text)?))
 }

@@ -44,6 +44,11 @@ pub small_letter : (c : ℕ) → is_ascii_lowercase c ≡ true → true ≡ is_n
 unfolding is_name_char is_name_start
 small_letter c is = grind (arith, nat_tests, is)
 
+-- `>` and `=` may not
+pub name_end : (c : ℕ) → (c == 62 || c == 61) ≡ true → false ≡ is_name_char c
+unfolding is_name_char is_name_start
+name_end c is = grind (arith, nat_tests, is)
+
 value_high : (quote c : ℕ) → quote < 128 → 128 ≤ c → is_value quote c ≡ true
 unfolding is_value
 value_high quote c low a = grind (arith, nat_tests, low, a)

@@ -39,7 +39,7 @@ not_47 : is_name_start 47 ≡ false
 unfolding is_name_start
 not_47 = refl
 
-tag_marked : (text : List ℕ) → begins is_name_start text ≡ true → marked_of text ≡ tag_of text
+pub tag_marked : (text : List ℕ) → begins is_name_start text ≡ true → marked_of text ≡ tag_of text
 unfolding marked_of
 tag_marked text name =
     ap (λ o. behind o (passed_of (codes "-->")) (behind (after (codes "![CDATA[") text) section_of (behind (after (codes "?") text) (passed_of (codes "?>")) (behind (after (codes "/") text) end_of (tag_of text))))) (no_mark 33 (codes "--") text not_33 name)
@@ -62,6 +62,9 @@ instruction_marked text = refl
 end_marked : (text : List ℕ) → marked_of (codes "/" ++ text) ≡ end_of text
 unfolding marked_of after
 end_marked text = refl
+
+pub slash_marked : (text rest : List ℕ) → Some rest ≡ after (47 ∷ []) text → marked_of text ≡ end_of rest
+slash_marked text rest e = ap marked_of (after_splits (47 ∷ []) text rest (sym e)) ∙ end_marked rest
 
 -- each piece is read where it is written
 comment_reads : (inside rest : List ℕ) → ends_first (codes "-->") inside ≡ true → piece_of (60 ∷ (codes "!--" ++ (inside ++ (codes "-->" ++ rest)))) ≡ Some (Passed, rest)

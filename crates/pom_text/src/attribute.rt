@@ -1,10 +1,12 @@
-ghost use Rattle.std.specs.Prelude.{◌≡◌, option_and_then, option_map, IfOk};
+ghost use Rattle.std.specs.Prelude.{◌≡◌, [], option_and_then, option_map, slice_get, IfOk};
+ghost use Rattle.std.specs.Option.{option_copied};
 ghost use Rattle.std.specs.Str.{chars};
 ghost use Rattle.pom_text.specs.Reads.{attribute_of, attributes_of, name_of, names_of, skip_space, with_name};
 ghost use Rattle.pom_text.specs.Runs.{attribute_chars};
 
 use crate::cuts::{after, begins_space, name_of, quoted, skip_space};
-use crate::spelled::text_of;
+use crate::names::text_like;
+use crate::node::Node;
 use mvn_shared::{List, Mem, Text};
 use std::alloc::Global;
 
@@ -43,14 +45,33 @@ pub(crate) fn skip_attributes(text: &str) -> &str
     rest
 }
 
-// The names of all attributes that stand next.
-pub(crate) fn names_in(alloc: Global, text: &str) -> Mem<List<Text>>
+// The name of an element's attribute, by its place.
+fn name_at(like: Option<&Node>, at: usize) -> Option<&Text>
+    ensures { option_copied result
+        ≡ option_and_then (λ node. slice_get node.attributes at) (option_copied like.entry) }
+{
+    like?.attributes.get(at)
+}
+
+// An empty list with room for as many names as an element has, since elements of one name mostly have as many.
+fn room_like(alloc: Global, like: Option<&Node>) -> Mem<List<Text>>
+    ensures { IfOk result (λ names. names ≡ []) }
+{
+    match like {
+        Some(node) => node.attributes.emptied(),
+        None => Ok(List::new(alloc)),
+    }
+}
+
+// The names of all attributes that stand next. Those that an element has at the same places are shared with it.
+pub(crate) fn names_in(alloc: Global, like: Option<&Node>, text: &str) -> Mem<List<Text>>
     ensures { IfOk result (λ names. names ≡ names_of (attributes_of (chars text.now)).0) }
 {
-    let mut names = List::new(alloc);
+    let mut names = room_like(alloc, like)?;
     let mut rest = text;
     while let Some((attribute, behind)) = attribute_of(rest) {
-        names.push(text_of(alloc, attribute.0)?)?;
+        let name = text_like(alloc, name_at(like, names.len()), attribute.0)?;
+        names.push(name)?;
         rest = behind;
     }
     Ok(names)

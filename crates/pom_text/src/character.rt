@@ -44,10 +44,16 @@ fn is_any_name_char(b: u8) -> bool
     is_name_start(b) || b.is_ascii_digit() || b == b'-' || b == b'.' || b == b':'
 }
 
-// The same. Most are small letters, so these are looked for first.
-#[tactic(auto, using(crate::proofs::Flat::small_letter))]
+// The same. Most are small letters, so these are looked for first, and then what ends a name in most tags.
+#[tactic(auto, using(crate::proofs::Flat::small_letter, crate::proofs::Flat::name_end))]
 pub(crate) fn is_name_char(b: u8) -> bool
     ensures { result ≡ is_name_char b }
 {
-    b.is_ascii_lowercase() || is_any_name_char(b)
+    if b.is_ascii_lowercase() {
+        return true;
+    }
+    if b == b'>' || b == b'=' {
+        return false;
+    }
+    is_any_name_char(b)
 }

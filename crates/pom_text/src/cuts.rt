@@ -94,7 +94,7 @@ pub(crate) fn run_of(text: &str) -> (&str, &str)
 
 // Whether a name begins here.
 #[tactic(auto, using(crate::proofs::Bytes::begins_name, crate::proofs::Bytes::begins_no_name))]
-fn begins_name(text: &str) -> bool
+pub(crate) fn begins_name(text: &str) -> bool
     ensures { result ≡ begins is_name_start (chars text.now) }
 {
     match text.as_bytes() {

@@ -1,5 +1,5 @@
 ghost use Rattle.std.specs.Prelude.{◌≡◌, ◌<◌, IfOk};
-ghost use Rattle.std.specs.Str.{chars, encode_utf8_all};
+ghost use Rattle.std.specs.Str.{bytes_eq, chars, encode_utf8_all};
 
 use crate::spelled::text_of;
 use mvn_shared::{Mem, Shared, Text};
@@ -41,4 +41,26 @@ pub(crate) fn new_name(alloc: Global, name: &str) -> Mem<Shared<Text>>
 {
     let text = text_of(alloc, name)?;
     Shared::new(alloc, text)
+}
+
+// Whether a text is this name.
+#[tactic(auto, using(crate::proofs::Bytes::whole_again))]
+fn is_text(text: &Text, name: &str) -> bool
+    ensures { result ≡ bytes_eq text.now (encode_utf8_all (chars name.now)) }
+{
+    text.as_str() == name
+}
+
+/// A name as a text: a copy of another text where that is the same, and else a new one. Its copies take no memory.
+#[tactic(auto, using(crate::proofs::Trees::same_name))]
+pub(crate) fn text_like(alloc: Global, like: Option<&Text>, name: &str) -> Mem<Text>
+    ensures { IfOk result (λ copy. copy ≡ encode_utf8_all (chars name.now)) }
+{
+    if let Some(text) = like {
+        if is_text(text, name) {
+            return Ok(text.clone()?);
+        }
+    }
+    let text = text_of(alloc, name)?;
+    text.shared(alloc)
 }

@@ -4,7 +4,7 @@ ghost use Rattle.pom_text.specs.Reads.{begins, end_of, marked_of, passed_of, pie
 ghost use Rattle.pom_text.specs.Runs.{is_run, said_next, said_tag};
 
 use crate::attribute::skip_attributes;
-use crate::cuts::{after, name_of, skip_space, up_to};
+use crate::cuts::{after, begins_name, name_of, skip_space, up_to};
 use crate::part::{Part, Tag};
 use crate::reference::reference_of;
 
@@ -69,22 +69,25 @@ fn section_of(text: &str) -> Option<(Part<'_>, &str)>
     Some((Part::Section(inside), rest))
 }
 
-// What stands behind a `<`.
-#[tactic(auto, unfolding(crate::specs::Reads::marked_of))]
+// What stands behind a `<`. Most are tags, so these are looked for first.
+#[tactic(auto, using(crate::proofs::Pieces::tag_marked, crate::proofs::Pieces::slash_marked), unfolding(crate::specs::Reads::marked_of))]
 fn marked_of(text: &str) -> Option<(Part<'_>, &str)>
     ensures { option_map said_next result ≡ marked_of (chars text.now) }
 {
+    if begins_name(text) {
+        return tag_of(text);
+    }
+    if let Some(rest) = after(text, b"/") {
+        return end_of(rest);
+    }
     if let Some(rest) = after(text, b"!--") {
         return comment_of(rest);
     }
     if let Some(rest) = after(text, b"![CDATA[") {
         return section_of(rest);
     }
-    if let Some(rest) = after(text, b"?") {
-        return instruction_of(rest);
-    }
-    match after(text, b"/") {
-        Some(rest) => end_of(rest),
+    match after(text, b"?") {
+        Some(rest) => instruction_of(rest),
         None => tag_of(text),
     }
 }

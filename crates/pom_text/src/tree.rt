@@ -17,7 +17,7 @@ use std::alloc::Global;
 
 /// The elements that have begun, the numbers of those that have not ended, outermost first, and whether a carriage return in
 /// text stands directly before. Of the elements whose names have one slot it remembers the last, by the key of its name and its
-/// number, so that the next of that name shares it.
+/// number, so that the next of that name shares it, and the names of its attributes.
 #[derive(Drop)]
 pub(crate) struct Tree {
     pub(crate) nodes: Vec<Node>,
@@ -40,6 +40,17 @@ fn is_named(node: &Node, name: &str) -> bool
     ensures { result ≡ bytes_eq node.now.name (encode_utf8_all (chars name.now)) }
 {
     node.name.as_str() == name
+}
+
+// A name for an element, shared with one that has it.
+fn name_like(alloc: Global, like: Option<&Node>, name: &str) -> Mem<Shared<Text>>
+    requires { IfSome like (λ node. node.now.name ≡ encode_utf8_all (chars name.now)) }
+    ensures { IfOk result (λ copy. copy ≡ encode_utf8_all (chars name.now)) }
+{
+    match like {
+        Some(node) => node.name.share(),
+        None => new_name(alloc, name),
+    }
 }
 
 impl Tree {
@@ -195,17 +206,6 @@ impl Tree {
         Some(node)
     }
 
-    // A name for an element, shared where the one that is remembered in its slot has it.
-    fn name_in(&self, alloc: Global, slot: usize, key: usize, name: &str) -> Mem<Shared<Text>>
-        requires { slot < 127 }
-        ensures { IfOk result (λ copy. copy ≡ encode_utf8_all (chars name.now)) }
-    {
-        match self.remembered(slot, key, name) {
-            Some(node) => node.name.share(),
-            None => new_name(alloc, name),
-        }
-    }
-
     // An element begins, by its name and a text that begins with its attributes.
     #[tactic(auto, unfolding(crate::specs::Tree::begun))]
     fn begin(&mut self, alloc: Global, tag: Tag<'_>) -> Mem<()>
@@ -215,8 +215,9 @@ impl Tree {
         let number = self.nodes.len() as u32;
         let key = key_of(tag.name);
         let slot = slot_of(key);
-        let name = self.name_in(alloc, slot, key, tag.name)?;
-        let attributes = names_in(alloc, tag.attributes)?;
+        let like = self.remembered(slot, key, tag.name);
+        let name = name_like(alloc, like, tag.name)?;
+        let attributes = names_in(alloc, like, tag.attributes)?;
         self.add_to_innermost(number)?;
         self.nodes.push(Node {
             name,

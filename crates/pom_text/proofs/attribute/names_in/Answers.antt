@@ -8,7 +8,7 @@ pub loop-attribute-smaller : goal.loop-attribute-smaller
 loop-attribute-smaller c = shorter (chars c.loop-attribute.rest.now) ((chars c.in-Some.attribute.0.now, chars c.in-Some.attribute.1.now), chars c.in-Some.behind.now) (sym c.in-Some.ensures)
 
 pub loop-attribute-preserved : goal.loop-attribute-preserved
-loop-attribute-preserved c = (search rules, names_more (chars c.loop-attribute.rest.now) ((chars c.in-Some.attribute.0.now, chars c.in-Some.attribute.1.now), chars c.in-Some.behind.now) c.loop-attribute.names c.push.new.self (names_of (attributes_of (chars c.args.text.now)).0) c.in_ok-text_of.field-0 c.in-Some.ensures c.loop-attribute.invariant.1 c.in_ok-text_of.ensures c.in_ok-push.ensures.ok)
+loop-attribute-preserved c = (search rules, names_more (chars c.loop-attribute.rest.now) ((chars c.in-Some.attribute.0.now, chars c.in-Some.attribute.1.now), chars c.in-Some.behind.now) c.loop-attribute.names c.push.new.self (names_of (attributes_of (chars c.args.text.now)).0) c.in_ok-name.name c.in-Some.ensures c.loop-attribute.invariant.1 c.in_ok-name.ensures c.in_ok-push.ensures.ok)
 
 pub returns : goal.returns
 returns c =

@@ -1,5 +1,5 @@
 -- Entries under their keys, one after another.
-use Rattle.std.proofs.Common.{◌≡◌, ℕ, Bool, true, false, ◌&&◌, List, [], ◌∷◌, ◌++◌, fold, Option, Some, None, is_some, refl, sym, ap, ◌∙◌, if◌then◌else◌}
+use Rattle.std.proofs.Common.{◌≡◌, ℕ, suc, length, arith, Bool, true, false, ◌&&◌, List, [], ◌∷◌, ◌++◌, fold, Option, Some, None, is_some, refl, sym, ap, ◌∙◌, if◌then◌else◌}
 use Rattle.std.specs.Option.{option_or}
 use Rattle.std.specs.Str.{bytes_eq}
 use Rattle.std.proofs.lemmas.Bool.{false≢true}
@@ -104,3 +104,11 @@ find_folded entries (d ∷ further) key =
 -- what is found among the first of each key is the first of that key
 pub found : (entries : List Dependency) (key : Key) → find_pair (first_of_each entries) key ≡ find_entry entries key
 found entries key = find_folded [] entries key
+
+-- nothing is found where there is nothing
+pub nothing : (entries : List (Key × Dependency)) (key : Key) → length entries ≡ 0 → None ≡ find_pair entries key
+nothing [] key none = refl
+nothing (e ∷ entries) key some = absurd (filled (length entries) some)
+  where
+    filled : (n : ℕ) → suc n ≡ 0 → ⊥
+    filled n e = omega (arith, e)

@@ -62,10 +62,15 @@ impl ManagedSet {
         }
     }
 
-    /// What is managed under a key. Constant time on the average, besides the key; takes no memory.
+    /// What is managed under a key. Constant time on the average, besides the key, and without it where nothing is managed; takes
+    /// no memory.
+    #[tactic(auto, using(crate::proofs::Entries::nothing))]
     pub fn find(&self, key: &Key) -> Option<&Shared<Dependency>>
         ensures { option_copied result ≡ find_pair self.now key.now }
     {
+        if self.entries.is_empty() {
+            return None;
+        }
         self.entries.get(key)
     }
 

@@ -4,6 +4,7 @@ ghost use Rattle.classpaths.specs.Classpaths.{HasNames};
 
 use classpaths::Resolved;
 use mvn_base::{valid_group, valid_name, valid_version};
+use mvn_shared::Shared;
 
 // Whether the names of a winner are valid.
 fn is_named(winner: &Resolved) -> bool
@@ -25,7 +26,7 @@ fn is_named(winner: &Resolved) -> bool
 }
 
 /// Whether the names of all winners are valid.
-pub(crate) fn are_named(winners: &[Resolved]) -> bool
+pub(crate) fn are_named(winners: &[Shared<Resolved>]) -> bool
     ensures { result ≡ true → All HasNames winners.now }
 {
     for winner in winners {

@@ -1,6 +1,6 @@
 use collector::Scope;
 use mvn_base::{Gav, Rule};
-use mvn_shared::{List, Text};
+use mvn_shared::{List, Shared, Text};
 
 /// A dependency that a project is built with: the winner of its key.
 #[derive(Drop)]
@@ -25,8 +25,8 @@ pub enum Note {
 #[derive(Drop)]
 pub struct Resolution {
     /// In the order of the dependency tree: each stands behind the one that declares it and behind what is declared before it, with
-    /// all that is below that.
-    pub winners: List<Resolved>,
+    /// all that is below that. Modules may share what several of them are built with.
+    pub winners: List<Shared<Resolved>>,
     /// In the order in which the POMs are met.
     pub notes: List<Note>,
 }

@@ -5,7 +5,7 @@ ghost use Rattle.full_report.specs.Full.{file_of, has_names};
 
 use classpaths::Resolved;
 use mvn_base::{FileName, TypeRule, file_of, handler, valid_group, valid_name, valid_version};
-use mvn_shared::{List, Mem, Text};
+use mvn_shared::{List, Mem, Shared, Text};
 use std::alloc::Global;
 
 // Whether the names of a dependency are valid.
@@ -60,7 +60,7 @@ fn push_named(alloc: Global, files: &mut List<FileName>, winner: &Resolved) -> M
 pub(crate) fn push_file(
     alloc: Global,
     files: &mut List<FileName>,
-    winners: &[Resolved],
+    winners: &[Shared<Resolved>],
     place: usize,
 ) -> Mem<()>
     ensures { OnOk result (files.new ≡ files.old ++ file_of (slice_get winners.now place)) }

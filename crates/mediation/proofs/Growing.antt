@@ -149,3 +149,9 @@ module _ (libraries : Libraries) where
       other e = cc
   settled rows new e above version front (Err Lookup) none leads is more says = tt
   settled rows new e above version front (Err Memory) none leads is more says = tt
+
+  -- a fault says the same of any answer
+  pub fault_stays : (T U : Type 0) (old new : List Winner) (paths : List Path) (fault : MediationFault) → Adds {T = U} libraries old new paths (Err fault) → Adds {T = T} libraries old new paths (Err fault)
+  fault_stays T U old new paths (Refused rule place) is = is
+  fault_stays T U old new paths Lookup is = tt
+  fault_stays T U old new paths Memory is = tt

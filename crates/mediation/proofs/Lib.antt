@@ -7,3 +7,4 @@ pub mod Greatest
 pub mod Within
 pub mod Nearest
 pub mod Telling
+pub mod Prefixes

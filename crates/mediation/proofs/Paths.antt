@@ -1,6 +1,7 @@
 -- The paths of winners as they are kept.
-use Rattle.std.proofs.Common.{◌≡◌, ℕ, zero, suc, ◌+◌, Bool, true, false, ◌||◌, List, [], ◌∷◌, ◌++◌, fold, length, slice_get, Option, Some, None, is_some, unwrap_or, refl, sym, ap, ◌∙◌, cond, arith, length-append}
+use Rattle.std.proofs.Common.{◌≡◌, ◌≤◌, ◌<◌, drop, get_or, ℕ, zero, suc, ◌+◌, Bool, true, false, ◌||◌, List, [], ◌∷◌, ◌++◌, fold, length, slice_get, Option, Some, None, is_some, unwrap_or, refl, sym, ap, ◌∙◌, cond, arith, length-append}
 use Rattle.std.specs.Option.{option_or}
+use Rattle.std.proofs.lemmas.List.{drop_all, drop_more}
 use Rattle.model_merge.specs.Keyed.{same_key}
 use Rattle.mvn_base.specs.declared.key.Key.{Key}
 use Rattle.collector.specs.declared.edge.Edge.{Edge}
@@ -71,10 +72,10 @@ has_folded paths (w ∷ rows) key =
 pub has_path : (rows : List Winner) (key : Key) → is_some (winner_of (paths_of rows) key) ≡ is_some (row_of rows key)
 has_path rows key = has_folded [] rows key
 
--- nothing is left of a list without a length
-pub no_items : (xs : List Edge) → length xs ≡ 0 → xs ≡ []
-no_items [] e = refl
-no_items (x ∷ xs) e = absurd (some_items (length xs) e)
-  where
-    some_items : (n : ℕ) → suc n ≡ 0 → ⊥
-    some_items n e = omega (arith, e)
+-- the edge at a place, and those behind it
+pub next_edge : (edges : List Edge) (k : ℕ) (e : Edge) → k < length edges → e ≡ get_or edges k e → drop k edges ≡ e ∷ drop (k + 1) edges
+next_edge edges k e low at = drop_more edges k e low ∙ ap (λ f. f ∷ drop (k + 1) edges) (sym at)
+
+-- nothing is left behind the last
+pub no_edge : (edges : List Edge) (k : ℕ) → length edges ≤ k → drop k edges ≡ []
+no_edge edges k low = drop_all k edges low

@@ -1,5 +1,6 @@
 pub mod Faults
 pub mod Libraries
 pub mod Rows
+pub mod Found
 pub mod Counting
 pub mod Telling

@@ -93,6 +93,11 @@ pub record IsKept (entries : List (Key × Winner)) : Type 0 where
   pub named : entries ≡ keyed key_of (map (λ e. e.1) entries)
   pub few : length entries ≤ 16384
 
+-- the winners that there were stand where they stood
+pub record IsPrefix (old new : List Winner) : Type 0 where
+  pub more : List Winner
+  pub is : new ≡ old ++ more
+
 -- there is a path above
 abbrev pub Leads : List Path → Option ℕ → Path → Type 0
 Leads paths None front = front ≡ []

@@ -1,13 +1,15 @@
-ghost use Rattle.std.specs.Prelude.{◌≡◌, ◌<◌, ◌∷◌, ◌++◌, [], None, drop, length, map, flat_map, slice_get, Ok, All, IfOk, OnOk};
+ghost use Rattle.std.specs.Prelude.{◌≡◌, ◌<◌, ◌≤◌, ◌∷◌, ◌++◌, [], None, Some, drop, take, length, map, flat_map, slice_get, Ok, All, IfOk, OnOk};
 ghost use Rattle.std.specs.Prelude as logic;
 ghost use Rattle.std.specs.Option.{option_to_list};
 ghost use Rattle.mvn_shared.specs.Cause.{HasCause};
 ghost use Rattle.model_types.specs.declared.dependency.Dependency as dependencies;
 ghost use Rattle.mediation.specs.Faults.{Says, is_faulty};
-ghost use Rattle.collector.specs.Edges.{transitive_edges};
+ghost use Rattle.collector.specs.Edges.{direct_edges, transitive_edges};
+ghost use Rattle.mediation.specs.declared.winner.Winner as rows;
 ghost use Rattle.mediation.specs.Telling.{TellsOn};
 ghost use Rattle.mediation.specs.Libraries.{Libraries, declarations, gav_of, graph_of};
-ghost use Rattle.mediation.specs.Rows.{Adds, IsPicked, Leads, Resolves, edges_below, paths_of, row_of, won_by};
+ghost use Rattle.mediation.specs.Rows.{Adds, IsPicked, IsPrefix, Leads, edges_below, paths_of, row_of, won_by};
+ghost use Rattle.mediation.specs.Found.{ResolvesGraph};
 ghost use Rattle.winner_law.specs.Winners.{Path, longer};
 
 use crate::fault::MediationFault;
@@ -21,18 +23,63 @@ use mvn_base::{Gav, Key};
 use mvn_shared::{List, Mem, Shared, Text};
 use std::alloc::Global;
 
+// A copy of an edge, which shares its texts and its exclusions.
+fn copied(edge: &Edge) -> Mem<Edge>
+    ensures { IfOk result (λ copy. copy ≡ edge.now) }
+{
+    let key = edge.key.clone()?;
+    let requirement = edge.requirement.clone()?;
+    let exclusions = edge.exclusions.share()?;
+    Ok(Edge {
+        position: edge.position,
+        key,
+        requirement,
+        scope: edge.scope,
+        managed_scope: edge.managed_scope,
+        exclusions,
+    })
+}
+
+// One winner more.
+fn push_winner(
+    winners: &mut Winners,
+    edge: &Edge,
+    version: Text,
+    above: Option<usize>,
+    known: Known,
+) -> Mem<()>
+    requires new { row_of winners.old edge.now.key ≡ None }
+    requires room { length winners.old < 16384 }
+    ensures { OnOk result (winners.new ≡ winners.old ++ record {
+      edge = edge.now;
+      version = version;
+      above = above;
+      known = known;
+    } ∷ []) }
+{
+    let edge = copied(edge)?;
+    winners.push(Winner {
+        edge,
+        version,
+        above,
+        known,
+    })
+}
+
 // One winner more, with what is known of its POM.
+#[tactic(auto, using(crate::proofs::Prefixes::pushed))]
 fn add_winner<L: Lookup>(
     lookup: &mut L,
     winners: &mut Winners,
-    edge: Edge,
+    edge: &Edge,
     version: Text,
     above: Option<usize>,
 ) -> Result<(), MediationFault>
-    requires new { row_of winners.old edge.key ≡ None }
+    requires new { row_of winners.old edge.now.key ≡ None }
     requires room { length winners.old < 16384 }
     ensures adds { (libraries : Libraries) → L.fits lookup.old libraries
-        → OnOk result (winners.new ≡ winners.old ++ won_by libraries edge above version ∷ []) }
+        → OnOk result (winners.new ≡ winners.old ++ won_by libraries edge.now above version ∷ []) }
+    ensures keeps { OnOk result (IsPrefix winners.old winners.new) }
     ensures says { (libraries : Libraries) → L.fits lookup.old libraries → Says (Ok tt) result }
     ensures same { (libraries : Libraries) → L.fits lookup.old libraries
         → L.fits lookup.new libraries }
@@ -41,12 +88,7 @@ fn add_winner<L: Lookup>(
 {
     match known_at(lookup, &edge.key, &version) {
         Ok(known) => {
-            winners.push(Winner {
-                edge,
-                version,
-                above,
-                known,
-            })?;
+            push_winner(winners, edge, version, above, known)?;
             Ok(())
         }
         Err(fault) => Err(fault),
@@ -54,17 +96,18 @@ fn add_winner<L: Lookup>(
 }
 
 // One declaration, which wins where its key has no winner yet.
-#[tactic(auto, using(crate::proofs::Telling::untold, crate::proofs::Telling::told_both))]
+#[tactic(auto, using(crate::proofs::Telling::untold, crate::proofs::Telling::told_both, crate::proofs::Prefixes::whole))]
 fn decide<L: Lookup>(
     alloc: Global,
     lookup: &mut L,
     winners: &mut Winners,
-    edge: Edge,
+    edge: &Edge,
     above: Option<usize>,
 ) -> Result<(), MediationFault>
     ensures adds { (libraries : Libraries) (front : Path) → L.fits lookup.old libraries
         → Leads (paths_of winners.old) above front
-        → Adds libraries winners.old winners.new ((edge ∷ front) ∷ []) result }
+        → Adds libraries winners.old winners.new ((edge.now ∷ front) ∷ []) result }
+    ensures keeps { OnOk result (IsPrefix winners.old winners.new) }
     ensures same { (libraries : Libraries) → L.fits lookup.old libraries
         → L.fits lookup.new libraries }
     ensures alike { TellsOn L.tells_same lookup.old lookup.new }
@@ -73,7 +116,7 @@ fn decide<L: Lookup>(
     if winners.has(&edge.key) {
         return Ok(());
     }
-    match chosen(alloc, lookup, winners.len(), &edge) {
+    match chosen(alloc, lookup, winners.len(), edge) {
         Ok(version) => add_winner(lookup, winners, edge, version, above),
         Err(fault) => Err(fault),
     }
@@ -85,18 +128,19 @@ fn add_edges<L: Lookup>(
     alloc: Global,
     lookup: &mut L,
     winners: &mut Winners,
-    edges: List<Edge>,
+    edges: &[Edge],
     above: Option<usize>,
 ) -> Result<(), MediationFault>
     ensures adds { (libraries : Libraries) (front : Path) → L.fits lookup.old libraries
         → Leads (paths_of winners.old) above front
-        → Adds libraries winners.old winners.new (map (λ e. e ∷ front) edges) result }
+        → Adds libraries winners.old winners.new (map (λ e. e ∷ front) edges.now) result }
+    ensures keeps { OnOk result (IsPrefix winners.old winners.new) }
     ensures same { (libraries : Libraries) → L.fits lookup.old libraries
         → L.fits lookup.new libraries }
     ensures alike { TellsOn L.tells_same lookup.old lookup.new }
     ensures cause { HasCause (L.faults lookup.old) (L.faults lookup.new) (is_faulty result) }
 {
-    for edge in edges.into_vec() {
+    for edge in edges {
         match decide(alloc, lookup, winners, edge, above) {
             Ok(()) => {}
             Err(fault) => return Err(fault),
@@ -158,62 +202,84 @@ pub fn edges_below(alloc: Global, managed: &ManagedSet, winner: &Winner) -> Mem<
     edges_of(alloc, &winner.known, managed, &winner.edge.exclusions)
 }
 
-// The paths one edge longer than a winner's.
-#[tactic(auto, using(crate::proofs::Telling::untold))]
+// The paths one edge longer than a winner's, and what its POM leads to.
+#[tactic(auto, using(crate::proofs::Telling::untold, crate::proofs::Prefixes::whole))]
 fn expand<L: Lookup>(
     alloc: Global,
     lookup: &mut L,
     managed: &ManagedSet,
     winners: &mut Winners,
     place: usize,
-) -> Result<(), MediationFault>
+) -> Result<List<Edge>, MediationFault>
     ensures adds { (libraries : Libraries) (direct : logic.List dependencies.Dependency)
         → L.fits lookup.old libraries
         → All (IsPicked libraries) winners.old
         → Adds libraries winners.old winners.new
         (flat_map (longer (graph_of libraries managed.now direct))
         (option_to_list (slice_get (paths_of winners.old) place))) result }
+    ensures keeps { OnOk result (IsPrefix winners.old winners.new) }
+    ensures below { (winner : rows.Winner) → slice_get winners.old place ≡ Some winner
+        → IfOk result (λ edges. edges ≡ edges_below managed.now winner) }
     ensures same { (libraries : Libraries) → L.fits lookup.old libraries
         → L.fits lookup.new libraries }
     ensures alike { TellsOn L.tells_same lookup.old lookup.new }
     ensures cause { HasCause (L.faults lookup.old) (L.faults lookup.new) (is_faulty result) }
 {
     let Some(winner) = winners.get(place) else {
-        return Ok(());
+        return Ok(List::new(alloc));
     };
     let edges = edges_below(alloc, managed, winner)?;
-    add_edges(alloc, lookup, winners, edges, Some(place))
+    let list = edges.as_slice();
+    match add_edges(alloc, lookup, winners, list, Some(place)) {
+        Ok(()) => Ok(edges),
+        Err(fault) => Err(fault),
+    }
 }
 
-// The paths one edge longer than those of the winners from a place on, before another.
+// The paths one edge longer than those of the winners from a place on, before another; what the POM of each leads to is kept.
 #[tactic(auto, using(crate::proofs::Telling::untold, crate::proofs::Telling::told_both))]
 fn add_level<L: Lookup>(
     alloc: Global,
     lookup: &mut L,
     managed: &ManagedSet,
     winners: &mut Winners,
+    below: &mut List<List<Edge>>,
     from: usize,
     to: usize,
 ) -> Result<(), MediationFault>
-    requires { to ≡ length winners.old }
+    requires order { from ≤ to }
+    requires all { to ≡ length winners.old }
     ensures adds { (libraries : Libraries) (direct : logic.List dependencies.Dependency)
         → L.fits lookup.old libraries
         → All (IsPicked libraries) winners.old
         → Adds libraries winners.old winners.new
         (flat_map (longer (graph_of libraries managed.now direct))
         (drop from (paths_of winners.old))) result }
+    ensures below { below.old ≡ map (edges_below managed.now) (take from winners.old)
+        → OnOk result (below.new ≡ map (edges_below managed.now) (take to winners.new)) }
     ensures same { (libraries : Libraries) → L.fits lookup.old libraries
         → L.fits lookup.new libraries }
     ensures alike { TellsOn L.tells_same lookup.old lookup.new }
     ensures cause { HasCause (L.faults lookup.old) (L.faults lookup.new) (is_faulty result) }
 {
     for place in from..to {
-        match expand(alloc, lookup, managed, winners, place) {
-            Ok(()) => {}
+        let edges = match expand(alloc, lookup, managed, winners, place) {
+            Ok(edges) => edges,
             Err(fault) => return Err(fault),
-        }
+        };
+        below.push(edges)?;
     }
     Ok(())
+}
+
+/// The winners of a project's dependency graph, and what is declared in it.
+#[derive(Drop)]
+pub struct DependencyGraph {
+    pub winners: Winners,
+    /// What the project declares.
+    pub own: List<Edge>,
+    /// What the POM of each winner declares, in the order of the winners.
+    pub below: List<List<Edge>>,
 }
 
 /// The winners of a project: of each key the nearest declaration, and of those the first. A project's own declaration so
@@ -230,28 +296,37 @@ pub fn find_winners<L: Lookup>(
     direct: &[Shared<Dependency>],
     managed: &ManagedSet,
     lookup: &mut L,
-) -> Result<Winners, MediationFault>
+) -> Result<DependencyGraph, MediationFault>
     ensures resolves { (libraries : Libraries) → L.fits lookup.old libraries
-        → Resolves libraries (graph_of libraries managed.now direct.now) result }
+        → ResolvesGraph libraries (graph_of libraries managed.now direct.now) result }
+    ensures declared { IfOk result (λ graph. graph.own ≡ direct_edges direct.now) }
+    ensures below { IfOk result (λ graph. graph.below
+        ≡ map (edges_below managed.now) graph.winners) }
     ensures same { (libraries : Libraries) → L.fits lookup.old libraries
         → L.fits lookup.new libraries }
     ensures alike { TellsOn L.tells_same lookup.old lookup.new }
     ensures cause { HasCause (L.faults lookup.old) (L.faults lookup.new) (is_faulty result) }
 {
     let mut winners = Winners::new(alloc);
-    let edges = direct_edges(alloc, direct)?;
-    match add_edges(alloc, lookup, &mut winners, edges, None) {
+    let mut below = List::new(alloc);
+    let own = direct_edges(alloc, direct)?;
+    let declared = own.as_slice();
+    match add_edges(alloc, lookup, &mut winners, declared, None) {
         Ok(()) => {}
         Err(fault) => return Err(fault),
     }
     let mut from = 0;
     while from < winners.len() {
         let to = winners.len();
-        match add_level(alloc, lookup, managed, &mut winners, from, to) {
+        match add_level(alloc, lookup, managed, &mut winners, &mut below, from, to) {
             Ok(()) => {}
             Err(fault) => return Err(fault),
         }
         from = to;
     }
-    Ok(winners)
+    Ok(DependencyGraph {
+        winners,
+        own,
+        below,
+    })
 }

@@ -13,5 +13,5 @@ mod winner;
 pub use fault::MediationFault;
 pub use known::{Known, Lookup, LookupFault};
 pub use law::nearest_wins;
-pub use levels::{edges_below, find_winners};
+pub use levels::{DependencyGraph, edges_below, find_winners};
 pub use winner::{Winner, Winners};

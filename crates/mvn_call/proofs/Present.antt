@@ -1,16 +1,14 @@
 -- A plan that is found can be built: it is sound, for the line's workers, and says which of its files the repository has.
-use Rattle.std.proofs.Common.{◌≡◌, ◌<◌, ℕ, Bool, false, is_some, List, [], length, map, get_or, Option, Some, None, Result, Ok, Err, IfOk, IfSome, refl, sym, ap, subst, ◌∙◌}
+use Rattle.std.proofs.Common.{◌≡◌, ℕ, Bool, false, List, [], map, get_or, Option, Some, None, Result, Ok, Err, IfOk, IfSome, refl, ap, subst, ◌∙◌}
 use Rattle.std.proofs.lemmas.List.{get_or-map}
-use Rattle.mvn_shared.specs.Files.{Files, file_at}
+use Rattle.mvn_shared.specs.Files.{Files}
 use Rattle.mvn_base.specs.declared.phase.Phase.{Phase}
 use Rattle.mvn_outside.specs.Shelf.{files_now}
 use Rattle.mvn_outside.specs.declared.shelf.ShelfTold.{ShelfTold}
 use Rattle.cli_words.specs.declared.command_line.CommandLine.{CommandLine}
 use Rattle.pom_source.specs.declared.fault.BuildFault.TheVariants.{Refused, Absent, Source, Memory}
-use Rattle.build_core.specs.OneThread.{name_of}
 use Rattle.build_core.specs.declared.plan.Plan.{Plan}
 use Rattle.event_core.specs.Scripts.{is_there}
-use Rattle.event_core.specs.SoundPlans.{IsSoundPlan}
 use Rattle.run_law.specs.Given.{IsPresent}
 use Rattle.plan_numbers.specs.Plans.{is_present, plan_with, planned_with, present_in}
 use Rattle.plan_numbers.specs.declared.selected.Planned.{Planned}
@@ -19,7 +17,7 @@ use Rattle.build_plan.specs.Planning.{IsPlan, KnowsFiles}
 use Rattle.build_plan.specs.declared.planning.PlanFault.{PlanFault}
 use Rattle.build_plan.specs.declared.planning.PlanFault.TheVariants.{Build, Unknown}
 use Rattle.crew_outcome.specs.declared.outcome.Outcome.{Outcome}
-use Rattle.mvn_call.specs.Found.{Finds, IsFoundBy}
+use Rattle.mvn_call.specs.Found.{Finds}
 
 abbrev plan_of : Planned → Result Planned Outcome
 plan_of p = Ok p

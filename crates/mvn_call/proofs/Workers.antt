@@ -1,5 +1,5 @@
 -- How many workers a command line asks for: at least one, and no more than there are hands.
-use Rattle.std.proofs.Common.{◌≡◌, ℕ, ◌+◌, ◌-◌, ◌*◌, ◌≤◌, ◌<◌, Bool, true, false, not, ◌&&◌, ◌==◌, nat_lt, cond, if◌then◌else◌, List, [], ◌∷◌, ◌++◌, length, take, drop, Option, Some, None, is_some, Result, Ok, Err, IfOk, IfSome, refl, sym, ap, subst, ◌∙◌, arith}
+use Rattle.std.proofs.Common.{◌≡◌, ℕ, ◌+◌, ◌-◌, ◌≤◌, Bool, true, false, not, ◌&&◌, ◌==◌, nat_lt, if◌then◌else◌, List, [], ◌∷◌, ◌++◌, length, drop, Option, Some, None, is_some, Result, Ok, Err, IfOk, IfSome, refl, sym, subst, arith}
 use Rattle.std.specs.List.{list_all}
 use Rattle.std.specs.Char.{is_ascii_digit}
 use Rattle.std.specs.Str.{is_utf8}
@@ -9,8 +9,7 @@ use Rattle.mvn_base.specs.declared.phase.Phase.{Phase}
 use Rattle.mvn_base.specs.declared.phase.Phase.TheVariants.{Validate, Initialize, GenerateSources, ProcessSources, GenerateResources, ProcessResources, Compile, ProcessClasses, GenerateTestSources, ProcessTestSources, GenerateTestResources, ProcessTestResources, TestCompile, ProcessTestClasses, Test, PreparePackage, Package, PreIntegrationTest, IntegrationTest, PostIntegrationTest, Verify, Install, Deploy}
 use Rattle.cli_words.specs.declared.command_line.CommandLine.{CommandLine}
 use Rattle.cli_words.specs.declared.fault.WordFault.{WordFault}
-use Rattle.cli_words.specs.declared.fault.WordKind.{WordKind}
-use Rattle.cli_words.specs.declared.fault.WordKind.TheVariants.{BadNumber, BadSelector, DeployPhase, MissingValue, NoPhase, NotUtf8, Repeated, TooManyWorkers, TwoPhases, UnknownPhase, UnknownWord}
+use Rattle.cli_words.specs.declared.fault.WordKind.TheVariants.{BadNumber, DeployPhase, MissingValue, NoPhase, NotUtf8, Repeated, TooManyWorkers, TwoPhases, UnknownPhase, UnknownWord}
 use Rattle.cli_words.specs.declared.line.Count.{Count}
 use Rattle.cli_words.specs.declared.line.Line.{Line}
 use Rattle.cli_words.specs.declared.spelling.Wanted.{Wanted}
@@ -18,7 +17,7 @@ use Rattle.cli_words.specs.declared.spelling.Wanted.TheVariants.{Workers, Profil
 use Rattle.cli_words.specs.declared.spelling.Spelling.{Spelling}
 use Rattle.cli_words.specs.declared.spelling.Spelling.TheVariants.{Takes, AlsoMake, AlsoMakeDependents, Full, NoEffect}
 use Rattle.cli_words.specs.Spellings.{spelled}
-use Rattle.cli_words.specs.Options.{are_bad_selectors, begins_with, command_line, digit, digits_value, fault, is_bad_selector, is_there, items, joined_value, joined_word, name_of, next_value, next_word, no_words, number, option_word, options, other_word, phase_word, read_words, selector, trimmed, value_of, whole_line, with_define, with_from, with_generated, with_hands, with_projects, with_spelling, with_value, with_workers}
+use Rattle.cli_words.specs.Options.{are_bad_selectors, begins_with, command_line, digit, digits_value, fault, is_bad_selector, is_there, items, joined_value, joined_word, name_of, next_value, next_word, no_words, number, option_word, options, other_word, phase_word, read_words, selector, trimmed, value_of, whole_line, with_define, with_generated, with_hands, with_spelling, with_value, with_workers}
 
 -- the workers that were read so far are at least one
 abbrev AtLeastOne : Line → Type 0

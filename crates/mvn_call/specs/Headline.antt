@@ -1,6 +1,6 @@
 -- What a call answers and leaves, by what its words ask for and what stands outside. Project rules; Guide to Working with Multiple Modules, for
 -- the build by one hand that it is measured by.
-use Rattle.std.specs.Prelude.{◌≡◌, ◌⊎◌, ◌<◌, ℕ, Bool, false, List, [], Option, None, Some, Result, Ok, Err}
+use Rattle.std.specs.Prelude.{◌≡◌, ◌⊎◌, ℕ, Bool, false, List, [], Option, None, Some, Result, Ok, Err}
 use Rattle.mvn_shared.specs.Cause.{HasRisen}
 use Rattle.mvn_shared.specs.Files.{Files}
 use Rattle.goal_types.specs.declared.goal.GoalAnswer.{GoalAnswer}

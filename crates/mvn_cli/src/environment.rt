@@ -60,10 +60,10 @@ pub(crate) fn words<R: Env>(rt: &R, alloc: Global) -> Mem<Vec<Bytes>> {
     Ok(words)
 }
 
-// A text of these bytes, where they are one.
+// A text of these bytes, where they are one. Its copies share it, since each model is filled from the environment.
 fn text_of(alloc: Global, bytes: &[u8]) -> Mem<Option<Text>> {
     match Text::from_slice(alloc, bytes) {
-        Ok(text) => Ok(Some(text)),
+        Ok(text) => Ok(Some(text.shared(alloc)?)),
         Err(TextError::NotUtf8) => Ok(None),
         Err(TextError::Memory) => Err(OutOfMemory),
     }

@@ -13,7 +13,7 @@ use classpaths::{Kind, Resolved};
 use collector::Scope;
 use goal_types::{GoalCall, Slot};
 use mvn_base::{FileName, Gav, handler};
-use mvn_shared::{List, Mem, OutOfMemory};
+use mvn_shared::{List, Mem, OutOfMemory, Shared};
 use std::alloc::Global;
 
 /// A place as a number of 32 bits; more places than that are want of memory.
@@ -118,7 +118,7 @@ fn all_entries(
     alloc: Global,
     built: &Places<Gav>,
     files: &FileList,
-    winners: &[Resolved],
+    winners: &[Shared<Resolved>],
 ) -> Mem<List<Entry>>
     ensures { IfOk result (λ entries. entries
         ≡ entries_of built.now files.now (filter has_names winners.now)) }
@@ -137,7 +137,7 @@ pub(crate) fn entries_of(
     built: &Places<Gav>,
     files: &FileList,
     calls: &[GoalCall],
-    winners: &[Resolved],
+    winners: &[Shared<Resolved>],
 ) -> Mem<List<Entry>>
     ensures { IfOk result (λ entries. entries
         ≡ entries_of built.now files.now (used_by calls.now winners.now)) }

@@ -13,7 +13,7 @@ use crate::winners::{artifact_file, has_names, needs_path};
 use classpaths::Resolved;
 use goal_types::GoalCall;
 use mvn_base::{FileName, Gav, lock_name};
-use mvn_shared::{Bytes, FileMap, List, Mem, Text};
+use mvn_shared::{Bytes, FileMap, List, Mem, Shared, Text};
 use std::alloc::Global;
 
 // Puts the files of a dependency to others, unless it is built in this run.
@@ -46,7 +46,7 @@ fn add_named(alloc: Global, files: &mut FileList, built: &Places<Gav>, winner: &
 
 // The files of all dependencies.
 #[tactic(auto, using(crate::proofs::Walks::one_file_more))]
-fn all_files(alloc: Global, built: &Places<Gav>, winners: &[Resolved]) -> Mem<FileList>
+fn all_files(alloc: Global, built: &Places<Gav>, winners: &[Shared<Resolved>]) -> Mem<FileList>
     ensures { IfOk result (λ list. list
         ≡ fetched_files built.now (filter has_names winners.now)) }
 {
@@ -63,7 +63,7 @@ pub(crate) fn fetched_files(
     alloc: Global,
     built: &Places<Gav>,
     calls: &[GoalCall],
-    winners: &[Resolved],
+    winners: &[Shared<Resolved>],
 ) -> Mem<List<FileName>>
     ensures { IfOk result (λ list. list
         ≡ fetched_files built.now (used_by calls.now winners.now)) }
@@ -100,7 +100,7 @@ fn add_lock(alloc: Global, locks: &mut FileMap, built: &Places<Gav>, winner: &Re
 
 // The locks of all dependencies.
 #[tactic(auto, using(crate::proofs::Walks::one_lock_more))]
-fn all_locks(alloc: Global, built: &Places<Gav>, winners: &[Resolved]) -> Mem<FileMap>
+fn all_locks(alloc: Global, built: &Places<Gav>, winners: &[Shared<Resolved>]) -> Mem<FileMap>
     ensures { IfOk result (λ set. set ≡ with_texts finite.empty
         (fetched_locks built.now (filter has_names winners.now))) }
 {
@@ -123,7 +123,7 @@ fn used_locks(
     alloc: Global,
     built: &Places<Gav>,
     calls: &[GoalCall],
-    winners: &[Resolved],
+    winners: &[Shared<Resolved>],
 ) -> Mem<FileMap>
     ensures { IfOk result (λ set. set ≡ with_texts finite.empty
         (fetched_locks built.now (used_by calls.now winners.now))) }
@@ -141,7 +141,7 @@ pub(crate) fn fetched_locks(
     alloc: Global,
     built: &Places<Gav>,
     calls: &[GoalCall],
-    winners: &[Resolved],
+    winners: &[Shared<Resolved>],
 ) -> Mem<List<Text>>
     ensures { IfOk result (λ list. list
         ≡ ascending (fetched_locks built.now (used_by calls.now winners.now))) }

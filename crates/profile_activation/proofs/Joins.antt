@@ -1,5 +1,5 @@
 -- The places by what was chosen of each profile, and what the program keeps against the definition.
-use Rattle.std.proofs.Common.{◌≡◌, ℕ, suc, Bool, true, false, not, ◌&&◌, ◌||◌, List, [], ◌∷◌, map, zip, Option, option_map, option_to_list, is_some, Result, IfOk, refl, ap, subst, ◌∙◌, if◌then◌else◌}
+use Rattle.std.proofs.Common.{◌≡◌, ℕ, suc, Bool, true, false, not, ◌&&◌, ◌||◌, List, [], ◌∷◌, map, zip, Option, option_map, option_to_list, is_some, Result, IfOk, refl, sym, ap, subst, ◌∙◌, if◌then◌else◌}
 use Rattle.std.specs.List.{list_any}
 use Rattle.mvn_base.specs.declared.machine.Choice.{Choice}
 use Rattle.mvn_base.specs.declared.machine.Machine.{Machine}
@@ -14,7 +14,7 @@ use Rattle.profile_activation.specs.declared.judge.Place.{Place}
 use Rattle.profile_activation.specs.FileTexts.{filled, path_of}
 use Rattle.profile_activation.specs.Known.{known_value}
 use Rattle.profile_activation.specs.Lookups.{property_of}
-use Rattle.profile_activation.specs.Activation.{active, all_hold, criteria, file_holds, for_project, given, holds_in, is_active, named_path, needs_file, needs_files, places_from}
+use Rattle.profile_activation.specs.Activation.{active, active_by, all_hold, criteria, file_holds, for_project, given, holds_in, is_active, named_path, needs_file, needs_files, places_from}
 use Rattle.profile_activation.specs.Judging.{Alone, Judges, active_in, asks_for_any, criteria_by, holds_by, is_chosen_by, is_default_by, is_placed, named_by, place_of}
 
 -- the places by what was chosen of each
@@ -93,3 +93,9 @@ pub alone_same : {j : Judge} {machine : Machine} {defines : List Pair} {choice :
     → Judges j machine defines choice pom profiles → Alone (asks_for_any j profiles) r (λ world. active_in j world profiles)
     → needs_files choice pom profiles ≡ false → (world : List ℕ → Bool) → IfOk r (λ x. x ≡ active machine defines choice world pom profiles)
 alone_same r judge alone none world = same_answer r (alone.is (judge.none none) world) (judge.places world)
+
+-- no profile is active where there is none
+pub none_active : (machine : Machine) (defines : List Pair) (choice : Choice) (there : List ℕ → Bool) (pom : PomId) (profiles : List Profile) → profiles ≡ [] → [] ≡ active machine defines choice there pom profiles
+unfolding active
+none_active machine defines choice there pom profiles none =
+    sym (ap (λ l. active_by machine (property_of defines machine.system machine.env) choice there pom l) none)

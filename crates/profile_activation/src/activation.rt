@@ -91,8 +91,8 @@ fn active_among<F: Files>(
 /// none that is switched off. A POM read by coordinates knows no switches and no files. In every world
 /// that fits the files the places are this world's; where no file counts they are the same in all, and
 /// `files` isn't asked. Failed only where the count of `files` rose. Costs the criteria, and a look at
-/// each property. Introduction to Build Profiles.
-#[tactic(auto, using(crate::proofs::Telling::untold))]
+/// each property; nothing where there is no profile. Introduction to Build Profiles.
+#[tactic(auto, using(crate::proofs::Telling::untold, crate::proofs::Joins::none_active))]
 pub fn active<F: Files>(
     alloc: Global,
     raw: &RawModel,
@@ -114,6 +114,9 @@ pub fn active<F: Files>(
     ensures same { TellsOn F.tells_same files.old files.new }
     ensures cause { HasCause (F.faults files.old) (F.faults files.new) (device_failed result) }
 {
+    if raw.profiles.is_empty() {
+        return Ok(List::new(alloc));
+    }
     let judge = Judge::of(alloc, raw, machine, defines, choice)?;
     active_among(alloc, &judge, raw, files)
 }

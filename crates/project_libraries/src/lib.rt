@@ -6,6 +6,7 @@ mod known;
 mod listing;
 mod memo;
 mod resolving;
+mod rows;
 mod run_lookup;
 mod versions;
 

@@ -13,6 +13,7 @@ ghost use Rattle.project_libraries.specs.Known.{libraries_of};
 ghost use Rattle.project_libraries.specs.Resolving.{Resolves, ResolvesModule, managed_by, refused_at};
 
 use crate::memo::known_modules;
+use crate::rows::push_shared;
 use crate::run_lookup::{RunLookup, Whole};
 use classpaths::Resolution;
 use effective::RunStore;
@@ -26,6 +27,7 @@ use mvn_shared::{List, Shared, Text};
 use pom_source::{BuildFault, Given};
 use resolution::mediate;
 use std::alloc::Global;
+use std::collections::HashMap;
 
 // A module's refusal.
 fn refused(pom: &ProjectPom, rule: Rule, place: Text) -> Result<Resolution, BuildFault>
@@ -97,10 +99,11 @@ fn resolve_each<L: Lookup>(
     ensures cause { HasCause (L.faults lookup.old) (L.faults lookup.new) (build_failed result) }
 {
     let mut list = List::new(alloc);
+    let mut rows = HashMap::new(alloc);
     for at in 0..models.len() {
         match resolve_module(alloc, lookup, &poms[at], models[at].value()) {
             Ok(resolution) => {
-                list.push(resolution)?;
+                push_shared(alloc, &mut rows, &mut list, resolution)?;
             }
             Err(fault) => return Err(fault),
         }

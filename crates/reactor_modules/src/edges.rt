@@ -16,7 +16,7 @@ fn push_winners(
     modules: &[Shared<Model>],
     index: &ModuleIndex,
     from: u32,
-    winners: &[Resolved],
+    winners: &[Shared<Resolved>],
     edges: &mut Vec<(u32, u32)>,
 ) -> Mem<()>
     requires { IsIndex modules.now index.now }

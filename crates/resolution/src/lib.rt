@@ -2,7 +2,6 @@
 //! refusal.
 #![tactic(auto)]
 
-mod edges;
 mod notes;
 mod resolved;
 mod resolving;

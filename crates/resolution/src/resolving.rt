@@ -12,14 +12,13 @@ ghost use Rattle.mvn_base.specs.declared.key.Key as names;
 ghost use Rattle.winner_scopes.specs.Links.{AreDeclared};
 ghost use Rattle.resolution.specs.Resolved.{IsMade, Mediates};
 
-use crate::edges::edges_of;
 use crate::notes::notes_of;
 use crate::resolved::resolved_in;
 use crate::tree::order_of;
 use classpaths::Resolution;
-use collector::{Edge, direct_edges};
+use collector::Edge;
 use managed_deps::ManagedSet;
-use mediation::{Lookup, MediationFault, Winner, Winners, find_winners};
+use mediation::{DependencyGraph, Lookup, MediationFault, Winner, Winners, find_winners};
 use model_types::Dependency;
 use mvn_base::{Rule, key_text};
 use mvn_shared::{List, Mem, Shared};
@@ -79,28 +78,29 @@ fn judged(
     }
 }
 
-// What winners come to, or the first conflict. What each POM leads to is found once.
-fn resolved(
-    alloc: Global,
-    direct: &[Shared<Dependency>],
-    managed: &ManagedSet,
-    winners: &Winners,
-) -> Result<Resolution, MediationFault>
+// What a dependency graph comes to, or the first conflict.
+fn resolved(alloc: Global, graph: &DependencyGraph) -> Result<Resolution, MediationFault>
     ensures resolves { (libraries : Libraries)
-        → IsWhole libraries (graph_of libraries managed.now direct.now) winners.now
-        → Mediates libraries managed.now direct.now result }
+        (managed : logic.List (names.Key × dependencies.Dependency))
+        (direct : logic.List dependencies.Dependency)
+        → AreDeclared managed direct graph.now.winners graph.now.own graph.now.below
+        → IsWhole libraries (graph_of libraries managed direct) graph.now.winners
+        → Mediates libraries managed direct result }
     ensures blameless { is_faulty result ≡ false }
 {
-    let own = direct_edges(alloc, direct)?;
-    let below = edges_of(alloc, managed, winners)?;
-    judged(alloc, own.as_slice(), below.as_slice(), winners)
+    judged(
+        alloc,
+        graph.own.as_slice(),
+        graph.below.as_slice(),
+        &graph.winners,
+    )
 }
 
 /// What a project is built with: the winners of its dependency graph, each with its version, its scope and whether it has a POM,
 /// in the order of the dependency tree; and a note of each POM that is missing or refused, in the order in which they are met.
 /// Refused as `find_winners` refuses, and then by the first winner whose version a range of some declaration doesn't admit.
-/// `Lookup` comes only where the look-up failed. Costs what `find_winners` costs, and the texts of each declaration once
-/// more. Introduction to the Dependency Mechanism.
+/// `Lookup` comes only where the look-up failed. Costs what `find_winners` costs, and a look-up for each declaration.
+/// Introduction to the Dependency Mechanism.
 pub fn mediate<L: Lookup>(
     alloc: Global,
     direct: &[Shared<Dependency>],
@@ -115,7 +115,7 @@ pub fn mediate<L: Lookup>(
     ensures cause { HasCause (L.faults lookup.old) (L.faults lookup.new) (is_faulty result) }
 {
     match find_winners(alloc, direct, managed, lookup) {
-        Ok(winners) => resolved(alloc, direct, managed, &winners),
+        Ok(graph) => resolved(alloc, &graph),
         Err(fault) => Err(fault),
     }
 }

@@ -1,19 +1,21 @@
 use Rattle.std.proofs.Common.{◌≤◌, [], length, refl, sym, subst, arith, ◌∙◌}
 use Rattle.mediation.specs.Libraries.{graph_of}
 use Rattle.mediation.proofs.Lengths.{IsUpTo, begun, ended, not_begun, not_turned, turned}
+use Rattle.mediation.proofs.Prefixes.{all_below}
 use Rattle.mediation.proofs.Telling.{told_both}
 use Rattle.mediation.proofs.levels.find_winners.Goals as goal
 
 pub returns-in-Err-clause-resolves : goal.returns-in-Err-clause-resolves
 returns-in-Err-clause-resolves g c = λ libraries fits.
-    not_begun libraries (graph_of libraries c.args.managed.now c.args.direct.now) c.new-winners.result c.add_edges.new.winners c.in_ok-edges.edges c.in-Err.fault c.new-winners.ensures c.in_ok-edges.ensures
+    not_begun libraries (graph_of libraries c.args.managed.now c.args.direct.now) c.new-winners.result c.add_edges.new.winners c.as_slice-declared.result.now c.in-Err.fault c.new-winners.ensures (c.as_slice-declared.ensures ∙ c.in_ok-own.ensures)
     (c.in-Err.ensures.adds libraries [] fits refl)
 
 pub loop-from-init : goal.loop-from-init
 loop-from-init g c = record {
   stand = λ libraries fits.
-      begun libraries (graph_of libraries c.args.managed.now c.args.direct.now) c.new-winners.result c.add_edges.new.winners c.in_ok-edges.edges c.new-winners.ensures c.in_ok-edges.ensures
+      begun libraries (graph_of libraries c.args.managed.now c.args.direct.now) c.new-winners.result c.add_edges.new.winners c.as_slice-declared.result.now c.new-winners.ensures (c.as_slice-declared.ensures ∙ c.in_ok-own.ensures)
       (c.in-Ok.ensures.adds libraries [] fits refl);
+  below = c.new-below.ensures;
   fit = λ libraries fits. c.in-Ok.ensures.same libraries fits;
   alike = c.in-Ok.ensures.alike;
   faults = c.in-Ok.ensures.cause;
@@ -35,6 +37,7 @@ loop-from-preserved g c =
           subst (λ n. IsUpTo libraries (graph_of libraries c.args.managed.now c.args.direct.now) c.add_level.new.winners n) (sym c.len-to.ensures.value)
           (turned libraries (graph_of libraries c.args.managed.now c.args.direct.now) c.loop-from.winners c.add_level.new.winners c.loop-from.from stands
           (c.in-Ok-add_level.ensures.adds libraries c.args.direct.now (inv.fit libraries fits) stands.versions));
+      below = c.in-Ok-add_level.ensures.below inv.below;
       fit = λ libraries fits. c.in-Ok-add_level.ensures.same libraries (inv.fit libraries fits);
       alike = told_both inv.alike c.in-Ok-add_level.ensures.alike;
       faults = c.in-Ok-add_level.ensures.cause ∙ inv.faults;
@@ -44,3 +47,8 @@ pub returns-clause-resolves : goal.returns-clause-resolves
 returns-clause-resolves g c = λ libraries fits.
     let low : length c.loop-from.winners ≤ c.loop-from.from = omega (arith, c.loop-from-test.false, c.len.ensures.value) in
     ended libraries (graph_of libraries c.args.managed.now c.args.direct.now) c.loop-from.winners c.loop-from.from (c.loop-from.invariant.stand libraries fits) low
+
+pub returns-clause-below : goal.returns-clause-below
+returns-clause-below g c =
+    let low : length c.loop-from.winners ≤ c.loop-from.from = omega (arith, c.loop-from-test.false, c.len.ensures.value) in
+    all_below c.args.managed.now c.loop-from.winners c.loop-from.from c.loop-from.below low c.loop-from.invariant.below

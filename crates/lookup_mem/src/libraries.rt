@@ -6,7 +6,7 @@ ghost use Rattle.mvn_base.specs.Gav.{gav_eq};
 ghost use Rattle.lookup_mem.specs.Held.{Fits, models_in, versions_in, with_model, with_versions};
 
 use crate::told::{known, name_of, told};
-use mediation::{Known, Lookup, LookupFault};
+use mediation::{Known, Library, Lookup, LookupFault};
 use model_types::Model;
 use mvn_base::Gav;
 use mvn_shared::{List, Mem, Shared, Text};
@@ -17,7 +17,7 @@ use std::collections::HashMap;
 #[derive(Drop)]
 pub struct MemLibraries {
     alloc: Global,
-    models: HashMap<Gav, Shared<Model>>,
+    models: HashMap<Gav, Library>,
     versions: HashMap<Text, List<Text>>,
 }
 
@@ -34,7 +34,8 @@ impl MemLibraries {
         }
     }
 
-    /// Puts a POM under coordinates, in place of another. Costs the coordinates, on the average.
+    /// Puts a POM under coordinates, in place of another. Costs the coordinates, on the average, and the
+    /// model's dependencies.
     pub fn put_model(&mut self, gav: Gav, model: Shared<Model>) -> Mem<()>
         ensures ok { OnOk result ((other : gavs.Gav) → models_in self.new other
             ≡ with_model (models_in self.old) gav model other) }
@@ -43,7 +44,8 @@ impl MemLibraries {
         ensures versions { (name : Items ℕ)
             → versions_in self.new name ≡ versions_in self.old name }
     {
-        self.models.insert(gav, model)?;
+        let library = Library::new(self.alloc, model)?;
+        self.models.insert(gav, library)?;
         Ok(())
     }
 

@@ -2,9 +2,8 @@ ghost use Rattle.std.specs.Prelude.{◌≡◌, ◌≤◌, ◌∷◌, ◌++◌, l
 ghost use Rattle.std.specs.Option.{option_copied};
 ghost use Rattle.lookup_mem.specs.Held.{known_of, short, told_of};
 
-use mediation::Known;
-use model_types::Model;
-use mvn_shared::{List, Mem, Shared, Text};
+use mediation::{Known, Library};
+use mvn_shared::{List, Mem, Text};
 use std::alloc::Global;
 
 /// The greatest number of versions of an artifact that are told. Project rule.
@@ -21,11 +20,11 @@ pub fn name_of(group: &Text, artifact: &Text) -> Mem<Text>
 }
 
 // What is known of a coordinate's POM.
-pub fn known(found: Option<&Shared<Model>>) -> Mem<Known>
+pub fn known(found: Option<&Library>) -> Mem<Known>
     ensures { IfOk result (λ known. known ≡ known_of (option_copied found.entry)) }
 {
     match found {
-        Some(model) => Ok(Known::Model(model.share()?)),
+        Some(library) => Ok(Known::Model(library.share()?)),
         None => Ok(Known::Missing),
     }
 }

@@ -8,3 +8,4 @@ pub mod Within
 pub mod Nearest
 pub mod Telling
 pub mod Prefixes
+pub mod Unmanaged

@@ -5,14 +5,14 @@ ghost use Rattle.mediation.specs.Libraries.{Libraries};
 ghost use Rattle.mediation.specs.Telling.{TellsOn};
 
 use crate::fault::MediationFault;
-use model_types::Model;
+use crate::library::Library;
 use mvn_base::{Gav, Rule};
-use mvn_shared::{List, OutOfMemory, Shared, Text};
+use mvn_shared::{List, OutOfMemory, Text};
 
 /// What is known of a coordinate's POM.
 #[derive(Drop)]
 pub enum Known {
-    Model(Shared<Model>),
+    Model(Library),
     Missing,
     Refused(Rule),
 }

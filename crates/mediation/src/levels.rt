@@ -16,7 +16,7 @@ use crate::fault::MediationFault;
 use crate::known::{Known, Lookup, ask_model};
 use crate::pick::chosen;
 use crate::winner::{Winner, Winners};
-use collector::{Edge, direct_edges, edges};
+use collector::{Edge, direct_edges};
 use managed_deps::ManagedSet;
 use model_types::{Dependency, Exclusion};
 use mvn_base::{Gav, Key};
@@ -177,26 +177,32 @@ fn coordinate(key: &Key, version: &Text) -> Mem<Gav>
     })
 }
 
+// Nothing.
+fn no_edges(alloc: Global) -> Mem<Shared<List<Edge>>>
+    ensures { IfOk result (λ list. list ≡ []) }
+{
+    Shared::new(alloc, List::new(alloc))
+}
+
 // What a POM that is known leads to.
 fn edges_of(
     alloc: Global,
     known: &Known,
     managed: &ManagedSet,
     cut: &Shared<List<Exclusion>>,
-) -> Mem<List<Edge>>
+) -> Mem<Shared<List<Edge>>>
     ensures { IfOk result (λ list.
         list ≡ transitive_edges (declarations known.now) managed.now cut.now) }
 {
     match known {
-        Known::Model(model) => edges(alloc, model.base.dependencies.as_slice(), managed, cut),
-        Known::Missing => Ok(List::new(alloc)),
-        Known::Refused(_) => Ok(List::new(alloc)),
+        Known::Model(library) => library.edges(alloc, managed, cut),
+        Known::Missing => no_edges(alloc),
+        Known::Refused(_) => no_edges(alloc),
     }
 }
 
-/// What the POM of a winner leads to: its dependencies as `edges` of the collector gives them, none where the POM is
-/// missing or refused. Costs what that costs.
-pub fn edges_below(alloc: Global, managed: &ManagedSet, winner: &Winner) -> Mem<List<Edge>>
+// What the POM of a winner leads to: its dependencies as `edges` of the collector gives them, none where the POM is missing or refused.
+fn edges_below(alloc: Global, managed: &ManagedSet, winner: &Winner) -> Mem<Shared<List<Edge>>>
     ensures { IfOk result (λ list. list ≡ edges_below managed.now winner.now) }
 {
     edges_of(alloc, &winner.known, managed, &winner.edge.exclusions)
@@ -210,7 +216,7 @@ fn expand<L: Lookup>(
     managed: &ManagedSet,
     winners: &mut Winners,
     place: usize,
-) -> Result<List<Edge>, MediationFault>
+) -> Result<Shared<List<Edge>>, MediationFault>
     ensures adds { (libraries : Libraries) (direct : logic.List dependencies.Dependency)
         → L.fits lookup.old libraries
         → All (IsPicked libraries) winners.old
@@ -226,7 +232,7 @@ fn expand<L: Lookup>(
     ensures cause { HasCause (L.faults lookup.old) (L.faults lookup.new) (is_faulty result) }
 {
     let Some(winner) = winners.get(place) else {
-        return Ok(List::new(alloc));
+        return Ok(no_edges(alloc)?);
     };
     let edges = edges_below(alloc, managed, winner)?;
     let list = edges.as_slice();
@@ -243,7 +249,7 @@ fn add_level<L: Lookup>(
     lookup: &mut L,
     managed: &ManagedSet,
     winners: &mut Winners,
-    below: &mut List<List<Edge>>,
+    below: &mut List<Shared<List<Edge>>>,
     from: usize,
     to: usize,
 ) -> Result<(), MediationFault>
@@ -279,7 +285,7 @@ pub struct DependencyGraph {
     /// What the project declares.
     pub own: List<Edge>,
     /// What the POM of each winner declares, in the order of the winners.
-    pub below: List<List<Edge>>,
+    pub below: List<Shared<List<Edge>>>,
 }
 
 /// The winners of a project: of each key the nearest declaration, and of those the first. A project's own declaration so

@@ -7,11 +7,13 @@ mod fault;
 mod known;
 mod law;
 mod levels;
+mod library;
 mod pick;
 mod winner;
 
 pub use fault::MediationFault;
 pub use known::{Known, Lookup, LookupFault};
 pub use law::nearest_wins;
-pub use levels::{DependencyGraph, edges_below, find_winners};
+pub use levels::{DependencyGraph, find_winners};
+pub use library::Library;
 pub use winner::{Winner, Winners};

@@ -16,13 +16,21 @@ ghost use Rattle.project_libraries.specs.Known.{known_at, known_of};
 
 use crate::memo::{find_known, keep_known};
 use effective::{RunStore, effective_with};
-use mediation::{Known, LookupFault};
+use mediation::{Known, Library, LookupFault};
 use model_types::Model;
 use mvn_base::{Gav, PomId};
 use mvn_shared::{Mem, Shared};
 use pom_source::{BuildFault, Given, PomSource};
 use std::alloc::Global;
 use std::collections::HashMap;
+
+// A POM of this effective model.
+fn library_of(alloc: Global, model: Model) -> Mem<Library>
+    ensures { IfOk result (λ library. library ≡ model) }
+{
+    let model = Shared::new(alloc, model)?;
+    Library::new(alloc, model)
+}
 
 // What an effective model comes to, or the fault.
 fn known_of(alloc: Global, built: Result<Model, BuildFault>) -> Result<Known, LookupFault>
@@ -31,7 +39,7 @@ fn known_of(alloc: Global, built: Result<Model, BuildFault>) -> Result<Known, Lo
     ensures failed { lookup_failed result ≡ build_failed built }
 {
     match built {
-        Ok(model) => Ok(Known::Model(Shared::new(alloc, model)?)),
+        Ok(model) => Ok(Known::Model(library_of(alloc, model)?)),
         Err(BuildFault::Refused(refusal)) => Ok(Known::Refused(refusal.rule)),
         Err(BuildFault::Absent) => Ok(Known::Missing),
         Err(BuildFault::Source) => Err(LookupFault::Failed),

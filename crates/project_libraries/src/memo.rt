@@ -7,7 +7,7 @@ ghost use Rattle.mvn_base.specs.Gav.{gav_eq};
 ghost use Rattle.mediation.specs.declared.known.Known.TheVariants as knowns;
 ghost use Rattle.project_libraries.specs.Known.{module_of};
 
-use mediation::Known;
+use mediation::{Known, Library};
 use model_types::Model;
 use mvn_base::Gav;
 use mvn_shared::{Mem, Shared};
@@ -19,7 +19,7 @@ fn copy_of(known: &Known) -> Mem<Known>
     ensures { IfOk result (λ copy. copy ≡ known.now) }
 {
     match known {
-        Known::Model(model) => Ok(Known::Model(model.share()?)),
+        Known::Model(library) => Ok(Known::Model(library.share()?)),
         Known::Missing => Ok(Known::Missing),
         Known::Refused(rule) => Ok(Known::Refused(*rule)),
     }
@@ -54,14 +54,20 @@ fn is_known(map: &HashMap<Gav, Known>, gav: &Gav) -> bool
 }
 
 // A model that is known.
-fn known_model(model: &Shared<Model>) -> Mem<Known>
+fn known_model(alloc: Global, model: &Shared<Model>) -> Mem<Known>
     ensures { IfOk result (λ known. known ≡ knowns.Model model.now) }
 {
-    Ok(Known::Model(model.share()?))
+    let model = model.share()?;
+    Ok(Known::Model(Library::new(alloc, model)?))
 }
 
 // Keeps a module's model, unless one of its coordinates is kept.
-fn keep_module(map: &mut HashMap<Gav, Known>, gav: &Gav, model: &Shared<Model>) -> Mem<()>
+fn keep_module(
+    alloc: Global,
+    map: &mut HashMap<Gav, Known>,
+    gav: &Gav,
+    model: &Shared<Model>,
+) -> Mem<()>
     requires { gav.now ≡ model.now.gav }
     ensures { OnOk result ((done : Items models.Model)
         → ((gav : gavs.Gav) → get gav_eq map.old gav ≡ option_map knowns.Model (module_of done gav))
@@ -71,18 +77,18 @@ fn keep_module(map: &mut HashMap<Gav, Known>, gav: &Gav, model: &Shared<Model>) 
     if is_known(map, gav) {
         return Ok(());
     }
-    let known = known_model(model)?;
+    let known = known_model(alloc, model)?;
     keep_known(map, gav, &known)
 }
 
-/// The modules' effective models, each by its coordinates. Costs one step for each on the average.
+/// The modules' effective models, each by its coordinates. Costs one step for each and for each of its dependencies, on the average.
 pub(crate) fn known_modules(alloc: Global, own: &[Shared<Model>]) -> Mem<HashMap<Gav, Known>>
     ensures { IfOk result (λ map. (gav : gavs.Gav)
         → get gav_eq map gav ≡ option_map knowns.Model (module_of own.now gav)) }
 {
     let mut map = HashMap::new(alloc);
     for model in own {
-        keep_module(&mut map, model.gav.value(), model)?;
+        keep_module(alloc, &mut map, model.gav.value(), model)?;
     }
     Ok(map)
 }

@@ -9,7 +9,7 @@ use crate::keys::add_conflicts;
 use collector::Edge;
 use mediation::{Winner, Winners};
 use mvn_base::Key;
-use mvn_shared::{List, Mem};
+use mvn_shared::{List, Mem, Shared};
 use std::alloc::Global;
 use std::collections::HashSet;
 
@@ -17,7 +17,7 @@ use std::collections::HashSet;
 fn conflicting(
     alloc: Global,
     own: &[Edge],
-    below: &[List<Edge>],
+    below: &[Shared<List<Edge>>],
     winners: &Winners,
 ) -> Mem<HashSet<Key>>
     ensures { IfOk result (λ keys. (key : names.Key) → contains same_key keys key
@@ -52,7 +52,7 @@ fn first_of<'a>(winners: &'a Winners, keys: &HashSet<Key>) -> Option<&'a Winner>
 pub fn first_conflict<'a>(
     alloc: Global,
     own: &[Edge],
-    below: &[List<Edge>],
+    below: &[Shared<List<Edge>>],
     winners: &'a Winners,
 ) -> Mem<Option<&'a Winner>>
     ensures { IfOk result (λ found. option_copied found

@@ -27,7 +27,12 @@ use std::alloc::Global;
 use winner_scopes::scopes_of;
 
 // What winners come to.
-fn made(alloc: Global, own: &[Edge], below: &[List<Edge>], winners: &Winners) -> Mem<Resolution>
+fn made(
+    alloc: Global,
+    own: &[Edge],
+    below: &[Shared<List<Edge>>],
+    winners: &Winners,
+) -> Mem<Resolution>
     ensures { IfOk result (λ resolution.
         (managed : logic.List (names.Key × dependencies.Dependency))
         (direct : logic.List dependencies.Dependency)
@@ -60,7 +65,7 @@ fn refused(alloc: Global, winner: &Winner) -> Result<Resolution, MediationFault>
 fn judged(
     alloc: Global,
     own: &[Edge],
-    below: &[List<Edge>],
+    below: &[Shared<List<Edge>>],
     winners: &Winners,
 ) -> Result<Resolution, MediationFault>
     ensures resolves { (libraries : Libraries)

@@ -4,7 +4,7 @@ ghost use Rattle.winner_scopes.specs.Links.{is_direct, link_below, link_of, link
 use collector::Edge;
 use dependency_scopes::Link;
 use mediation::Winners;
-use mvn_shared::{List, Mem};
+use mvn_shared::{List, Mem, Shared};
 use std::alloc::Global;
 
 // What an edge leads to at a place.
@@ -73,7 +73,11 @@ fn links_of(alloc: Global, winners: &Winners, edges: &[Edge]) -> Mem<List<Link>>
 }
 
 // What each list of edges below the project leads to.
-pub fn links(alloc: Global, below: &[List<Edge>], winners: &Winners) -> Mem<List<List<Link>>>
+pub fn links(
+    alloc: Global,
+    below: &[Shared<List<Edge>>],
+    winners: &Winners,
+) -> Mem<List<List<Link>>>
     ensures { IfOk result (λ list. list ≡ map (links_of winners.now) below.now) }
 {
     let mut list = List::new(alloc);

@@ -14,7 +14,7 @@ use crate::links::{links, starts};
 use collector::{Edge, Scope};
 use dependency_scopes::widest_scopes;
 use mediation::{Winner, Winners};
-use mvn_shared::{List, Mem};
+use mvn_shared::{List, Mem, Shared};
 use std::alloc::Global;
 
 // The scope of a winner at a place.
@@ -61,7 +61,7 @@ fn scopes_among(alloc: Global, widest: &[Option<Scope>], winners: &Winners) -> M
 fn widest_of(
     alloc: Global,
     own: &[Edge],
-    below: &[List<Edge>],
+    below: &[Shared<List<Edge>>],
     winners: &Winners,
 ) -> Mem<List<Option<Scope>>>
     ensures { IfOk result (λ scopes. AreWidest (starts_of winners.now own.now)
@@ -81,7 +81,7 @@ fn widest_of(
 pub fn scopes_of(
     alloc: Global,
     own: &[Edge],
-    below: &[List<Edge>],
+    below: &[Shared<List<Edge>>],
     winners: &Winners,
 ) -> Mem<List<Scope>>
     ensures long { IfOk result (λ scopes. length scopes ≡ length winners.now) }

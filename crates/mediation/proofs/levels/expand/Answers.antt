@@ -16,14 +16,14 @@ returns-in_default-clause-adds g c = λ libraries direct fits picks.
 pub returns-in-Ok-clause-adds : goal.returns-in-Ok-clause-adds
 returns-in-Ok-clause-adds g c = λ libraries direct fits picks.
     expanded libraries c.args.managed.now direct c.args.winners.now c.add_edges.new.winners c.args.place c.in-Some.winner.now c.as_slice-list.result.now (Ok tt) (sym c.in-Some.ensures) picks
-    (c.as_slice-list.ensures ∙ c.in_ok-edges.ensures)
+    (c.as_slice-list.ensures ∙ c.deref.ensures ∙ c.in_ok-edges.ensures)
     (λ front leads. c.in-Ok.ensures.adds libraries front fits leads)
 
 pub returns-in-Err-clause-adds : goal.returns-in-Err-clause-adds
 returns-in-Err-clause-adds g c = λ libraries direct fits picks.
     fault_stays libraries (List Edge) (Unit {0}) c.args.winners.now c.add_edges.new.winners (flat_map (longer (graph_of libraries c.args.managed.now direct)) (option_to_list (slice_get (paths_of c.args.winners.now) c.args.place))) c.in-Err.fault
     (expanded libraries c.args.managed.now direct c.args.winners.now c.add_edges.new.winners c.args.place c.in-Some.winner.now c.as_slice-list.result.now (Err c.in-Err.fault) (sym c.in-Some.ensures) picks
-    (c.as_slice-list.ensures ∙ c.in_ok-edges.ensures)
+    (c.as_slice-list.ensures ∙ c.deref.ensures ∙ c.in_ok-edges.ensures)
     (λ front leads. c.in-Err.ensures.adds libraries front fits leads))
 
 pub returns-in-Ok-clause-below : goal.returns-in-Ok-clause-below

@@ -1,0 +1,106 @@
+ghost use Rattle.std.specs.Prelude.{◌≡◌, [], is_some, IfOk};
+ghost use Rattle.std.specs.List.{list_any};
+ghost use Rattle.managed_deps.specs.Managed.{find_pair};
+ghost use Rattle.collector.specs.Edges.{transitive_edges};
+
+use collector::{Edge, edges};
+use managed_deps::{ManagedSet, managed};
+use model_types::Exclusion;
+use mvn_shared::{List, Mem, Shared};
+use std::alloc::Global;
+use std::marker::Model;
+
+/// A POM's effective model, with what its dependencies lead to where nothing is managed and nothing is left out, which is
+/// found once. Contracts see it as the model.
+#[derive(Drop)]
+pub struct Library {
+    model: Shared<model_types::Model>,
+    edges: Shared<List<Edge>>,
+}
+
+impl Model for Library {
+    ghost use Rattle.std.specs.Prelude.{◌≡◌, []};
+    ghost use Rattle.std.specs.Coded.{codes};
+    ghost use Rattle.mvn_base.specs.contracts.setting.Setting as settings;
+    ghost use Rattle.model_types.specs.declared.model.Model as models;
+    ghost use Rattle.collector.specs.Edges.{transitive_edges};
+
+    ghost Value = { models.Model };
+
+    ghost coded = { Prim.hlevel (codes, settings.the_row.coded) };
+
+    ghost view = { λ library. library.model };
+
+    ghost invariant = { λ library. library.edges
+        ≡ transitive_edges library.model.base.dependencies [] [] };
+}
+
+// What the dependencies of a POM lead to.
+fn shared_edges(
+    alloc: Global,
+    model: &model_types::Model,
+    managed: &ManagedSet,
+    cut: &Shared<List<Exclusion>>,
+) -> Mem<Shared<List<Edge>>>
+    ensures { IfOk result (λ list.
+        list ≡ transitive_edges model.now.base.dependencies managed.now cut.now) }
+{
+    let list = edges(alloc, model.base.dependencies.as_slice(), managed, cut)?;
+    Shared::new(alloc, list)
+}
+
+// The same where nothing is managed and nothing is left out.
+fn plain_edges(alloc: Global, model: &model_types::Model) -> Mem<Shared<List<Edge>>>
+    ensures { IfOk result (λ list. list ≡ transitive_edges model.now.base.dependencies [] []) }
+{
+    let nothing = managed(alloc, &[], &[])?;
+    let none = Shared::new(alloc, List::new(alloc))?;
+    shared_edges(alloc, model, &nothing, &none)
+}
+
+// Whether the key of one of some edges is managed.
+fn is_managed(managed: &ManagedSet, edges: &[Edge]) -> bool
+    ensures { result ≡ list_any (λ e. is_some (find_pair managed.now e.key)) edges.now }
+{
+    for edge in edges {
+        if managed.find(&edge.key).is_some() {
+            return true;
+        }
+    }
+    false
+}
+
+impl Library {
+    /// A POM with its effective model. Costs its dependencies.
+    pub fn new(alloc: Global, model: Shared<model_types::Model>) -> Mem<Library>
+        ensures { IfOk result (λ library. library ≡ model) }
+    {
+        let edges = plain_edges(alloc, &model)?;
+        Ok(Library { model, edges })
+    }
+
+    /// The same, in constant time; nothing is copied.
+    pub fn share(&self) -> Mem<Library>
+        ensures { IfOk result (λ library. library ≡ self.now) }
+    {
+        let model = self.model.share()?;
+        let edges = self.edges.share()?;
+        Ok(Library { model, edges })
+    }
+
+    // What its dependencies lead to below a project that manages some, and below what is left out.
+    pub(crate) fn edges(
+        &self,
+        alloc: Global,
+        managed: &ManagedSet,
+        cut: &Shared<List<Exclusion>>,
+    ) -> Mem<Shared<List<Edge>>>
+        ensures { IfOk result (λ list.
+            list ≡ transitive_edges self.now.base.dependencies managed.now cut.now) }
+    {
+        if !cut.is_empty() || is_managed(managed, self.edges.as_slice()) {
+            return shared_edges(alloc, &self.model, managed, cut);
+        }
+        self.edges.share()
+    }
+}

@@ -11,9 +11,9 @@ pub loop-winner-preserved : goal.loop-winner-preserved
 loop-winner-preserved c =
     let winners = c.args.winners.now in
     let i = c.loop-winner.winner-index in
-    let w = c.winner-item.result in
+    let w = c.deref.result.now in
     let rest = drop (i + 1) winners in
-    let left : drop i winners ≡ w ∷ rest = drop_more winners i w c.loop-winner-test.true ∙ ap (λ (x : Resolved). x ∷ rest) (sym c.winner-item.is) in
+    let left : drop i winners ≡ w ∷ rest = drop_more winners i c.winner-item.result c.loop-winner-test.true ∙ ap (λ (x : Resolved). x ∷ rest) (sym c.winner-item.is ∙ sym c.deref.ensures) in
     let of = λ (ws : List Resolved). entries_of c.args.built.now c.args.files.now (filter has_names ws) in
     ap (λ (e : List Entry). e ++ of rest) c.in_ok-push_entry.ensures
     ∙ one_entry_more c.args.built.now c.args.files.now c.loop-winner.entries w rest

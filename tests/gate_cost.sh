@@ -1,8 +1,8 @@
 #!/usr/bin/env bash
 # Measures what a CI run (`rt ci`) costs, by crate: processor minutes of its proofs, its tests and its wrong bodies.
 #
-#     tests/gate_cost.sh --run LOG [--anew] [NAME..]     runs `rt ci` with these words, keeps what it says in LOG, and ends with its status
-#     tests/gate_cost.sh LOG                             prints the table of such a log
+#     tests/gate_cost.sh --run LOG [WORD..]     runs `rt ci` with these words, keeps what it says in LOG, and ends with its status
+#     tests/gate_cost.sh LOG                    prints the table of such a log
 #
 # `rt ci` prints no times. So --run looks once a second at the processes that it started, and adds to LOG, behind all that
 # `rt ci` says, a line `cost CRATE STEP SECONDS` for each crate and step, and a line `cost all all SECONDS`. The figures are
@@ -12,13 +12,15 @@
 #     proofs   the crate from nothing
 #     tests    the crate from nothing once more, with its tests
 #     seeds    the crate from nothing a third time, for its wrong bodies to begin with, and one check behind them
-#     edits    each wrong body
+#     edits    each wrong body; with a kit that makes no seeds (13b) the first of a crate is its third time from nothing, and the check behind
+#              them is counted here too
 #     runs     the compilations of a program
 #
-# What an earlier run kept isn't done again: only with --anew are these the figures of a gate from nothing.
+# A kit whose `rt ci` keeps nothing (13b) takes no words, and measures from nothing always. One that keeps what passed (13f) takes [--anew]
+# [NAME..] and doesn't do again what an earlier run kept: only with --anew are these the figures of a gate from nothing.
 set -u
 usage() {
-  echo "usage: tests/gate_cost.sh LOG, for a log that was written by: tests/gate_cost.sh --run LOG [--anew] [NAME..]" >&2
+  echo "usage: tests/gate_cost.sh LOG, for a log that was written by: tests/gate_cost.sh --run LOG [WORD..]" >&2
   exit 2
 }
 [ $# -ge 1 ] || usage
@@ -51,13 +53,15 @@ def step_of(number):
     try:
         with open(f"/proc/{number}/cmdline") as it:
             argv = it.read().split("\0")
+        room = os.readlink(f"/proc/{number}/cwd")
     except OSError:
         return None
     if "--crate-name" not in argv[:-1] or not os.path.basename(argv[0]).startswith("rattle"):
         return None
     crate = argv[argv.index("--crate-name") + 1]
     over = argv[argv.index("--incremental") + 1] if "--incremental" in argv[:-1] else ""
-    if "/rt-edit" in over:
+    # (a wrong body that is tried alone, or once more, has no folder over which it is checked)
+    if "/rt-edit" in over or "/rt-edit-" in room:
         return crate, "seeds" if over.endswith("/seed") else "edits"
     if "--crate-checked" in argv:
         return crate, "runs"

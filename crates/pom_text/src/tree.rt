@@ -39,7 +39,7 @@ fn push_section(node: &mut Node, more: &str) -> Mem<()>
 fn share_own_text(alloc: Global, node: &mut Node) -> Mem<()>
     ensures { OnOk result (node.new ≡ node.old) }
 {
-    if node.children.is_empty() {
+    if node.children.is_empty() && !node.text.is_empty() {
         let text = replace(&mut node.text, Text::of(String::new(alloc)));
         node.text = text.shared(alloc)?;
     }

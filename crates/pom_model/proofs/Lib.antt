@@ -3,3 +3,4 @@ pub mod Settings
 pub mod Pairs
 pub mod Lacking
 pub mod Spans
+pub mod Texts

@@ -22,13 +22,6 @@ fn same(text: &str, other: &str) -> bool
     text == other
 }
 
-// A text that isn't empty.
-fn non_empty(text: &str) -> Option<&str>
-    ensures { option_map (λ text. text.now) result ≡ non_empty text.now }
-{
-    if text.is_empty() { None } else { Some(text) }
-}
-
 /// The name of an element.
 pub(crate) fn name_of(node: &Node) -> &str
     ensures { result.now ≡ node.now.name }
@@ -69,35 +62,68 @@ pub(crate) fn child<'a>(nodes: &'a [Node], node: Option<&'a Node>, name: &str) -
     None
 }
 
+// A text without the white space round it, which its copies share: coordinates are copied into keys and edges often. One that has
+// none is shared with the element's.
+#[tactic(auto, using(crate::proofs::Texts::is_same))]
+fn copied(alloc: Global, text: &Text) -> Mem<Text>
+    ensures { IfOk result (λ copy. copy ≡ trimmed text.now) }
+{
+    let inside = trimmed(text.as_str());
+    if same(text.as_str(), inside) {
+        return text.clone()?.shared(alloc);
+    }
+    Text::from_str(alloc, inside)?.shared(alloc)
+}
+
 /// An element's own text, without the white space round it.
 pub(crate) fn own_text(alloc: Global, node: &Node) -> Mem<Text>
     ensures { IfOk result (λ text. text ≡ trimmed node.now.text) }
 {
-    Text::from_str(alloc, trimmed(node.text.as_str()))
+    copied(alloc, &node.text)
 }
 
-// The text of the first element of a name, where it isn't empty.
+// A text, where more than white space stands in it.
+fn filled_text(text: &Text) -> Option<&Text>
+    ensures { option_map (λ text. trimmed text.now) result ≡ non_empty (trimmed text.now) }
+{
+    if trimmed(text.as_str()).is_empty() {
+        None
+    } else {
+        Some(text)
+    }
+}
+
+// The text of the first element of a name, where more than white space stands in it.
 #[tactic(auto, unfolding(crate::specs::Elements::text_of))]
-fn filled<'a>(nodes: &'a [Node], node: Option<&'a Node>, name: &str) -> Option<&'a str>
-    ensures { option_map (λ text. text.now) result
+fn filled<'a>(nodes: &'a [Node], node: Option<&'a Node>, name: &str) -> Option<&'a Text>
+    ensures { option_map (λ text. trimmed text.now) result
         ≡ text_of nodes.now name.now (option_copied node.entry) }
 {
     let child = child(nodes, node, name)?;
-    non_empty(trimmed(child.text.as_str()))
+    filled_text(&child.text)
 }
 
 // Or a default.
 fn filled_or<'a>(nodes: &'a [Node], node: Option<&'a Node>, name: &str, default: &'a str) -> &'a str
     ensures { result.now ≡ text_or nodes.now name.now default.now (option_copied node.entry) }
 {
-    filled(nodes, node, name).unwrap_or(default)
+    match filled(nodes, node, name) {
+        Some(text) => trimmed(text.as_str()),
+        None => default,
+    }
 }
 
-// A copy of a text, which its own copies share: coordinates are copied into keys and edges often.
-fn copied(alloc: Global, text: &str) -> Mem<Text>
-    ensures { IfOk result (λ copy. copy ≡ text.now) }
+// A default, which is shared with a text that is it already.
+#[tactic(auto, using(crate::proofs::Texts::is_same))]
+fn default_like(alloc: Global, default: &str, like: Option<&Text>) -> Mem<Text>
+    ensures { IfOk result (λ text. text ≡ default.now) }
 {
-    Text::from_str(alloc, text)?.shared(alloc)
+    if let Some(text) = like {
+        if same(text.as_str(), default) {
+            return Ok(text.clone()?);
+        }
+    }
+    Text::from_str(alloc, default)?.shared(alloc)
 }
 
 /// The text of the first element of a name, where it isn't empty. Costs the number of elements, and the text.
@@ -115,6 +141,24 @@ pub(crate) fn text_of(
     }
 }
 
+/// Or a default, which is shared with a text that is it already.
+pub(crate) fn text_or_like(
+    alloc: Global,
+    nodes: &[Node],
+    node: Option<&Node>,
+    name: &str,
+    default: &str,
+    like: Option<&Text>,
+) -> Mem<Text>
+    ensures { IfOk result (λ text.
+        text ≡ text_or nodes.now name.now default.now (option_copied node.entry)) }
+{
+    match filled(nodes, node, name) {
+        Some(text) => copied(alloc, text),
+        None => default_like(alloc, default, like),
+    }
+}
+
 /// Or a default.
 pub(crate) fn text_or(
     alloc: Global,
@@ -126,7 +170,7 @@ pub(crate) fn text_or(
     ensures { IfOk result (λ text.
         text ≡ text_or nodes.now name.now default.now (option_copied node.entry)) }
 {
-    copied(alloc, filled_or(nodes, node, name, default))
+    text_or_like(alloc, nodes, node, name, default, None)
 }
 
 /// Whether the first element of a name has a text that isn't empty.

@@ -16,7 +16,8 @@ pub(crate) trait Item: Sized + Drop {
     /// What it is, by all elements and its own.
     ghost value: { List Node → Node → Self };
 
-    fn read(alloc: Global, nodes: &[Node], node: &Node) -> Mem<Self>
+    /// `like` is an item before it, whose texts it may share.
+    fn read(alloc: Global, nodes: &[Node], node: &Node, like: Option<&Self>) -> Mem<Self>
         ensures { IfOk result (λ item. item ≡ value nodes.now node.now) };
 }
 
@@ -28,7 +29,9 @@ fn list_among<T: Item>(alloc: Global, nodes: &[Node], name: &str, ks: &[u32]) ->
     let mut list = List::new(alloc);
     for k in ks {
         if let Some(node) = named(nodes, *k, name) {
-            list.push(T::read(alloc, nodes, node)?)?;
+            let like = list.as_slice().last();
+            let item = T::read(alloc, nodes, node, like)?;
+            list.push(item)?;
         }
     }
     Ok(list)
@@ -54,16 +57,29 @@ pub(crate) fn list_in<T: Item>(
 impl Item for Text {
     ghost value = { text_item };
 
-    fn read(alloc: Global, _nodes: &[Node], node: &Node) -> Mem<Text> {
+    fn read(alloc: Global, _nodes: &[Node], node: &Node, _like: Option<&Text>) -> Mem<Text> {
         own_text(alloc, node)
+    }
+}
+
+// An item that is shared, if there is one.
+fn inside<T>(like: Option<&Shared<T>>) -> Option<&T> {
+    match like {
+        Some(item) => Some(item.value()),
+        None => None,
     }
 }
 
 impl<T: Item> Item for Shared<T> {
     ghost value = { T.value };
 
-    fn read(alloc: Global, nodes: &[Node], node: &Node) -> Mem<Shared<T>> {
-        let item = T::read(alloc, nodes, node)?;
+    fn read(
+        alloc: Global,
+        nodes: &[Node],
+        node: &Node,
+        like: Option<&Shared<T>>,
+    ) -> Mem<Shared<T>> {
+        let item = T::read(alloc, nodes, node, inside(like))?;
         Shared::new(alloc, item)
     }
 }

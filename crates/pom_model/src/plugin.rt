@@ -15,7 +15,7 @@ impl Item for Gav {
     ghost value = { gav };
 
     #[tactic(auto, unfolding(crate::specs::Fields::gav))]
-    fn read(alloc: Global, nodes: &[Node], node: &Node) -> Mem<Gav> {
+    fn read(alloc: Global, nodes: &[Node], node: &Node, _like: Option<&Gav>) -> Mem<Gav> {
         let group = text_or(alloc, nodes, Some(node), "groupId", "")?;
         let artifact = text_or(alloc, nodes, Some(node), "artifactId", "")?;
         let version = text_or(alloc, nodes, Some(node), "version", "")?;
@@ -31,7 +31,12 @@ impl Item for Execution {
     ghost value = { execution };
 
     #[tactic(auto, unfolding(crate::specs::Fields::execution))]
-    fn read(alloc: Global, nodes: &[Node], node: &Node) -> Mem<Execution> {
+    fn read(
+        alloc: Global,
+        nodes: &[Node],
+        node: &Node,
+        _like: Option<&Execution>,
+    ) -> Mem<Execution> {
         let inherited = !text_is(nodes, Some(node), "inherited", "false");
         let id = text_or(alloc, nodes, Some(node), "id", "default")?;
         let phase = text_of(alloc, nodes, Some(node), "phase")?;
@@ -61,7 +66,7 @@ impl Item for Plugin {
     ghost value = { plugin };
 
     #[tactic(auto, unfolding(crate::specs::Fields::plugin))]
-    fn read(alloc: Global, nodes: &[Node], node: &Node) -> Mem<Plugin> {
+    fn read(alloc: Global, nodes: &[Node], node: &Node, _like: Option<&Plugin>) -> Mem<Plugin> {
         let inherited = !text_is(nodes, Some(node), "inherited", "false");
         let version = text_of(alloc, nodes, Some(node), "version")?;
         let dependencies = list_in(alloc, nodes, Some(node), "dependencies", "dependency")?;

@@ -83,7 +83,7 @@ impl Item for Profile {
     ghost value = { profile };
 
     #[tactic(auto, unfolding(crate::specs::Fields::profile))]
-    fn read(alloc: Global, nodes: &[Node], node: &Node) -> Mem<Profile> {
+    fn read(alloc: Global, nodes: &[Node], node: &Node, _like: Option<&Profile>) -> Mem<Profile> {
         let build = child(nodes, Some(node), "build");
         let id = text_or(alloc, nodes, Some(node), "id", "default")?;
         let activation = activation_in(alloc, nodes, node)?;

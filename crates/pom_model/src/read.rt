@@ -44,7 +44,7 @@ fn parent(alloc: Global, nodes: &[Node], node: &Node) -> Mem<Shared<Parent>>
     ensures { IfOk result (λ value. value ≡ parent nodes.now node.now) }
 {
     let relative_path = relative_path(alloc, nodes, node)?;
-    let gav = Gav::read(alloc, nodes, node)?;
+    let gav = Gav::read(alloc, nodes, node, None)?;
     let parent = Parent { gav, relative_path };
     Shared::new(alloc, parent)
 }

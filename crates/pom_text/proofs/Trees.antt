@@ -18,3 +18,9 @@ pub not_changed : (f : Node → Node) (at : ℕ) (nodes : List Node) → length 
 not_changed f at [] end = refl
 not_changed f zero (node ∷ nodes) end = absurd (omega (arith, end))
 not_changed f (suc at) (node ∷ nodes) end = ap (λ l. node ∷ l) (not_changed f at nodes (omega (arith, end)))
+
+-- an item that is set to itself
+pub set_same : (at : ℕ) (nodes : List Node) (old now : Node) → at < length nodes → old ≡ get_or nodes at old → now ≡ old → set nodes at now ≡ nodes
+set_same at [] old now low here is = absurd (omega (arith, low))
+set_same zero (node ∷ nodes) old now low here is = ap (λ n. n ∷ nodes) (is ∙ here)
+set_same (suc at) (node ∷ nodes) old now low here is = ap (λ l. node ∷ l) (set_same at nodes old now (omega (arith, low)) here is)

@@ -14,6 +14,7 @@ use crate::part::{Part, Tag};
 use crate::spelled::{behind_feed, push_lines, text_of};
 use mvn_shared::{List, Mem, Shared, Text};
 use std::alloc::Global;
+use std::mem::replace;
 
 /// The elements that have begun, the numbers of those that have not ended, outermost first, and whether a carriage return in
 /// text stands directly before. Of the elements whose names have one slot it remembers the last, by the key of its name and its
@@ -32,6 +33,17 @@ fn push_section(node: &mut Node, more: &str) -> Mem<()>
     ensures { OnOk result (node.new ≡ add_text (line_bytes more.now) node.old) }
 {
     push_lines(&mut node.text, more)
+}
+
+// Shares an element's text with the copies that are made of it, unless others stand in it.
+fn share_own_text(alloc: Global, node: &mut Node) -> Mem<()>
+    ensures { OnOk result (node.new ≡ node.old) }
+{
+    if node.children.is_empty() && !node.text.is_empty() {
+        let text = replace(&mut node.text, Text::of(String::new(alloc)));
+        node.text = text.shared(alloc)?;
+    }
+    Ok(())
 }
 
 // Whether an element has this name.
@@ -241,6 +253,29 @@ impl Tree {
         self.returned = false;
     }
 
+    // So of the element of a number.
+    fn share_text(&mut self, alloc: Global, at: u32) -> Mem<()>
+        ensures nodes { OnOk result (self.new.nodes.items ≡ self.old.nodes.items) }
+        ensures path { self.new.path.items ≡ self.old.path.items }
+    {
+        if (at as usize) < self.nodes.len() {
+            share_own_text(alloc, &mut self.nodes[at as usize])?;
+        }
+        Ok(())
+    }
+
+    // The innermost open element ends, behind what stands in it.
+    #[tactic(auto, unfolding(crate::specs::Tree::ended))]
+    fn close(&mut self, alloc: Global) -> Mem<()>
+        ensures { OnOk result (standing_of self.new ≡ ended (standing_of self.old)) }
+    {
+        if let Some(at) = self.innermost() {
+            self.share_text(alloc, at)?;
+        }
+        self.end();
+        Ok(())
+    }
+
     // Whether the innermost open element has this name.
     #[tactic(auto, unfolding(crate::specs::Tree::closes))]
     fn closes(&self, name: &str) -> bool
@@ -288,7 +323,7 @@ impl Tree {
                 if !self.closes(name) {
                     return Ok(false);
                 }
-                self.end();
+                self.close(alloc)?;
                 Ok(true)
             }
         }

@@ -21,7 +21,7 @@ use managed_deps::managed;
 use mediation::MediationFault;
 use mvn_base::Gav;
 use names::are_named;
-use resolution::mediate;
+use resolution::{KeptRows, mediate};
 use std::collections::HashSet;
 
 fn scope_name(scope: Scope) -> &'static str {
@@ -121,8 +121,15 @@ fn print_fault(rt: &HostRuntime, fault: &MediationFault) -> anyhow::Result<()> {
 
 fn print_read(rt: &HostRuntime, read: &mut Read) -> anyhow::Result<()> {
     let alloc = rt.alloc();
+    let mut rows = KeptRows::new(alloc);
     match managed(alloc, read.managed.as_slice(), &[]) {
-        Ok(set) => match mediate(alloc, read.direct.as_slice(), &set, &mut read.libraries) {
+        Ok(set) => match mediate(
+            alloc,
+            read.direct.as_slice(),
+            &set,
+            &mut read.libraries,
+            &mut rows,
+        ) {
             Ok(resolution) => print_resolved(rt, &resolution),
             Err(fault) => print_fault(rt, &fault),
         },

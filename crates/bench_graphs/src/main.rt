@@ -17,11 +17,12 @@ mod names;
 use classpaths::{Kind, Note, Resolution, Resolved};
 use collector::Scope;
 use lines::Read;
-use managed_deps::managed;
+use managed_deps::{ManagedSet, managed};
 use mediation::MediationFault;
 use mvn_base::Gav;
 use names::are_named;
-use resolution::mediate;
+use resolution::{KeptRows, mediate};
+use std::alloc::Global;
 use std::collections::HashSet;
 
 fn scope_name(scope: Scope) -> &'static str {
@@ -119,10 +120,21 @@ fn print_fault(rt: &HostRuntime, fault: &MediationFault) -> anyhow::Result<()> {
     Ok(())
 }
 
+// What a project comes to, with what it manages.
+fn mediated(
+    alloc: Global,
+    read: &mut Read,
+    set: &ManagedSet,
+) -> Result<Resolution, MediationFault> {
+    let mut rows = KeptRows::new(alloc);
+    let direct = read.direct.as_slice();
+    mediate(alloc, direct, set, &mut read.libraries, &mut rows)
+}
+
 fn print_read(rt: &HostRuntime, read: &mut Read) -> anyhow::Result<()> {
     let alloc = rt.alloc();
     match managed(alloc, read.managed.as_slice(), &[]) {
-        Ok(set) => match mediate(alloc, read.direct.as_slice(), &set, &mut read.libraries) {
+        Ok(set) => match mediated(alloc, read, &set) {
             Ok(resolution) => print_resolved(rt, &resolution),
             Err(fault) => print_fault(rt, &fault),
         },

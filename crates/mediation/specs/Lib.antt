@@ -4,3 +4,4 @@ pub mod Rows
 pub mod Found
 pub mod Counting
 pub mod Telling
+pub mod Jars

@@ -4,6 +4,7 @@
 #![tactic(auto)]
 
 mod fault;
+mod jars;
 mod known;
 mod law;
 mod levels;

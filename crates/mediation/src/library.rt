@@ -2,20 +2,24 @@ ghost use Rattle.std.specs.Prelude.{◌≡◌, [], is_some, IfOk};
 ghost use Rattle.std.specs.List.{list_any};
 ghost use Rattle.managed_deps.specs.Managed.{find_pair};
 ghost use Rattle.collector.specs.Edges.{transitive_edges};
+ghost use Rattle.mediation.specs.Jars.{jar_row};
 
-use collector::{Edge, edges};
+use crate::jars::{Jars, jar_with, jars_of};
+use classpaths::Resolved;
+use collector::{Edge, Scope, edges};
 use managed_deps::{ManagedSet, managed};
 use model_types::Exclusion;
 use mvn_shared::{List, Mem, Shared};
 use std::alloc::Global;
 use std::marker::Model;
 
-/// A POM's effective model, with what its dependencies lead to where nothing is managed and nothing is left out, which is
-/// found once. Contracts see it as the model.
+/// A POM's effective model, with what is found once of it: what its dependencies lead to where nothing is managed and nothing is
+/// left out, and what its own jar comes to. Contracts see it as the model.
 #[derive(Drop)]
 pub struct Library {
     model: Shared<model_types::Model>,
     edges: Shared<List<Edge>>,
+    jars: Shared<Jars>,
 }
 
 impl Model for Library {
@@ -24,6 +28,7 @@ impl Model for Library {
     ghost use Rattle.mvn_base.specs.contracts.setting.Setting as settings;
     ghost use Rattle.model_types.specs.declared.model.Model as models;
     ghost use Rattle.collector.specs.Edges.{transitive_edges};
+    ghost use Rattle.mediation.specs.Jars.{AreJars};
 
     ghost Value = { models.Model };
 
@@ -31,8 +36,9 @@ impl Model for Library {
 
     ghost view = { λ library. library.model };
 
-    ghost invariant = { λ library. library.edges
-        ≡ transitive_edges library.model.base.dependencies [] [] };
+    ghost invariant = { λ library.
+        (library.edges ≡ transitive_edges library.model.base.dependencies [] [])
+        × AreJars library.model.gav library.jars };
 }
 
 // What the dependencies of a POM lead to.
@@ -71,12 +77,13 @@ fn is_managed(managed: &ManagedSet, edges: &[Edge]) -> bool
 }
 
 impl Library {
-    /// A POM with its effective model. Costs its dependencies.
+    /// A POM with its effective model. Costs its dependencies and its coordinates.
     pub fn new(alloc: Global, model: Shared<model_types::Model>) -> Mem<Library>
         ensures { IfOk result (λ library. library ≡ model) }
     {
         let edges = plain_edges(alloc, &model)?;
-        Ok(Library { model, edges })
+        let jars = jars_of(alloc, model.gav.value())?;
+        Ok(Library { model, edges, jars })
     }
 
     /// The same, in constant time; nothing is copied.
@@ -85,7 +92,15 @@ impl Library {
     {
         let model = self.model.share()?;
         let edges = self.edges.share()?;
-        Ok(Library { model, edges })
+        let jars = self.jars.share()?;
+        Ok(Library { model, edges, jars })
+    }
+
+    /// What its own jar comes to where it has a scope. Constant time.
+    pub fn jar(&self, scope: Scope) -> &Shared<Resolved>
+        ensures { result.now ≡ jar_row self.now.gav scope }
+    {
+        jar_with(&self.jars, scope)
     }
 
     // What its dependencies lead to below a project that manages some, and below what is left out.

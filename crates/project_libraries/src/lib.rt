@@ -6,7 +6,6 @@ mod known;
 mod listing;
 mod memo;
 mod resolving;
-mod rows;
 mod run_lookup;
 mod versions;
 

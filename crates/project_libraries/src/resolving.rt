@@ -13,7 +13,6 @@ ghost use Rattle.project_libraries.specs.Known.{libraries_of};
 ghost use Rattle.project_libraries.specs.Resolving.{Resolves, ResolvesModule, managed_by, refused_at};
 
 use crate::memo::known_modules;
-use crate::rows::push_shared;
 use crate::run_lookup::{RunLookup, Whole};
 use classpaths::Resolution;
 use effective::RunStore;
@@ -25,9 +24,8 @@ use mvn_base::{Place, PomId, Refusal, Rule};
 use mvn_outside::{Remote, Shelf, Tree};
 use mvn_shared::{List, Shared, Text};
 use pom_source::{BuildFault, Given};
-use resolution::mediate;
+use resolution::{KeptRows, mediate};
 use std::alloc::Global;
-use std::collections::HashMap;
 
 // A module's refusal.
 fn refused(pom: &ProjectPom, rule: Rule, place: Text) -> Result<Resolution, BuildFault>
@@ -44,6 +42,7 @@ fn refused(pom: &ProjectPom, rule: Rule, place: Text) -> Result<Resolution, Buil
 fn mediated<L: Lookup>(
     alloc: Global,
     lookup: &mut L,
+    rows: &mut KeptRows,
     pom: &ProjectPom,
     model: &Model,
     set: &ManagedSet,
@@ -56,7 +55,7 @@ fn mediated<L: Lookup>(
     ensures alike { TellsOn L.tells_same lookup.old lookup.new }
     ensures cause { HasCause (L.faults lookup.old) (L.faults lookup.new) (build_failed result) }
 {
-    match mediate(alloc, model.base.dependencies.as_slice(), set, lookup) {
+    match mediate(alloc, model.base.dependencies.as_slice(), set, lookup, rows) {
         Ok(resolution) => Ok(resolution),
         Err(MediationFault::Refused { rule, place }) => refused(pom, rule, place),
         Err(MediationFault::Lookup) => Err(BuildFault::Source),
@@ -69,6 +68,7 @@ fn mediated<L: Lookup>(
 fn resolve_module<L: Lookup>(
     alloc: Global,
     lookup: &mut L,
+    rows: &mut KeptRows,
     pom: &ProjectPom,
     model: &Model,
 ) -> Result<Resolution, BuildFault>
@@ -80,7 +80,7 @@ fn resolve_module<L: Lookup>(
     ensures cause { HasCause (L.faults lookup.old) (L.faults lookup.new) (build_failed result) }
 {
     let set = managed(alloc, model.base.managed.as_slice(), &[])?;
-    mediated(alloc, lookup, pom, model, &set)
+    mediated(alloc, lookup, rows, pom, model, &set)
 }
 
 // What each module comes to.
@@ -99,12 +99,10 @@ fn resolve_each<L: Lookup>(
     ensures cause { HasCause (L.faults lookup.old) (L.faults lookup.new) (build_failed result) }
 {
     let mut list = List::new(alloc);
-    let mut rows = HashMap::new(alloc);
+    let mut rows = KeptRows::new(alloc);
     for at in 0..models.len() {
-        match resolve_module(alloc, lookup, &poms[at], models[at].value()) {
-            Ok(resolution) => {
-                push_shared(alloc, &mut rows, &mut list, resolution)?;
-            }
+        match resolve_module(alloc, lookup, &mut rows, &poms[at], models[at].value()) {
+            Ok(resolution) => list.push(resolution)?,
             Err(fault) => return Err(fault),
         }
     }

@@ -2,9 +2,11 @@
 //! refusal.
 #![tactic(auto)]
 
+mod kept;
 mod notes;
 mod resolved;
 mod resolving;
 mod tree;
 
+pub use kept::KeptRows;
 pub use resolving::mediate;

@@ -1,36 +1,41 @@
-ghost use Rattle.std.specs.Prelude.{◌≡◌, ◌++◌, ◌∷◌, [], flat_map, get_or, IfOk, OnOk};
+ghost use Rattle.std.specs.Prelude.{◌≡◌, ◌++◌, ◌∷◌, [], flat_map, get_or, IfOk, IfSome, OnOk};
 ghost use Rattle.collector.specs.declared.scope.Scope.TheVariants as scope;
 ghost use Rattle.resolution.specs.Resolved.{resolved, resolved_at};
 
-use crate::notes::{coordinate, is_there};
+use crate::kept::{KeptRows, is_row, shared_row};
 use classpaths::Resolved;
 use collector::Scope;
-use mediation::{Winner, Winners};
+use mediation::{Known, Winner, Winners};
 use mvn_shared::{List, Mem, Shared};
 use std::alloc::Global;
 
-// A winner with its scope.
-fn resolved(winner: &Winner, scope: Scope) -> Mem<Resolved>
-    ensures { IfOk result (λ made. made ≡ resolved winner.now scope) }
+// The jar of a winner's POM, where that is what the winner comes to.
+fn own_jar(winner: &Winner, scope: Scope) -> Mem<Option<Shared<Resolved>>>
+    ensures { IfOk result (λ found. IfSome found (λ row. row ≡ resolved winner.now scope)) }
 {
-    let gav = coordinate(winner)?;
-    let kind = winner.edge.key.kind.clone()?;
-    let classifier = winner.edge.key.classifier.clone()?;
-    Ok(Resolved {
-        gav,
-        kind,
-        classifier,
-        scope,
-        pom_found: is_there(&winner.known),
-    })
+    let Known::Model(library) = &winner.known else {
+        return Ok(None);
+    };
+    let row = library.jar(scope);
+    if !is_row(winner, scope, row) {
+        return Ok(None);
+    }
+    Ok(Some(row.share()?))
 }
 
-// The same, with any number of owners.
-fn shared(alloc: Global, winner: &Winner, scope: Scope) -> Mem<Shared<Resolved>>
-    ensures { IfOk result (λ made. made ≡ resolved winner.now scope) }
+// What a winner comes to, with its scope.
+fn resolved(
+    alloc: Global,
+    rows: &mut KeptRows,
+    winner: &Winner,
+    scope: Scope,
+) -> Mem<Shared<Resolved>>
+    ensures { IfOk result (λ row. row ≡ resolved winner.now scope) }
 {
-    let made = resolved(winner, scope)?;
-    Shared::new(alloc, made)
+    if let Some(row) = own_jar(winner, scope)? {
+        return Ok(row);
+    }
+    shared_row(alloc, rows, winner, scope)
 }
 
 // The scope at a place.
@@ -47,6 +52,7 @@ fn scope_at(scopes: &[Scope], place: usize) -> Scope
 fn add_resolved(
     alloc: Global,
     list: &mut List<Shared<Resolved>>,
+    rows: &mut KeptRows,
     winners: &Winners,
     scopes: &[Scope],
     place: usize,
@@ -54,7 +60,7 @@ fn add_resolved(
     ensures { OnOk result (list.new ≡ list.old ++ resolved_at winners.now scopes.now place) }
 {
     if let Some(winner) = winners.get(place) {
-        list.push(shared(alloc, winner, scope_at(scopes, place))?)?;
+        list.push(resolved(alloc, rows, winner, scope_at(scopes, place))?)?;
     }
     Ok(())
 }
@@ -69,6 +75,7 @@ fn with_room(alloc: Global, count: usize) -> Mem<List<Shared<Resolved>>>
 // The winners at places, in their order. They are kept to the end of the run, so the list has no more room than it needs.
 pub fn resolved_in(
     alloc: Global,
+    rows: &mut KeptRows,
     winners: &Winners,
     scopes: &List<Scope>,
     order: &List<usize>,
@@ -79,7 +86,7 @@ pub fn resolved_in(
     let places = order.as_slice();
     let mut list = with_room(alloc, places.len())?;
     for at in 0..places.len() {
-        add_resolved(alloc, &mut list, winners, scopes, places[at])?;
+        add_resolved(alloc, &mut list, rows, winners, scopes, places[at])?;
     }
     Ok(list)
 }

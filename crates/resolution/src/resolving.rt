@@ -12,6 +12,7 @@ ghost use Rattle.mvn_base.specs.declared.key.Key as names;
 ghost use Rattle.winner_scopes.specs.Links.{AreDeclared};
 ghost use Rattle.resolution.specs.Resolved.{IsMade, Mediates};
 
+use crate::kept::KeptRows;
 use crate::notes::notes_of;
 use crate::resolved::resolved_in;
 use crate::tree::order_of;
@@ -32,6 +33,7 @@ fn made(
     own: &[Edge],
     below: &[Shared<List<Edge>>],
     winners: &Winners,
+    rows: &mut KeptRows,
 ) -> Mem<Resolution>
     ensures { IfOk result (λ resolution.
         (managed : logic.List (names.Key × dependencies.Dependency))
@@ -42,7 +44,7 @@ fn made(
     let scopes = scopes_of(alloc, own, below, winners)?;
     let order = order_of(alloc, winners)?;
     let notes = notes_of(alloc, winners)?;
-    let list = resolved_in(alloc, winners, &scopes, &order)?;
+    let list = resolved_in(alloc, rows, winners, &scopes, &order)?;
     Ok(Resolution {
         winners: list,
         notes,
@@ -67,6 +69,7 @@ fn judged(
     own: &[Edge],
     below: &[Shared<List<Edge>>],
     winners: &Winners,
+    rows: &mut KeptRows,
 ) -> Result<Resolution, MediationFault>
     ensures resolves { (libraries : Libraries)
         (managed : logic.List (names.Key × dependencies.Dependency))
@@ -79,12 +82,16 @@ fn judged(
     let conflict = first_conflict(alloc, own, below, winners)?;
     match conflict {
         Some(winner) => refused(alloc, winner),
-        None => Ok(made(alloc, own, below, winners)?),
+        None => Ok(made(alloc, own, below, winners, rows)?),
     }
 }
 
 // What a dependency graph comes to, or the first conflict.
-fn resolved(alloc: Global, graph: &DependencyGraph) -> Result<Resolution, MediationFault>
+fn resolved(
+    alloc: Global,
+    graph: &DependencyGraph,
+    rows: &mut KeptRows,
+) -> Result<Resolution, MediationFault>
     ensures resolves { (libraries : Libraries)
         (managed : logic.List (names.Key × dependencies.Dependency))
         (direct : logic.List dependencies.Dependency)
@@ -98,19 +105,22 @@ fn resolved(alloc: Global, graph: &DependencyGraph) -> Result<Resolution, Mediat
         graph.own.as_slice(),
         graph.below.as_slice(),
         &graph.winners,
+        rows,
     )
 }
 
 /// What a project is built with: the winners of its dependency graph, each with its version, its scope and whether it has a POM,
 /// in the order of the dependency tree; and a note of each POM that is missing or refused, in the order in which they are met.
 /// Refused as `find_winners` refuses, and then by the first winner whose version a range of some declaration doesn't admit.
-/// `Lookup` comes only where the look-up failed. Costs what `find_winners` costs, and a look-up for each declaration.
+/// `Lookup` comes only where the look-up failed. What is the same in several projects of a run is held once, if `rows` are theirs; what
+/// is answered is the same by any `rows`. Costs what `find_winners` costs, and a look-up for each declaration and for each winner.
 /// Introduction to the Dependency Mechanism.
 pub fn mediate<L: Lookup>(
     alloc: Global,
     direct: &[Shared<Dependency>],
     managed: &ManagedSet,
     lookup: &mut L,
+    rows: &mut KeptRows,
 ) -> Result<Resolution, MediationFault>
     ensures resolves { (libraries : Libraries) → L.fits lookup.old libraries
         → Mediates libraries managed.now direct.now result }
@@ -120,7 +130,7 @@ pub fn mediate<L: Lookup>(
     ensures cause { HasCause (L.faults lookup.old) (L.faults lookup.new) (is_faulty result) }
 {
     match find_winners(alloc, direct, managed, lookup) {
-        Ok(graph) => resolved(alloc, &graph),
+        Ok(graph) => resolved(alloc, &graph, rows),
         Err(fault) => Err(fault),
     }
 }

@@ -13,13 +13,13 @@ loop-at-preserved g c =
     let here : slice_get c.args.models.now at ≡ Some m = slice_get_read c.args.models.now (length c.args.models.now) at m refl c.loop-at-test.true c.index-models-at.is in
     record {
       done = λ libraries fits.
-          subst (λ l. AreResolved libraries (take (at + 1) c.args.models.now) l) (sym c.in_ok-push_shared-in-Ok.ensures)
+          subst (λ l. AreResolved libraries (take (at + 1) c.args.models.now) l) (sym c.in_ok-push-in-Ok.ensures.ok)
           (resolved_more libraries c.args.models.now c.loop-at.list at m c.in-Ok.resolution (inv.done libraries fits) here
           (subst (λ o. ResolvesModule libraries c.index-poms-at.result o (Ok c.in-Ok.resolution)) c.value.ensures (c.in-Ok.ensures.resolves libraries (inv.fit libraries fits))));
       fit = λ libraries fits. c.in-Ok.ensures.same libraries (inv.fit libraries fits);
       alike = told_both inv.alike c.in-Ok.ensures.alike;
       long =
-          let is = ap length c.in_ok-push_shared-in-Ok.ensures in
+          let is = ap length c.in_ok-push-in-Ok.ensures.ok in
           let both = length-append c.loop-at.list (c.in-Ok.resolution ∷ []) in
           let before = inv.long in
           omega (arith, is, both, before);

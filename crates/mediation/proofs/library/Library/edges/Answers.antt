@@ -13,4 +13,4 @@ returns c =
     let cut : c.args.cut.now ≡ [] = search rules in
     subst (λ m. IfOk c.share.result (λ list. list ≡ transitive_edges m.base.dependencies c.args.managed.now c.args.cut.now)) c.self.view_is
     (subst (λ t. IfOk c.share.result (λ list. list ≡ t))
-    (all_plain c.args.managed.now c.self.inside.model.base.dependencies c.args.cut.now c.self.inside.edges c.self.invariant cut free) c.share.ensures)
+    (all_plain c.args.managed.now c.self.inside.model.base.dependencies c.args.cut.now c.self.inside.edges c.self.invariant.0 cut free) c.share.ensures)

@@ -9,7 +9,7 @@ use Rattle.mvn_base.specs.declared.key.Key.{Key}
 use Rattle.mediation.specs.declared.winner.Winner.{Winner}
 use Rattle.mediation.specs.Rows.{IsKept, key_of, place_of, row_of}
 
-abbrev seconds : List (Key × Winner) → List Winner
+abbrev pub seconds : List (Key × Winner) → List Winner
 seconds entries = map (λ e. e.1) entries
 
 found_keyed : (rows : List Winner) (key : Key) → lookup (same_key key) (keyed key_of rows) ≡ row_of rows key

@@ -9,3 +9,4 @@ pub mod Nearest
 pub mod Telling
 pub mod Prefixes
 pub mod Unmanaged
+pub mod Standing

@@ -24,6 +24,10 @@ row_of rows key = find (λ w. same_key key w.edge.key) rows
 abbrev pub place_of : List Winner → Key → Option ℕ
 place_of rows key = position (λ w. same_key key w.edge.key) rows
 
+-- a list has the place of the winner of each edge of another, in their order
+abbrev pub ArePlaced : List Winner → List Edge → List ℕ → Type 0
+ArePlaced rows edges places = map (λ e. place_of rows e.key) edges ≡ map Some places
+
 -- the path above an edge: of the project itself, or of the winner at a place. Where there is none, the edge stands below
 -- itself, and so has a path that no winner has
 abbrev pub path_above : List Path → Edge → Option ℕ → Path

@@ -1,14 +1,15 @@
-ghost use Rattle.std.specs.Prelude.{◌≡◌, ◌<◌, ◌≤◌, ◌∷◌, ◌++◌, [], None, Some, drop, take, length, map, flat_map, slice_get, Ok, All, IfOk, OnOk};
+ghost use Rattle.std.specs.Prelude.{◌≡◌, ◌*◌, ◌<◌, ◌≤◌, ◌∷◌, ◌++◌, [], None, Some, drop, take, length, map, flat_map, slice_get, Ok, All, nat_lt, IfOk, OnOk, if◌then◌else◌};
 ghost use Rattle.std.specs.Prelude as logic;
 ghost use Rattle.std.specs.Option.{option_to_list};
 ghost use Rattle.mvn_shared.specs.Cause.{HasCause};
 ghost use Rattle.model_types.specs.declared.dependency.Dependency as dependencies;
 ghost use Rattle.mediation.specs.Faults.{Says, is_faulty};
 ghost use Rattle.collector.specs.Edges.{direct_edges, transitive_edges};
+ghost use Rattle.collector.specs.declared.edge.Edge as edge_rows;
 ghost use Rattle.mediation.specs.declared.winner.Winner as rows;
 ghost use Rattle.mediation.specs.Telling.{TellsOn};
 ghost use Rattle.mediation.specs.Libraries.{Libraries, declarations, gav_of, graph_of};
-ghost use Rattle.mediation.specs.Rows.{Adds, IsPicked, IsPrefix, Leads, edges_below, paths_of, row_of, won_by};
+ghost use Rattle.mediation.specs.Rows.{Adds, ArePlaced, IsPicked, IsPrefix, Leads, edges_below, paths_of, place_of, row_of, won_by};
 ghost use Rattle.mediation.specs.Found.{ResolvesGraph};
 ghost use Rattle.winner_law.specs.Winners.{Path, longer};
 
@@ -50,12 +51,13 @@ fn push_winner(
 ) -> Mem<()>
     requires new { row_of winners.old edge.now.key ≡ None }
     requires room { length winners.old < 16384 }
-    ensures { OnOk result (winners.new ≡ winners.old ++ record {
+    ensures more { OnOk result (winners.new ≡ winners.old ++ record {
       edge = edge.now;
       version = version;
       above = above;
       known = known;
     } ∷ []) }
+    ensures placed { OnOk result (place_of winners.new edge.now.key ≡ Some (length winners.old)) }
 {
     let edge = copied(edge)?;
     winners.push(Winner {
@@ -80,6 +82,7 @@ fn add_winner<L: Lookup>(
     ensures adds { (libraries : Libraries) → L.fits lookup.old libraries
         → OnOk result (winners.new ≡ winners.old ++ won_by libraries edge.now above version ∷ []) }
     ensures keeps { OnOk result (IsPrefix winners.old winners.new) }
+    ensures placed { OnOk result (place_of winners.new edge.now.key ≡ Some (length winners.old)) }
     ensures says { (libraries : Libraries) → L.fits lookup.old libraries → Says (Ok tt) result }
     ensures same { (libraries : Libraries) → L.fits lookup.old libraries
         → L.fits lookup.new libraries }
@@ -95,39 +98,68 @@ fn add_winner<L: Lookup>(
     }
 }
 
-// One declaration, which wins where its key has no winner yet.
+// One declaration of a key that has no winner, which wins.
 #[tactic(auto, using(crate::proofs::Telling::untold, crate::proofs::Telling::told_both, crate::proofs::Prefixes::whole))]
-fn decide<L: Lookup>(
+fn add_new<L: Lookup>(
     alloc: Global,
     lookup: &mut L,
     winners: &mut Winners,
     edge: &Edge,
     above: Option<usize>,
 ) -> Result<(), MediationFault>
+    requires new { row_of winners.old edge.now.key ≡ None }
     ensures adds { (libraries : Libraries) (front : Path) → L.fits lookup.old libraries
         → Leads (paths_of winners.old) above front
         → Adds libraries winners.old winners.new ((edge.now ∷ front) ∷ []) result }
     ensures keeps { OnOk result (IsPrefix winners.old winners.new) }
+    ensures placed { OnOk result (place_of winners.new edge.now.key ≡ Some (length winners.old)) }
     ensures same { (libraries : Libraries) → L.fits lookup.old libraries
         → L.fits lookup.new libraries }
     ensures alike { TellsOn L.tells_same lookup.old lookup.new }
     ensures cause { HasCause (L.faults lookup.old) (L.faults lookup.new) (is_faulty result) }
 {
-    if winners.has(&edge.key) {
-        return Ok(());
-    }
     match chosen(alloc, lookup, winners.len(), edge) {
         Ok(version) => add_winner(lookup, winners, edge, version, above),
         Err(fault) => Err(fault),
     }
 }
 
-// The declarations of one end.
+// The place of the winner of a declaration's key; the declaration wins where there is none yet.
+#[tactic(auto, using(crate::proofs::Telling::untold, crate::proofs::Prefixes::whole))]
+fn decide<L: Lookup>(
+    alloc: Global,
+    lookup: &mut L,
+    winners: &mut Winners,
+    edge: &Edge,
+    above: Option<usize>,
+) -> Result<usize, MediationFault>
+    ensures adds { (libraries : Libraries) (front : Path) → L.fits lookup.old libraries
+        → Leads (paths_of winners.old) above front
+        → Adds libraries winners.old winners.new ((edge.now ∷ front) ∷ []) result }
+    ensures keeps { OnOk result (IsPrefix winners.old winners.new) }
+    ensures placed { IfOk result (λ place. place_of winners.new edge.now.key ≡ Some place) }
+    ensures same { (libraries : Libraries) → L.fits lookup.old libraries
+        → L.fits lookup.new libraries }
+    ensures alike { TellsOn L.tells_same lookup.old lookup.new }
+    ensures cause { HasCause (L.faults lookup.old) (L.faults lookup.new) (is_faulty result) }
+{
+    if let Some(place) = winners.place(&edge.key) {
+        return Ok(place);
+    }
+    let place = winners.len();
+    match add_new(alloc, lookup, winners, edge, above) {
+        Ok(()) => Ok(place),
+        Err(fault) => Err(fault),
+    }
+}
+
+// The declarations of one end, each with the place of its winner.
 #[tactic(auto, using(crate::proofs::Telling::untold, crate::proofs::Telling::told_both))]
 fn add_edges<L: Lookup>(
     alloc: Global,
     lookup: &mut L,
     winners: &mut Winners,
+    places: &mut List<usize>,
     edges: &[Edge],
     above: Option<usize>,
 ) -> Result<(), MediationFault>
@@ -135,16 +167,19 @@ fn add_edges<L: Lookup>(
         → Leads (paths_of winners.old) above front
         → Adds libraries winners.old winners.new (map (λ e. e ∷ front) edges.now) result }
     ensures keeps { OnOk result (IsPrefix winners.old winners.new) }
+    ensures placed { (done : logic.List edge_rows.Edge) → ArePlaced winners.old done places.old
+        → OnOk result (ArePlaced winners.new (done ++ edges.now) places.new) }
     ensures same { (libraries : Libraries) → L.fits lookup.old libraries
         → L.fits lookup.new libraries }
     ensures alike { TellsOn L.tells_same lookup.old lookup.new }
     ensures cause { HasCause (L.faults lookup.old) (L.faults lookup.new) (is_faulty result) }
 {
     for edge in edges {
-        match decide(alloc, lookup, winners, edge, above) {
-            Ok(()) => {}
+        let place = match decide(alloc, lookup, winners, edge, above) {
+            Ok(place) => place,
             Err(fault) => return Err(fault),
-        }
+        };
+        places.push(place)?;
     }
     Ok(())
 }
@@ -209,12 +244,13 @@ fn edges_below(alloc: Global, managed: &ManagedSet, winner: &Winner) -> Mem<Shar
 }
 
 // The paths one edge longer than a winner's, and what its POM leads to.
-#[tactic(auto, using(crate::proofs::Telling::untold, crate::proofs::Prefixes::whole))]
+#[tactic(auto, using(crate::proofs::Telling::untold, crate::proofs::Prefixes::whole, crate::proofs::Standing::none_placed))]
 fn expand<L: Lookup>(
     alloc: Global,
     lookup: &mut L,
     managed: &ManagedSet,
     winners: &mut Winners,
+    places: &mut List<usize>,
     place: usize,
 ) -> Result<Shared<List<Edge>>, MediationFault>
     ensures adds { (libraries : Libraries) (direct : logic.List dependencies.Dependency)
@@ -224,6 +260,8 @@ fn expand<L: Lookup>(
         (flat_map (longer (graph_of libraries managed.now direct))
         (option_to_list (slice_get (paths_of winners.old) place))) result }
     ensures keeps { OnOk result (IsPrefix winners.old winners.new) }
+    ensures placed { (done : logic.List edge_rows.Edge) → ArePlaced winners.old done places.old
+        → IfOk result (λ edges. ArePlaced winners.new (done ++ edges) places.new) }
     ensures below { (winner : rows.Winner) → slice_get winners.old place ≡ Some winner
         → IfOk result (λ edges. edges ≡ edges_below managed.now winner) }
     ensures same { (libraries : Libraries) → L.fits lookup.old libraries
@@ -236,7 +274,7 @@ fn expand<L: Lookup>(
     };
     let edges = edges_below(alloc, managed, winner)?;
     let list = edges.as_slice();
-    match add_edges(alloc, lookup, winners, list, Some(place)) {
+    match add_edges(alloc, lookup, winners, places, list, Some(place)) {
         Ok(()) => Ok(edges),
         Err(fault) => Err(fault),
     }
@@ -249,6 +287,7 @@ fn add_level<L: Lookup>(
     lookup: &mut L,
     managed: &ManagedSet,
     winners: &mut Winners,
+    places: &mut List<usize>,
     below: &mut List<Shared<List<Edge>>>,
     from: usize,
     to: usize,
@@ -263,19 +302,41 @@ fn add_level<L: Lookup>(
         (drop from (paths_of winners.old))) result }
     ensures below { below.old ≡ map (edges_below managed.now) (take from winners.old)
         → OnOk result (below.new ≡ map (edges_below managed.now) (take to winners.new)) }
+    ensures placed { (done : logic.List edge_rows.Edge)
+        → ArePlaced winners.old (done ++ flat_map (λ edges. edges) below.old) places.old
+        → OnOk result (ArePlaced winners.new
+        (done ++ flat_map (λ edges. edges) below.new) places.new) }
     ensures same { (libraries : Libraries) → L.fits lookup.old libraries
         → L.fits lookup.new libraries }
     ensures alike { TellsOn L.tells_same lookup.old lookup.new }
     ensures cause { HasCause (L.faults lookup.old) (L.faults lookup.new) (is_faulty result) }
 {
     for place in from..to {
-        let edges = match expand(alloc, lookup, managed, winners, place) {
+        let edges = match expand(alloc, lookup, managed, winners, places, place) {
             Ok(edges) => edges,
             Err(fault) => return Err(fault),
         };
         below.push(edges)?;
     }
     Ok(())
+}
+
+// The room to begin with for the winners of a project, by the number of its declarations: a guess, and no more than there may be.
+fn room_for(declared: usize) -> usize
+    ensures { result ≡ (if nat_lt declared 1024 then 16 * declared else 16384) }
+{
+    if declared < 1024 {
+        16 * declared
+    } else {
+        16_384
+    }
+}
+
+// No list yet, with room for a number.
+fn with_room(alloc: Global, room: usize) -> Mem<List<Shared<List<Edge>>>>
+    ensures { IfOk result (λ list. list ≡ []) }
+{
+    Ok(List::of(Vec::with_capacity(alloc, room)?))
 }
 
 /// The winners of a project's dependency graph, and what is declared in it.
@@ -286,6 +347,8 @@ pub struct DependencyGraph {
     pub own: List<Edge>,
     /// What the POM of each winner declares, in the order of the winners.
     pub below: List<Shared<List<Edge>>>,
+    /// The place of the winner of each declaration: of the project's, and then of each winner's POM's.
+    pub places: List<usize>,
 }
 
 /// The winners of a project: of each key the nearest declaration, and of those the first. A project's own declaration so
@@ -294,8 +357,9 @@ pub struct DependencyGraph {
 /// is no room: where a range admits no available version, where what is required of the version is no requirement, where
 /// more than 4,096 versions are available, and at the 16,385th winner, whose versions aren't looked up. `Lookup` comes
 /// only where the look-up failed. Costs a look-up for each winner, and the texts of each declaration on the average; for
-/// each winner with a range one look-up more, and each available version is parsed once. Introduction to the Dependency
-/// Mechanism, "Dependency mediation".
+/// each winner with a range one look-up more, and each available version is parsed once. Begins with room for 16 times as
+/// many winners as the project has declarations, at most for 16,384. Introduction to the Dependency Mechanism,
+/// "Dependency mediation".
 #[tactic(auto, using(crate::proofs::Telling::untold, crate::proofs::Telling::told_both))]
 pub fn find_winners<L: Lookup>(
     alloc: Global,
@@ -308,23 +372,36 @@ pub fn find_winners<L: Lookup>(
     ensures declared { IfOk result (λ graph. graph.own ≡ direct_edges direct.now) }
     ensures below { IfOk result (λ graph. graph.below
         ≡ map (edges_below managed.now) graph.winners) }
+    ensures placed { IfOk result (λ graph. ArePlaced graph.winners
+        (graph.own ++ flat_map (λ edges. edges) graph.below) graph.places) }
     ensures same { (libraries : Libraries) → L.fits lookup.old libraries
         → L.fits lookup.new libraries }
     ensures alike { TellsOn L.tells_same lookup.old lookup.new }
     ensures cause { HasCause (L.faults lookup.old) (L.faults lookup.new) (is_faulty result) }
 {
-    let mut winners = Winners::new(alloc);
-    let mut below = List::new(alloc);
+    let room = room_for(direct.len());
+    let mut winners = Winners::new(alloc, room)?;
+    let mut below = with_room(alloc, room)?;
+    let mut places = List::new(alloc);
     let own = direct_edges(alloc, direct)?;
     let declared = own.as_slice();
-    match add_edges(alloc, lookup, &mut winners, declared, None) {
+    match add_edges(alloc, lookup, &mut winners, &mut places, declared, None) {
         Ok(()) => {}
         Err(fault) => return Err(fault),
     }
     let mut from = 0;
     while from < winners.len() {
         let to = winners.len();
-        match add_level(alloc, lookup, managed, &mut winners, &mut below, from, to) {
+        match add_level(
+            alloc,
+            lookup,
+            managed,
+            &mut winners,
+            &mut places,
+            &mut below,
+            from,
+            to,
+        ) {
             Ok(()) => {}
             Err(fault) => return Err(fault),
         }
@@ -334,5 +411,6 @@ pub fn find_winners<L: Lookup>(
         winners,
         own,
         below,
+        places,
     })
 }

@@ -1,4 +1,4 @@
-ghost use Rattle.std.specs.Prelude.{◌≡◌, ◌<◌, ◌≤◌, [], ◌∷◌, ◌++◌, None, length, is_some, slice_get, IfSome, OnOk};
+ghost use Rattle.std.specs.Prelude.{◌≡◌, ◌<◌, ◌≤◌, [], ◌∷◌, ◌++◌, None, Some, length, slice_get, IfOk, IfSome, OnOk};
 ghost use Rattle.std.specs.Option.{option_copied};
 ghost use Rattle.mediation.specs.Rows.{place_of, row_of};
 
@@ -47,27 +47,20 @@ impl Model for Winners {
 }
 
 impl Winners {
-    // No winner yet.
-    pub(crate) fn new(alloc: Global) -> Winners
-        ensures { result ≡ [] }
+    // No winner yet, with room for a number.
+    pub(crate) fn new(alloc: Global, room: usize) -> Mem<Winners>
+        ensures { IfOk result (λ winners. winners ≡ []) }
     {
-        Winners {
-            index: IndexMap::new(alloc),
-        }
-    }
-
-    // Whether a key has its winner.
-    pub(crate) fn has(&self, key: &Key) -> bool
-        ensures { result ≡ is_some (row_of self.now key.now) }
-    {
-        self.index.contains_key(key)
+        let index = IndexMap::with_capacity(alloc, room)?;
+        Ok(Winners { index })
     }
 
     // One winner more, of a key that has none.
     pub(crate) fn push(&mut self, winner: Winner) -> Mem<()>
         requires new { row_of self.old winner.edge.key ≡ None }
         requires room { length self.old < 16384 }
-        ensures { OnOk result (self.new ≡ self.old ++ winner ∷ []) }
+        ensures more { OnOk result (self.new ≡ self.old ++ winner ∷ []) }
+        ensures placed { OnOk result (place_of self.new winner.edge.key ≡ Some (length self.old)) }
     {
         let key = winner.edge.key.clone()?;
         self.index.insert(key, winner)?;

@@ -19,9 +19,9 @@ use Rattle.winner_scopes.specs.Links.{AreDeclared}
 use Rattle.resolution.specs.Resolved.{IsMade, Mediates, reason_of}
 
 -- the first conflict among what is declared
-declared_conflict : (managed : List (Key × Dependency)) (direct : List Dependency) (rows : List Winner) (own : List Edge) (below : List (List Edge)) → AreDeclared managed direct rows own below
+declared_conflict : (managed : List (Key × Dependency)) (direct : List Dependency) (rows : List Winner) (own : List Edge) (below : List (List Edge)) (places : List ℕ) → AreDeclared managed direct rows own below places
     → conflict_among rows (own ++ flat_map (λ edges. edges) below) ≡ first_conflict managed direct rows
-declared_conflict managed direct rows own below declared =
+declared_conflict managed direct rows own below places declared =
     ap (λ own. conflict_among rows (own ++ flat_map (λ edges. edges) below)) declared.own_is
     ∙ ap (λ below. conflict_among rows (direct_edges direct ++ flat_map (λ edges. edges) below)) declared.below_is
     ∙ ap (λ edges. conflict_among rows (direct_edges direct ++ edges)) (flat_map-map (λ edges. edges) (edges_below managed) rows)
@@ -41,13 +41,13 @@ module _ (libraries : Libraries) (managed : List (Key × Dependency)) (direct : 
       → first_conflict managed direct rows ≡ None → IsMade managed direct rows resolution → Mediates libraries managed direct (Ok resolution)
   made_told rows resolution whole free made = record { rows = rows; whole = whole; free = free; made = made }
 
-  pub judged_conflict : (rows : List Winner) (own : List Edge) (below : List (List Edge)) (w : Winner) (result : Result Resolution MediationFault) → AreDeclared managed direct rows own below → IsWhole libraries (graph_of libraries managed direct) rows
+  pub judged_conflict : (rows : List Winner) (own : List Edge) (below : List (List Edge)) (places : List ℕ) (w : Winner) (result : Result Resolution MediationFault) → AreDeclared managed direct rows own below places → IsWhole libraries (graph_of libraries managed direct) rows
       → conflict_among rows (own ++ flat_map (λ edges. edges) below) ≡ Some w → Says {T = Resolution} (Err (RangeConflict, key_text w.edge.key)) result → Mediates libraries managed direct result
-  judged_conflict rows own below w result declared whole is says = conflict_told rows w result whole (sym (declared_conflict managed direct rows own below declared) ∙ is) says
+  judged_conflict rows own below places w result declared whole is says = conflict_told rows w result whole (sym (declared_conflict managed direct rows own below places declared) ∙ is) says
 
-  pub judged_made : (rows : List Winner) (own : List Edge) (below : List (List Edge)) (resolution : Resolution) → AreDeclared managed direct rows own below → IsWhole libraries (graph_of libraries managed direct) rows
+  pub judged_made : (rows : List Winner) (own : List Edge) (below : List (List Edge)) (places : List ℕ) (resolution : Resolution) → AreDeclared managed direct rows own below places → IsWhole libraries (graph_of libraries managed direct) rows
       → conflict_among rows (own ++ flat_map (λ edges. edges) below) ≡ None → IsMade managed direct rows resolution → Mediates libraries managed direct (Ok resolution)
-  judged_made rows own below resolution declared whole free made = made_told rows resolution whole (sym (declared_conflict managed direct rows own below declared) ∙ free) made
+  judged_made rows own below places resolution declared whole free made = made_told rows resolution whole (sym (declared_conflict managed direct rows own below places declared) ∙ free) made
 
   pub refused_told : (fault : MediationFault) → Resolves libraries (graph_of libraries managed direct) (Err fault) → Mediates libraries managed direct (Err fault)
   refused_told (Refused rule place) is = inl is

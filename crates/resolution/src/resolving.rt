@@ -32,16 +32,17 @@ fn made(
     alloc: Global,
     own: &[Edge],
     below: &[Shared<List<Edge>>],
+    places: &[usize],
     winners: &Winners,
     rows: &mut KeptRows,
 ) -> Mem<Resolution>
     ensures { IfOk result (λ resolution.
         (managed : logic.List (names.Key × dependencies.Dependency))
         (direct : logic.List dependencies.Dependency)
-        → AreDeclared managed direct winners.now own.now below.now
+        → AreDeclared managed direct winners.now own.now below.now places.now
         → IsMade managed direct winners.now resolution) }
 {
-    let scopes = scopes_of(alloc, own, below, winners)?;
+    let scopes = scopes_of(alloc, own, below, places, winners)?;
     let order = order_of(alloc, winners)?;
     let notes = notes_of(alloc, winners)?;
     let list = resolved_in(alloc, rows, winners, &scopes, &order)?;
@@ -68,13 +69,14 @@ fn judged(
     alloc: Global,
     own: &[Edge],
     below: &[Shared<List<Edge>>],
+    places: &[usize],
     winners: &Winners,
     rows: &mut KeptRows,
 ) -> Result<Resolution, MediationFault>
     ensures resolves { (libraries : Libraries)
         (managed : logic.List (names.Key × dependencies.Dependency))
         (direct : logic.List dependencies.Dependency)
-        → AreDeclared managed direct winners.now own.now below.now
+        → AreDeclared managed direct winners.now own.now below.now places.now
         → IsWhole libraries (graph_of libraries managed direct) winners.now
         → Mediates libraries managed direct result }
     ensures blameless { is_faulty result ≡ false }
@@ -82,7 +84,7 @@ fn judged(
     let conflict = first_conflict(alloc, own, below, winners)?;
     match conflict {
         Some(winner) => refused(alloc, winner),
-        None => Ok(made(alloc, own, below, winners, rows)?),
+        None => Ok(made(alloc, own, below, places, winners, rows)?),
     }
 }
 
@@ -95,7 +97,7 @@ fn resolved(
     ensures resolves { (libraries : Libraries)
         (managed : logic.List (names.Key × dependencies.Dependency))
         (direct : logic.List dependencies.Dependency)
-        → AreDeclared managed direct graph.now.winners graph.now.own graph.now.below
+        → AreDeclared managed direct graph.now.winners graph.now.own graph.now.below graph.now.places
         → IsWhole libraries (graph_of libraries managed direct) graph.now.winners
         → Mediates libraries managed direct result }
     ensures blameless { is_faulty result ≡ false }
@@ -104,6 +106,7 @@ fn resolved(
         alloc,
         graph.own.as_slice(),
         graph.below.as_slice(),
+        graph.places.as_slice(),
         &graph.winners,
         rows,
     )

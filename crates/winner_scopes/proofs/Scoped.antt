@@ -1,5 +1,5 @@
 -- The scopes that are found are the winners' scopes.
-use Rattle.std.proofs.Common.{◌≡◌, ℕ, zero, suc, ◌+◌, ◌<◌, Bool, true, false, List, [], ◌∷◌, get_or, length, map, slice_get, Option, Some, None, is_none, unwrap_or, refl, sym, ap, subst, ◌∙◌, arith, if◌then◌else◌}
+use Rattle.std.proofs.Common.{◌≡◌, ℕ, zero, suc, ◌+◌, ◌<◌, Bool, true, false, List, [], ◌∷◌, ◌++◌, flat_map, get_or, length, map, slice_get, Option, Some, None, is_none, unwrap_or, refl, sym, ap, subst, ◌∙◌, arith, if◌then◌else◌}
 use Rattle.std.proofs.lemmas.Bool.{false≢true}
 use Rattle.std.proofs.lemmas.Option.{slice_get_within}
 use Rattle.mvn_base.specs.declared.key.Key.{Key}
@@ -8,8 +8,9 @@ use Rattle.collector.specs.declared.edge.Edge.{Edge}
 use Rattle.collector.specs.declared.scope.Scope.{Scope}
 use Rattle.collector.specs.declared.scope.Scope.TheVariants.{Test}
 use Rattle.dependency_scopes.specs.Walks as places
+use Rattle.dependency_scopes.specs.declared.link.Link.{Link}
 use Rattle.mediation.specs.Libraries.{Libraries, graph_of}
-use Rattle.mediation.specs.Rows.{IsWhole, edges_below, paths_of}
+use Rattle.mediation.specs.Rows.{ArePlaced, IsWhole, edges_below, paths_of}
 use Rattle.mediation.specs.declared.winner.Winner.{Winner}
 use Rattle.mediation.proofs.Paths.{length_paths}
 use Rattle.winner_law.specs.Winners.{Path}
@@ -48,11 +49,18 @@ mapped_twice g f [] = refl
 mapped_twice g f (w ∷ rows) = ap (λ l. g (f w) ∷ l) (mapped_twice g f rows)
 
 -- what is the widest of lists that hold what is declared is so of the declarations
-pub widest_declared : (managed : List (Key × Dependency)) (direct : List Dependency) (rows : List Winner) (own : List Edge) (below : List (List Edge)) (widest : List (Option Scope))
-    → AreDeclared managed direct rows own below → AreWidest (starts_of rows own) (map (links_of rows) below) widest → AreWidest (starts rows direct) (links managed rows) widest
-widest_declared managed direct rows own below widest declared found =
+pub widest_declared : (managed : List (Key × Dependency)) (direct : List Dependency) (rows : List Winner) (own : List Edge) (below : List (List Edge)) (places : List ℕ) (widest : List (Option Scope))
+    → AreDeclared managed direct rows own below places → (ArePlaced rows (own ++ flat_map (λ edges. edges) below) places → AreWidest (starts_of rows own) (map (links_of rows) below) widest) → AreWidest (starts rows direct) (links managed rows) widest
+widest_declared managed direct rows own below places widest declared given =
+    let found : AreWidest (starts_of rows own) (map (links_of rows) below) widest = given declared.placed in
     let links_are : map (links_of rows) below ≡ links managed rows = ap (map (links_of rows)) declared.below_is ∙ mapped_twice (links_of rows) (edges_below managed) rows in
     subst (λ l. AreWidest (starts rows direct) l widest) links_are (subst (λ own. AreWidest (starts_of rows own) (map (links_of rows) below) widest) declared.own_is found)
+
+-- what is the widest of lists of links is so of those that are found
+pub widest_found : (rows : List Winner) (own : List Edge) (below : List (List Edge)) (starts : List Link) (links : List (List Link)) (widest : List (Option Scope)) → starts ≡ starts_of rows own → links ≡ map (links_of rows) below
+    → AreWidest starts links widest → AreWidest (starts_of rows own) (map (links_of rows) below) widest
+widest_found rows own below starts links widest starts_are links_are found =
+    subst (λ l. AreWidest (starts_of rows own) l widest) links_are (subst (λ s. AreWidest s links widest) starts_are found)
 
 module _ (libraries : Libraries) (managed : List (Key × Dependency)) (direct : List Dependency) (rows : List Winner) (whole : IsWhole libraries (graph_of libraries managed direct) rows)
     (widest : List (Option Scope)) (found : (place : ℕ) → place < length (links managed rows) → places.IsWidest (starts rows direct) (links managed rows) place (get_or widest place None)) where

@@ -1,12 +1,12 @@
 -- What declarations lead to, by the places of winners.
-use Rattle.std.specs.Prelude.{◌≡◌, ◌<◌, ℕ, ◌+◌, Bool, true, false, List, [], ◌∷◌, flat_map, get_or, length, map, slice_get, Option, Some, None, is_none, unwrap_or, if◌then◌else◌}
+use Rattle.std.specs.Prelude.{◌≡◌, ◌<◌, ℕ, ◌+◌, Bool, true, false, List, [], ◌∷◌, ◌++◌, flat_map, get_or, length, map, slice_get, Option, Some, None, is_none, unwrap_or, if◌then◌else◌}
 use Rattle.collector.specs.Edges.{direct_edges}
 use Rattle.collector.specs.declared.edge.Edge.{Edge}
 use Rattle.collector.specs.declared.scope.Scope.{Scope}
 use Rattle.collector.specs.declared.scope.Scope.TheVariants.{Test}
 use Rattle.dependency_scopes.specs.Walks.{IsWidest}
 use Rattle.dependency_scopes.specs.declared.link.Link.{Link}
-use Rattle.mediation.specs.Rows.{edges_below, place_of}
+use Rattle.mediation.specs.Rows.{ArePlaced, edges_below, place_of}
 use Rattle.mediation.specs.declared.winner.Winner.{Winner}
 use Rattle.model_types.specs.declared.dependency.Dependency.{Dependency}
 use Rattle.mvn_base.specs.declared.key.Key.{Key}
@@ -53,10 +53,23 @@ links_below managed rows w = links_of rows (edges_below managed w)
 abbrev pub links : List (Key × Dependency) → List Winner → List (List Link)
 links managed rows = map (links_below managed rows) rows
 
--- lists hold what the project declares, and what the POM of each winner does
-pub record AreDeclared (managed : List (Key × Dependency)) (direct : List Dependency) (rows : List Winner) (own : List Edge) (below : List (List Edge)) : Type 0 where
+-- what an edge leads to by the place at which a list has that of its winner
+abbrev pub link_by : List ℕ → ℕ → Edge → List Link
+link_by places at e = link_at e (slice_get places at)
+
+abbrev pub link_below_by : List Winner → List ℕ → ℕ → Edge → List Link
+link_below_by rows places at e = link_below_at rows e (slice_get places at)
+
+-- a list begins with the place of the winner of each edge, in their order
+abbrev pub PlacesBegin : List Winner → List Edge → List ℕ → Type 0
+PlacesBegin rows edges places =
+    (k : ℕ) (e : Edge) → slice_get edges k ≡ Some e → slice_get places k ≡ place_of rows e.key
+
+-- lists hold what the project declares, what the POM of each winner does, and the place of the winner of each of those
+pub record AreDeclared (managed : List (Key × Dependency)) (direct : List Dependency) (rows : List Winner) (own : List Edge) (below : List (List Edge)) (places : List ℕ) : Type 0 where
   pub own_is : own ≡ direct_edges direct
   pub below_is : below ≡ map (edges_below managed) rows
+  pub placed : ArePlaced rows (own ++ flat_map (λ edges. edges) below) places
 
 -- each place of a list has the widest scope that walks bring to it
 abbrev pub AreWidest : List Link → List (List Link) → List (Option Scope) → Type 0

@@ -1,16 +1,16 @@
-ghost use Rattle.std.specs.Prelude.{◌≡◌, ◌++◌, ℕ, Some, get_or, length, map, slice_get, IfOk, OnOk};
+ghost use Rattle.std.specs.Prelude.{◌≡◌, ◌++◌, ℕ, Some, flat_map, get_or, length, map, slice_get, IfOk, OnOk};
 ghost use Rattle.std.specs.Prelude as logic;
 ghost use Rattle.std.specs.Option.{option_to_list};
 ghost use Rattle.collector.specs.declared.scope.Scope.TheVariants as scope;
 ghost use Rattle.mediation.specs.Libraries.{Libraries, graph_of};
-ghost use Rattle.mediation.specs.Rows.{IsWhole, paths_of};
+ghost use Rattle.mediation.specs.Rows.{ArePlaced, IsWhole, paths_of};
 ghost use Rattle.winner_law.specs.Winners.{Path};
 ghost use Rattle.model_types.specs.declared.dependency.Dependency as dependencies;
 ghost use Rattle.mvn_base.specs.declared.key.Key as names;
 ghost use Rattle.winner_scopes.specs.Links.{AreDeclared, AreWidest, links_of, scope_at, scopes_from, starts_of};
 ghost use Rattle.winner_scopes.specs.Scopes.{IsScope};
 
-use crate::links::{links, starts};
+use crate::links::{behind, links, starts};
 use collector::{Edge, Scope};
 use dependency_scopes::widest_scopes;
 use mediation::{Winner, Winners};
@@ -62,14 +62,20 @@ fn widest_of(
     alloc: Global,
     own: &[Edge],
     below: &[Shared<List<Edge>>],
+    places: &[usize],
     winners: &Winners,
 ) -> Mem<List<Option<Scope>>>
-    ensures { IfOk result (λ scopes. AreWidest (starts_of winners.now own.now)
-        (map (links_of winners.now) below.now) scopes) }
+    ensures { IfOk result (λ scopes.
+        ArePlaced winners.now (own.now ++ flat_map (λ edges. edges) below.now) places.now
+        → AreWidest (starts_of winners.now own.now) (map (links_of winners.now) below.now)
+        scopes) }
 {
-    let starts = starts(alloc, own, winners)?;
-    let links = links(alloc, below, winners)?;
-    let widest = widest_scopes(alloc, starts.as_slice(), links.as_slice())?;
+    let starts = starts(alloc, own, places)?;
+    let rest = behind(places, own.len());
+    let links = links(alloc, below, rest, winners)?;
+    let first = starts.as_slice();
+    let further = links.as_slice();
+    let widest = widest_scopes(alloc, first, further)?;
     Ok(widest)
 }
 
@@ -77,24 +83,25 @@ fn widest_of(
 /// widest that a walk brings it: a walk begins with a declaration of the project, goes on along any declaration of the winner
 /// that it comes to, also one that doesn't count, and comes to no second winner that the project declares; from the widest
 /// on the scopes are compile, runtime, provided and test. `own` is what the project declares, `below` what the POM of each
-/// winner does. Costs a look-up for each. Introduction to the Dependency Mechanism, "Dependency Scope".
+/// winner does, `places` has the place of the winner of each of those. Costs each of them. Introduction to the Dependency Mechanism, "Dependency Scope".
 pub fn scopes_of(
     alloc: Global,
     own: &[Edge],
     below: &[Shared<List<Edge>>],
+    places: &[usize],
     winners: &Winners,
 ) -> Mem<List<Scope>>
     ensures long { IfOk result (λ scopes. length scopes ≡ length winners.now) }
     ensures widest { IfOk result (λ scopes.
         (libraries : Libraries) (managed : logic.List (names.Key × dependencies.Dependency))
         (direct : logic.List dependencies.Dependency)
-        → AreDeclared managed direct winners.now own.now below.now
+        → AreDeclared managed direct winners.now own.now below.now places.now
         → IsWhole libraries (graph_of libraries managed direct) winners.now
         → (place : ℕ) (path : Path) → slice_get (paths_of winners.now) place ≡ Some path
         → IsScope (graph_of libraries managed direct) (paths_of winners.now) path
         (get_or scopes place scope.Test)) }
 {
-    let widest = widest_of(alloc, own, below, winners)?;
+    let widest = widest_of(alloc, own, below, places, winners)?;
     let scopes = scopes_among(alloc, widest.as_slice(), winners)?;
     Ok(scopes)
 }

@@ -1,4 +1,4 @@
-use Rattle.std.proofs.Common.{List, ◌<◌, ◌≤◌, [], length, slice_get, flat_map, Ok, Err, refl, arith, ◌∙◌}
+use Rattle.std.proofs.Common.{List, ◌++◌, ◌<◌, ◌≤◌, [], length, slice_get, flat_map, Ok, Err, refl, arith, ◌∙◌}
 use Rattle.collector.specs.declared.edge.Edge.{Edge}
 use Rattle.std.specs.Option.{option_to_list}
 use Rattle.mediation.specs.Libraries.{graph_of}
@@ -7,6 +7,7 @@ use Rattle.winner_law.specs.Winners.{longer}
 use Rattle.mediation.proofs.Growing.{fault_stays}
 use Rattle.mediation.proofs.Places.{level_done, level_step, level_stopped, stands_more}
 use Rattle.mediation.proofs.Prefixes.{level_below, next_below, onward, whole}
+use Rattle.mediation.proofs.Standing.{list_placed}
 use Rattle.mediation.proofs.Telling.{told_both}
 use Rattle.mediation.specs.Telling.TellsOn.{here}
 use Rattle.mediation.proofs.levels.add_level.Goals as goal
@@ -18,6 +19,7 @@ loop-place-init g c = record {
   before = λ libraries fits picks k p is. is;
   keeps = whole c.args.winners.now;
   below = λ so. so;
+  placed = λ done are. are;
   fit = λ libraries fits. fits;
   alike = here c.args.lookup.now;
   faults = refl;
@@ -51,6 +53,9 @@ loop-place-preserved g c =
       keeps = onward inv.keeps c.in-Ok.ensures.keeps;
       below = λ so. next_below c.args.managed.now c.args.winners.now c.loop-place.winners c.loop-place.place c.loop-place.below c.push.new.self c.in-Ok.edges low inv.keeps
           (λ w is. c.in-Ok.ensures.below w is) c.in_ok-push.ensures.ok (inv.below so);
+      placed = λ done are.
+          list_placed c.expand.new.winners done c.loop-place.below c.push.new.self c.in-Ok.edges c.expand.new.places c.in_ok-push.ensures.ok
+          (c.in-Ok.ensures.placed (done ++ flat_map (λ edges. edges) c.loop-place.below) (inv.placed done are));
       fit = λ libraries fits. c.in-Ok.ensures.same libraries (inv.fit libraries fits);
       alike = told_both inv.alike c.in-Ok.ensures.alike;
       faults = c.in-Ok.ensures.cause ∙ inv.faults;
@@ -66,3 +71,6 @@ pub returns-clause-below : goal.returns-clause-below
 returns-clause-below g c = λ so.
     let low : length c.args.winners.now ≤ c.loop-place.place = omega (arith, c.loop-place-test.false, c.requires.all) in
     level_below c.args.managed.now c.args.winners.now c.loop-place.winners c.loop-place.place c.args.to c.loop-place.below c.requires.all low c.loop-place.invariant.keeps (c.loop-place.invariant.below so)
+
+pub returns-clause-placed : goal.returns-clause-placed
+returns-clause-placed g c = λ done are. c.loop-place.invariant.placed done are

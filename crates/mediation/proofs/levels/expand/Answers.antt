@@ -1,7 +1,7 @@
-use Rattle.std.proofs.Common.{List, flat_map, slice_get, Ok, Err, ap, sym, ◌∙◌}
+use Rattle.std.proofs.Common.{List, ◌++◌, flat_map, slice_get, Ok, Err, ap, sym, subst, ◌∙◌}
 use Rattle.collector.specs.declared.edge.Edge.{Edge}
 use Rattle.std.specs.Option.{option_to_list}
-use Rattle.mediation.specs.Rows.{edges_below, paths_of}
+use Rattle.mediation.specs.Rows.{ArePlaced, edges_below, paths_of}
 use Rattle.winner_law.specs.Winners.{longer}
 use Rattle.mediation.proofs.Growing.{fault_stays}
 use Rattle.mediation.proofs.Prefixes.{none_some, same_winner}
@@ -31,3 +31,7 @@ returns-in-Ok-clause-below g c = λ w is. c.in_ok-edges.ensures ∙ ap (edges_be
 
 pub returns-in_default-clause-below : goal.returns-in_default-clause-below
 returns-in_default-clause-below g c = λ w is. absurd (none_some w (c.in_default.ensures ∙ is))
+
+pub returns-in-Ok-clause-placed : goal.returns-in-Ok-clause-placed
+returns-in-Ok-clause-placed g c = λ done are.
+    subst (λ l. ArePlaced c.add_edges.new.winners (done ++ l) c.add_edges.new.places) (c.as_slice-list.ensures ∙ c.deref.ensures) (c.in-Ok.ensures.placed done are)

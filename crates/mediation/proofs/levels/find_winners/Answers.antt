@@ -1,21 +1,27 @@
-use Rattle.std.proofs.Common.{◌≤◌, [], length, refl, sym, subst, arith, ◌∙◌}
+use Rattle.std.proofs.Common.{◌≤◌, ◌++◌, [], flat_map, length, refl, sym, subst, arith, ◌∙◌}
+use Rattle.collector.specs.Edges.{direct_edges}
 use Rattle.mediation.specs.Libraries.{graph_of}
+use Rattle.mediation.specs.Rows.{ArePlaced}
 use Rattle.mediation.proofs.Lengths.{IsUpTo, begun, ended, not_begun, not_turned, turned}
 use Rattle.mediation.proofs.Prefixes.{all_below}
+use Rattle.mediation.proofs.Standing.{own_placed}
 use Rattle.mediation.proofs.Telling.{told_both}
 use Rattle.mediation.proofs.levels.find_winners.Goals as goal
 
 pub returns-in-Err-clause-resolves : goal.returns-in-Err-clause-resolves
 returns-in-Err-clause-resolves g c = λ libraries fits.
-    not_begun libraries (graph_of libraries c.args.managed.now c.args.direct.now) c.new-winners.result c.add_edges.new.winners c.as_slice-declared.result.now c.in-Err.fault c.new-winners.ensures (c.as_slice-declared.ensures ∙ c.in_ok-own.ensures)
+    not_begun libraries (graph_of libraries c.args.managed.now c.args.direct.now) c.in_ok-winners.winners c.add_edges.new.winners c.as_slice-declared.result.now c.in-Err.fault c.in_ok-winners.ensures (c.as_slice-declared.ensures ∙ c.in_ok-own.ensures)
     (c.in-Err.ensures.adds libraries [] fits refl)
 
 pub loop-from-init : goal.loop-from-init
 loop-from-init g c = record {
   stand = λ libraries fits.
-      begun libraries (graph_of libraries c.args.managed.now c.args.direct.now) c.new-winners.result c.add_edges.new.winners c.as_slice-declared.result.now c.new-winners.ensures (c.as_slice-declared.ensures ∙ c.in_ok-own.ensures)
+      begun libraries (graph_of libraries c.args.managed.now c.args.direct.now) c.in_ok-winners.winners c.add_edges.new.winners c.as_slice-declared.result.now c.in_ok-winners.ensures (c.as_slice-declared.ensures ∙ c.in_ok-own.ensures)
       (c.in-Ok.ensures.adds libraries [] fits refl);
-  below = c.new-below.ensures;
+  below = c.in_ok-below.ensures;
+  placed =
+      own_placed c.in_ok-winners.winners c.add_edges.new.winners c.as_slice-declared.result.now (direct_edges c.args.direct.now) c.in_ok-below.below c.new-places.result c.add_edges.new.places
+      c.new-places.ensures c.in_ok-below.ensures (c.as_slice-declared.ensures ∙ c.in_ok-own.ensures) c.in-Ok.ensures.placed;
   fit = λ libraries fits. c.in-Ok.ensures.same libraries fits;
   alike = c.in-Ok.ensures.alike;
   faults = c.in-Ok.ensures.cause;
@@ -38,6 +44,7 @@ loop-from-preserved g c =
           (turned libraries (graph_of libraries c.args.managed.now c.args.direct.now) c.loop-from.winners c.add_level.new.winners c.loop-from.from stands
           (c.in-Ok-add_level.ensures.adds libraries c.args.direct.now (inv.fit libraries fits) stands.versions));
       below = c.in-Ok-add_level.ensures.below inv.below;
+      placed = c.in-Ok-add_level.ensures.placed (direct_edges c.args.direct.now) inv.placed;
       fit = λ libraries fits. c.in-Ok-add_level.ensures.same libraries (inv.fit libraries fits);
       alike = told_both inv.alike c.in-Ok-add_level.ensures.alike;
       faults = c.in-Ok-add_level.ensures.cause ∙ inv.faults;
@@ -52,3 +59,7 @@ pub returns-clause-below : goal.returns-clause-below
 returns-clause-below g c =
     let low : length c.loop-from.winners ≤ c.loop-from.from = omega (arith, c.loop-from-test.false, c.len.ensures.value) in
     all_below c.args.managed.now c.loop-from.winners c.loop-from.from c.loop-from.below low c.loop-from.invariant.below
+
+pub returns-clause-placed : goal.returns-clause-placed
+returns-clause-placed g c =
+    subst (λ l. ArePlaced c.loop-from.winners (l ++ flat_map (λ edges. edges) c.loop-from.below) c.loop-from.places) (sym c.in_ok-own.ensures) c.loop-from.invariant.placed

@@ -1,5 +1,6 @@
-use Rattle.std.proofs.Common.{◌≡◌, ◌-◌, map, take}
-use Rattle.mediation.specs.Rows.{edges_below}
+use Rattle.std.proofs.Common.{◌≡◌, ◌-◌, ◌++◌, flat_map, map, take}
+use Rattle.collector.specs.Edges.{direct_edges}
+use Rattle.mediation.specs.Rows.{ArePlaced, edges_below}
 use Rattle.mediation.specs.Libraries.{Libraries, graph_of}
 use Rattle.mediation.proofs.Lengths.{IsUpTo}
 use Rattle.mediation.specs.Telling.{TellsOn}
@@ -11,6 +12,7 @@ invariant-loop-from g l = record {
   stand : (libraries : Libraries) → g.L.Lookup.fits l.fn.lookup libraries
       → IsUpTo libraries (graph_of libraries l.managed l.direct) l.winners l.from;
   below : l.below ≡ map (edges_below l.managed) (take l.from l.winners);
+  placed : ArePlaced l.winners (direct_edges l.direct ++ flat_map (λ edges. edges) l.below) l.places;
   fit : (libraries : Libraries) → g.L.Lookup.fits l.fn.lookup libraries → g.L.Lookup.fits l.lookup libraries;
   alike : TellsOn g.L.Lookup.tells_same l.fn.lookup l.lookup;
   faults : g.L.Lookup.faults l.lookup ≡ g.L.Lookup.faults l.fn.lookup;

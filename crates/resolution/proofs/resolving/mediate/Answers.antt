@@ -5,7 +5,7 @@ use Rattle.resolution.proofs.resolving.mediate.Goals as goal
 
 pub returns-in-Ok-clause-resolves : goal.returns-in-Ok-clause-resolves
 returns-in-Ok-clause-resolves g c = λ libraries fits.
-    c.resolved.ensures.resolves libraries c.args.managed.now c.args.direct.now (record { own_is = c.in-Ok.ensures.declared; below_is = c.in-Ok.ensures.below }) (c.in-Ok.ensures.resolves libraries fits)
+    c.resolved.ensures.resolves libraries c.args.managed.now c.args.direct.now (record { own_is = c.in-Ok.ensures.declared; below_is = c.in-Ok.ensures.below; placed = c.in-Ok.ensures.placed }) (c.in-Ok.ensures.resolves libraries fits)
 
 pub returns-in-Ok-clause-cause : goal.returns-in-Ok-clause-cause
 returns-in-Ok-clause-cause g c =

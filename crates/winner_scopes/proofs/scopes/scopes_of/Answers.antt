@@ -10,5 +10,5 @@ returns-clause-long c = ap length c.in_ok-scopes.ensures ∙ scopes_long c.as_sl
 pub returns-clause-widest : goal.returns-clause-widest
 returns-clause-widest c = λ libraries managed direct declared whole.
     scoped libraries managed direct c.args.winners.now whole c.in_ok-widest.widest
-    (widest_declared managed direct c.args.winners.now c.args.own.now c.args.below.now c.in_ok-widest.widest declared c.in_ok-widest.ensures)
+    (widest_declared managed direct c.args.winners.now c.args.own.now c.args.below.now c.args.places.now c.in_ok-widest.widest declared c.in_ok-widest.ensures)
     c.in_ok-scopes.scopes (c.in_ok-scopes.ensures ∙ ap (λ w. scopes_from w 0 c.args.winners.now) c.as_slice.ensures) (links_long managed c.args.winners.now)

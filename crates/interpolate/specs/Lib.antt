@@ -2,3 +2,4 @@ pub mod Filling
 pub mod Named
 pub mod Tables
 pub mod Values
+pub mod Stands

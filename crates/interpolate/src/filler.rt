@@ -79,8 +79,9 @@ fn has_dollar(text: &[u8]) -> bool
     text.contains(&b'$')
 }
 
-// Whether a text stands as it is written: no expression begins in it, and it is no longer than a filled text may be.
-fn stands(text: &Text) -> bool
+/// Whether a text stands as it is written: no expression begins in it, and it is no longer than a filled text may be. Costs the
+/// text.
+pub(crate) fn stands(text: &Text) -> bool
     ensures { result ≡ stands text.now }
 {
     !has_dollar(text.as_bytes()) && text.len() <= LONGEST

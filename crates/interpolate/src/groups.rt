@@ -5,11 +5,17 @@ ghost use Rattle.interpolate.specs.Tables.{Gives, IsTable};
 
 use crate::fault::FillFault;
 use crate::filler::Filler;
-use crate::items::{Fill, fill_each, fill_texts, name_if, text_if};
+use crate::items::{Fill, Stand, fill_each, fill_texts, name_if, text_if};
 use model_types::{Build, BuildBase, Coordinates, Dependency, ModelBase, Outputs, Sources};
 use mvn_base::Pair;
 use mvn_shared::{List, Mem, Shared};
 use std::alloc::Global;
+
+impl Stand for Coordinates {
+    fn stands(&self) -> bool {
+        false
+    }
+}
 
 impl Fill for Coordinates {
     ghost filled = { fill_coordinates };
@@ -26,6 +32,12 @@ impl Fill for Coordinates {
             version,
             packaging,
         })
+    }
+}
+
+impl Stand for Outputs {
+    fn stands(&self) -> bool {
+        false
     }
 }
 
@@ -47,6 +59,12 @@ impl Fill for Outputs {
     }
 }
 
+impl Stand for Sources {
+    fn stands(&self) -> bool {
+        false
+    }
+}
+
 impl Fill for Sources {
     ghost filled = { fill_sources };
 
@@ -62,6 +80,12 @@ impl Fill for Sources {
             resources,
             test_resources,
         })
+    }
+}
+
+impl Stand for BuildBase {
+    fn stands(&self) -> bool {
+        false
     }
 }
 

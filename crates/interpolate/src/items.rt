@@ -1,11 +1,13 @@
-ghost use Rattle.std.specs.Prelude.{List as Items, []};
+ghost use Rattle.std.specs.Prelude.{◌≡◌, List as Items, []};
+ghost use Rattle.std.specs.List.{list_all};
 ghost use Rattle.mvn_base.specs.declared.machine.Pair as pairs;
 ghost use Rattle.interpolate.specs.Filling.{each, fill_dependency, fill_exclusion, fill_execution, fill_extension, fill_plugin, fill_property, fill_setting, if_there, name_of, text_of};
+ghost use Rattle.interpolate.specs.Stands.{dependency_stands, exclusion_stands, plugin_stands, stands_if};
 ghost use Rattle.interpolate.specs.Tables.{Gives, IsTable};
 ghost use Rattle.interpolate.specs.Values.{Filled};
 
 use crate::fault::FillFault;
-use crate::filler::Filler;
+use crate::filler::{Filler, stands};
 use crate::settings::fill_configuration;
 use model_types::{Dependency, Exclusion, Execution, Plugin};
 use mvn_base::{Gav, Pair};
@@ -27,6 +29,16 @@ pub(crate) trait Fill: Sized + Drop {
             → Gives known (filled known self.now) filler.new result };
 }
 
+/// What has texts that are filled, and says whether all of them surely stand as they are written.
+pub(crate) trait Stand: Fill {
+    ghost use Rattle.std.specs.Prelude.{◌≡◌, List as Items, true, Ok};
+    ghost use Rattle.mvn_base.specs.declared.machine.Pair.{Pair};
+
+    /// Whether it is what it is filled with anything that can be named. It may be so without being said.
+    fn stands(&self) -> bool
+        ensures { result ≡ true → (known : Items Pair) → Self.filled known self.now ≡ Ok self.now };
+}
+
 /// All of some, with their texts filled. Costs what these come to.
 pub(crate) fn fill_each<T: Fill>(
     alloc: Global,
@@ -36,7 +48,7 @@ pub(crate) fn fill_each<T: Fill>(
     ensures { (known : Items pairs.Pair) → IsTable known [] filler.old
         → Gives known (each (T.filled known) items.now) filler.new result }
 {
-    let mut list = List::new(alloc);
+    let mut list = items.emptied()?;
     for item in items.as_slice() {
         match item.fill(alloc, filler) {
             Ok(item) => list.push(item)?,
@@ -104,11 +116,88 @@ pub(crate) fn name_if(
     }
 }
 
-impl<T: Fill> Fill for Shared<T> {
+// Whether a text that may be missing stands as it is written.
+fn stands_if(text: &Option<Text>) -> bool
+    ensures { result ≡ stands_if text.now }
+{
+    match text {
+        Some(text) => stands(text),
+        None => true,
+    }
+}
+
+// Whether the texts of each of some exclusions stand.
+fn exclusions_stand(exclusions: &[Exclusion]) -> bool
+    ensures { result ≡ list_all exclusion_stands exclusions.now }
+{
+    exclusions.iter().all(|exclusion| stands(&exclusion.group) && stands(&exclusion.artifact))
+}
+
+// Whether the texts of a dependency stand.
+fn dependency_stands(dependency: &Dependency) -> bool
+    ensures { result ≡ dependency_stands dependency.now }
+{
+    stands(&dependency.group)
+        && stands(&dependency.artifact)
+        && stands_if(&dependency.version)
+        && stands(&dependency.kind)
+        && stands(&dependency.classifier)
+        && stands_if(&dependency.scope)
+        && stands(&dependency.optional)
+        && exclusions_stand(dependency.exclusions.as_slice())
+}
+
+// Whether the texts of each of some dependencies stand.
+fn dependencies_stand(dependencies: &[Shared<Dependency>]) -> bool
+    ensures { result ≡ list_all dependency_stands dependencies.now }
+{
+    dependencies
+        .iter()
+        .all(|dependency| dependency_stands(dependency))
+}
+
+// Whether the texts of a plugin stand, which has no executions and no configuration.
+fn plugin_stands(plugin: &Plugin) -> bool
+    ensures { result ≡ plugin_stands plugin.now }
+{
+    stands(&plugin.group)
+        && stands(&plugin.artifact)
+        && stands_if(&plugin.version)
+        && dependencies_stand(plugin.dependencies.as_slice())
+        && plugin.executions.len() == 0
+        && plugin.configuration.len() == 0
+}
+
+impl Stand for Dependency {
+    #[tactic(auto, using(crate::proofs::Standing::dependency_stood))]
+    fn stands(&self) -> bool {
+        dependency_stands(self)
+    }
+}
+
+impl Stand for Plugin {
+    #[tactic(auto, using(crate::proofs::Standing::plugin_stood))]
+    fn stands(&self) -> bool {
+        plugin_stands(self)
+    }
+}
+
+impl Stand for Execution {
+    fn stands(&self) -> bool {
+        false
+    }
+}
+
+/// What stands as it is written is shared.
+impl<T: Stand> Fill for Shared<T> {
     ghost filled = { T.filled };
 
     fn fill(&self, alloc: Global, filler: &mut Filler) -> Result<Shared<T>, FillFault> {
-        match self.value().fill(alloc, filler) {
+        let item = self.value();
+        if item.stands() {
+            return Ok(self.share()?);
+        }
+        match item.fill(alloc, filler) {
             Ok(item) => Ok(Shared::new(alloc, item)?),
             Err(fault) => Err(fault),
         }

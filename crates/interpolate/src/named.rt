@@ -117,7 +117,8 @@ fn behind(alloc: Global, front: &str, pair: &Pair) -> Mem<Pair>
     ensures { IfOk result (λ p.
         p ≡ record { name = front.now ++ pair.now.name; value = pair.now.value }) }
 {
-    let mut name = String::from_str(alloc, front)?;
+    let mut name = String::with_capacity(alloc, front.len().saturating_add(pair.name.len()))?;
+    name.push_str(front)?;
     name.push_str(pair.name.as_str())?;
     let value = pair.value.clone()?;
     Ok(Pair {

@@ -1,2 +1,3 @@
 mod Leading
 pub mod Handing
+pub mod Alone

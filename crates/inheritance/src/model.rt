@@ -1,10 +1,11 @@
 ghost use Rattle.std.specs.Prelude.{◌≡◌, IfOk};
+ghost use Rattle.model_merge.specs.Keyed.{with_others};
 ghost use Rattle.inheritance.specs.Inherit.{inherit, inherit_base, inherit_build, inherit_build_base, inherit_coordinates, inherit_outputs, inherit_sources};
 
 use crate::placing::inherited_plugins;
-use model_merge::{stated, stated_list, with_others};
+use model_merge::{Item, settled, stated, stated_list, with_others};
 use model_types::{Build, BuildBase, Coordinates, ModelBase, Outputs, Parent, RawModel, Sources};
-use mvn_shared::{Mem, Shared};
+use mvn_shared::{List, Mem, Shared};
 use std::alloc::Global;
 
 // The child's coordinates with what it takes over.
@@ -29,19 +30,29 @@ fn inherit_coordinates(
     Shared::new(alloc, both)
 }
 
+// A child's items, and then its parent's whose keys it hasn't, each list settled. A child without one has its parent's alone.
+fn taken_over<T: Item>(alloc: Global, child: &[T], parent: &[T]) -> Mem<List<T>>
+    ensures { IfOk result (λ list. list ≡ with_others T.key_of child.now parent.now) }
+{
+    if child.len() == 0 {
+        return settled(alloc, parent);
+    }
+    with_others(alloc, child, parent)
+}
+
 // The child's modules, and the lists that are joined by their keys.
 #[tactic(auto, unfolding(crate::specs::Inherit::inherit_base))]
 fn inherit_base(alloc: Global, child: &ModelBase, parent: &ModelBase) -> Mem<ModelBase>
     ensures { IfOk result (λ both. both ≡ inherit_base child.now parent.now) }
 {
     let modules = child.modules.clone()?;
-    let properties = with_others(
+    let properties = taken_over(
         alloc,
         child.properties.as_slice(),
         parent.properties.as_slice(),
     )?;
-    let managed = with_others(alloc, child.managed.as_slice(), parent.managed.as_slice())?;
-    let dependencies = with_others(
+    let managed = taken_over(alloc, child.managed.as_slice(), parent.managed.as_slice())?;
+    let dependencies = taken_over(
         alloc,
         child.dependencies.as_slice(),
         parent.dependencies.as_slice(),

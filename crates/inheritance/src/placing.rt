@@ -1,6 +1,6 @@
 ghost use Rattle.std.specs.Prelude.{◌≡◌, List as Items, [], ◌∷◌, ◌++◌, ◌||◌, map, filter, flat_map, Some, None, if◌then◌else◌, IfOk, OnOk};
 ghost use Rattle.std.specs.HashSet.{contains};
-ghost use Rattle.std.specs.List.{list_any};
+ghost use Rattle.std.specs.List.{list_all, list_any};
 ghost use Rattle.mvn_base.specs.declared.key.Key as names;
 ghost use Rattle.model_types.specs.declared.plugin.Plugin as plugins;
 ghost use Rattle.model_types.specs.declared.plugin.Execution as executions;
@@ -51,6 +51,24 @@ fn handed_on(alloc: Global, plugin: &Plugin) -> Mem<Plugin>
     })
 }
 
+// Whether none of some executions is left out.
+fn all_inherited(list: &[Shared<Execution>]) -> bool
+    ensures { result ≡ list_all (λ (e : executions.Execution). e.inherited) list.now }
+{
+    list.iter().all(|execution| execution.inherited)
+}
+
+// A parent's plugin as a child takes it over, shared where none of its executions is left out.
+#[tactic(auto, using(crate::proofs::Alone::handed_same))]
+fn handed(alloc: Global, plugin: Shared<Plugin>) -> Mem<Shared<Plugin>>
+    ensures { IfOk result (λ handed. handed ≡ handed_on plugin) }
+{
+    if all_inherited(plugin.executions.as_slice()) {
+        return Ok(plugin);
+    }
+    Shared::new(alloc, handed_on(alloc, &plugin)?)
+}
+
 // The plugins that a parent passes on.
 fn inheritable(alloc: Global, parent: &[Shared<Plugin>]) -> Mem<List<Shared<Plugin>>>
     ensures { IfOk result (λ list. list ≡ inheritable parent.now) }
@@ -58,7 +76,7 @@ fn inheritable(alloc: Global, parent: &[Shared<Plugin>]) -> Mem<List<Shared<Plug
     let mut list = List::new(alloc);
     for plugin in settled_plugins(alloc, parent)?.into_vec() {
         if plugin.inherited {
-            list.push(Shared::new(alloc, handed_on(alloc, &plugin)?)?)?;
+            list.push(handed(alloc, plugin)?)?;
         }
     }
     Ok(list)
@@ -253,7 +271,7 @@ fn placed(
 /// The plugins of a child and of its parent, each settled: in the parent's order those that it passes on, each merged with the child's
 /// of its name, and the child's others in front of the shared one that follows them, or at the end. Costs both, on the average. POM
 /// Reference, "Plugins", of `inherited`; the places are an own rule.
-#[tactic(auto, unfolding(crate::specs::Placing::inherited_plugins))]
+#[tactic(auto, unfolding(crate::specs::Placing::inherited_plugins), using(crate::proofs::Alone::plugins_alone))]
 pub fn inherited_plugins(
     alloc: Global,
     child: &[Shared<Plugin>],
@@ -261,5 +279,8 @@ pub fn inherited_plugins(
 ) -> Mem<List<Shared<Plugin>>>
     ensures { IfOk result (λ list. list ≡ inherited_plugins child.now parent.now) }
 {
+    if child.len() == 0 {
+        return inheritable(alloc, parent);
+    }
     placed(alloc, each_settled(alloc, child)?.as_slice(), parent)
 }

@@ -4,7 +4,7 @@ use Rattle.mediation.proofs.Standing.{no_row, some_row}
 use Rattle.mediation.proofs.levels.decide.Goals as goal
 
 pub add_new-requires : goal.add_new-requires
-add_new-requires g c = no_row c.args.winners.now c.args.edge.now.key (sym c.in_default.ensures.value)
+add_new-requires g c = record { new = no_row c.args.winners.now c.args.edge.now.key (sym c.in_default.ensures.value) }
 
 pub returns-in-Some-clause-adds : goal.returns-in-Some-clause-adds
 returns-in-Some-clause-adds g c = λ libraries front fits leads.

@@ -73,6 +73,15 @@ fn a_library_is_fetched(rt: HostRuntime) -> Mem<()> {
     Ok(())
 }
 
+// The project's folder is asked while the build is planned, and the output is written behind all.
+#[test]
+fn a_project_or_an_output_that_fails_beside_a_library(rt: HostRuntime) -> Mem<()> {
+    check_library(&rt, rt.alloc(), WHOLE, 't', (0, 5), (3, 0), "fault tree\n")?;
+    check_library(&rt, rt.alloc(), WHOLE, 't', (6, 7), (0, 4), BUILT)?;
+    check_library(&rt, rt.alloc(), WHOLE, 'o', (0, 1), (3, 4), "")?;
+    Ok(())
+}
+
 // The area is swept, and then each of four files is begun, written and sealed.
 #[test]
 fn an_area_that_fails_below_a_library(rt: HostRuntime) -> Mem<()> {

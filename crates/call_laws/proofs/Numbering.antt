@@ -32,7 +32,7 @@ use Rattle.outcome_laws.specs.Crews.{start_of, told_of}
 use Rattle.crew_outcome.specs.declared.outcome.Outcome.{Outcome}
 use Rattle.mvn_call.specs.Headline.{IsHistory}
 use Rattle.mvn_call.specs.Seen.{After, Seen, used}
-use Rattle.call_laws.specs.Numbered.{AreKeptOnce, begins, begun_by, goal_by, goals_from, goals_of_trace, numbers_of}
+use Rattle.call_laws.specs.Numbered.{AreKeptOnce, AreTheTraces, begins, begun_by, goal_by, goals_from, goals_of_trace, numbers_of}
 
 -- ---- the module that a worker has open is the one that it began last
 
@@ -141,3 +141,7 @@ module _ (asked : Result CommandLine Outcome) (seen : Seen) (after : After) (tra
   pub kept_once : IsHistory asked seen after trace answers → AreKeptOnce answers
   kept_once (inl idle) = subst AreKeptOnce (sym idle.1) distinct_none
   kept_once (inr (line, p, run, is, found, call)) = let crew = call.crew in subst AreKeptOnce (sym call.kept) (answered_once p.plan run crew.follows)
+
+  -- both of a call's answers
+  pub of_the_trace : IsHistory asked seen after trace answers → AreTheTraces trace answers
+  of_the_trace history = record { order = in_order history; once = kept_once history }

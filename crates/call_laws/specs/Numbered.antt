@@ -1,5 +1,5 @@
 -- The goals that a trace answers, and the answers that are kept. Introduction to the Build Lifecycle; project rule.
-use Rattle.std.specs.Prelude.{ℕ, nat_eq, List, [], ◌∷◌, ◌++◌, map, fold, Option, None, Some, if◌then◌else◌}
+use Rattle.std.specs.Prelude.{◌≡◌, ℕ, nat_eq, List, [], ◌∷◌, ◌++◌, map, fold, Option, None, Some, if◌then◌else◌}
 use Rattle.std.specs.List.{IsDistinct}
 use Rattle.std.specs.Option.{option_map_or}
 use Rattle.build_core.specs.declared.event.Answered.{Answered}
@@ -34,3 +34,8 @@ numbers_of answers = map (λ (a : Answered). (a.«module», a.goal)) answers
 -- no two of the answers are to one goal of one module
 abbrev pub AreKeptOnce : List Answered → Type 0
 AreKeptOnce answers = IsDistinct same_goal answers
+
+-- the answers are the trace's: one for each event `Answer`, in order, and no goal is answered twice
+pub record AreTheTraces (trace : List Event) (answers : List Answered) : Type 0 where
+  pub order : numbers_of answers ≡ goals_of_trace trace
+  pub once : AreKeptOnce answers

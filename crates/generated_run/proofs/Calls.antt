@@ -16,6 +16,7 @@ use Rattle.mvn_call.specs.Seen.{After, Seen}
 use Rattle.mvn_top.proofs.Calling.{calls_none}
 use Rattle.mvn_top.proofs.First.{same_tells}
 use Rattle.mvn_top.proofs.Stops.{stops_between}
+use Rattle.call_laws.proofs.Numbering.{of_the_trace}
 use Rattle.rerun_laws.proofs.Leaving.{left_behind}
 use Rattle.mvn_top.proofs.Writing.{again_of, call_areas, call_ends, call_fault, call_of, call_quiet, call_refused, call_settled, none_ends}
 use Rattle.generated_run.specs.Generated.{Generates}
@@ -102,6 +103,7 @@ module _ (seen : Seen) (after : After) (trace : List Event) (answers : List Answ
         again = again_of asked seen after trace answers failed out.status out.before out.now is tt low;
         remains = left_behind asked seen after trace answers is.history;
         history = is.history;
+        kept = of_the_trace asked seen after trace answers is.history;
         causes = call_ends asked seen after trace answers failed out.status out.before out.now out.faults out.count is tt (four, same);
         refused = call_refused asked seen after trace answers failed out.status out.before out.now is tt low;
         once = is.once;

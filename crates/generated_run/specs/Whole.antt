@@ -12,6 +12,7 @@ use Rattle.crew_outcome.specs.declared.outcome.Outcome.{Outcome}
 use Rattle.mvn_call.specs.Ending.{Ends, IsWhole, without_memory}
 use Rattle.mvn_call.specs.Headline.{IsCall, IsHistory, IsUnchanged, IsWanted, NoneFailed, OneFailed}
 use Rattle.mvn_call.specs.Seen.{After, IfAllTell, LeavesSo, Seen, used}
+use Rattle.call_laws.specs.Numbered.{AreTheTraces}
 use Rattle.rerun_laws.specs.Reruns.{IsCallAgain, LeavesBehind}
 use Rattle.generated_run.specs.Generated.{IsGenerated, IsGeneratedRun, IsNothing, IsOfRun}
 
@@ -31,6 +32,7 @@ pub record IsMvn (asked : Result CommandLine Outcome) (seen : Seen) (after : Aft
       LeavesSo told after.outside.shelf (IsCallAgain asked files there seen.machine answers out.status out.before out.now))
   pub remains : LeavesBehind asked seen after.outside.shelf answers
   pub history : IsHistory asked seen after trace answers
+  pub kept : AreTheTraces trace answers
   pub causes : (wanted : Outcome) × IsWanted asked seen after trace answers wanted × Ends wanted out.status out.before out.now out.faults out.count
   pub refused : out.status ≡ 2 → IsUnchanged seen after trace answers
   pub once : PublishesOnce seen.outside.shelf after.outside.shelf

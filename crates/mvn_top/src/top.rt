@@ -10,6 +10,7 @@ ghost use Rattle.mvn_call.specs.Commands.{asked};
 ghost use Rattle.mvn_call.specs.Ending.{Ends};
 ghost use Rattle.mvn_call.specs.Headline.{IsCall, IsHistory, IsUnchanged, IsWanted, NoneFailed, OneFailed};
 ghost use Rattle.mvn_call.specs.Seen.{IfAllTell, LeavesSo, OthersStay, used};
+ghost use Rattle.call_laws.specs.Numbered.{AreTheTraces};
 ghost use Rattle.rerun_laws.specs.Reruns.{IsCallAgain, LeavesBehind};
 
 use crate::build::build;
@@ -122,6 +123,10 @@ where
               S.Area.faults S.Area.pieces G.answers G.faults) result.shelf hands.new;
         })
         result.trace result.answers }
+
+    // Over any objects, at every status: the answers are one for each event `Answer` of the trace, in order, to that goal of the module that
+    // the event's worker began last, and no goal of a module is answered twice.
+    ensures answers { AreTheTraces result.trace result.answers }
 
     // Over any objects, at every status: what is written is a part from the front of the text that is wanted, the whole unless the
     // sink failed or memory ran out. That text, unless memory ran out before there was one, comes from the words, from a device

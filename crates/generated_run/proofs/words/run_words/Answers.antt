@@ -31,7 +31,7 @@ returns-in-Ok-Ok-clause-call g c =
     let call = c.mvn in
     let after : After = record { faults = g.T.Files.faults call.new.tree; outside = outside_by g.S.Shelf.told g.S.Shelf.faults (state_by g.R.Remote.files g.R.Remote.faults g.S.Area.Area.contents g.S.Area.Area.faults g.S.Area.Area.pieces g.G.Gate.answers g.G.Gate.faults) call.result.shelf call.new.hands } in
     let out : Written = record { status = call.result.status; before = g.O.Sink.written c.args.out.now; now = g.O.Sink.written call.new.out; faults = g.O.Sink.faults c.args.out.now; count = g.O.Sink.faults call.new.out } in
-    let is : IsMvn said seen after call.result.trace call.result.answers out = record { outcome = call.ensures.outcome; again = call.ensures.again; remains = call.ensures.remains; history = call.ensures.history; causes = call.ensures.causes; refused = call.ensures.refused; once = call.ensures.once; whole_files = call.ensures.whole_files; settled = call.ensures.settled; areas = call.ensures.areas; quiet = call.ensures.quiet; fault = call.ensures.fault; bound = call.ensures.bound; tells = call.ensures.tells } in
+    let is : IsMvn said seen after call.result.trace call.result.answers out = record { outcome = call.ensures.outcome; again = call.ensures.again; remains = call.ensures.remains; history = call.ensures.history; kept = call.ensures.answers; causes = call.ensures.causes; refused = call.ensures.refused; once = call.ensures.once; whole_files = call.ensures.whole_files; settled = call.ensures.settled; areas = call.ensures.areas; quiet = call.ensures.quiet; fault = call.ensures.fault; bound = call.ensures.bound; tells = call.ensures.tells } in
     words_line said c.in-Ok-Ok.line seen after call.result.trace call.result.answers out line c.in-None.is is
 
 pub returns-in-Ok-Err-clause-call : goal.returns-in-Ok-Err-clause-call
@@ -41,7 +41,7 @@ returns-in-Ok-Err-clause-call g c =
     let call = c.mvn-in-Ok-Err in
     let after : After = record { faults = g.T.Files.faults call.new.tree; outside = outside_by g.S.Shelf.told g.S.Shelf.faults (state_by g.R.Remote.files g.R.Remote.faults g.S.Area.Area.contents g.S.Area.Area.faults g.S.Area.Area.pieces g.G.Gate.answers g.G.Gate.faults) call.result.shelf call.new.hands } in
     let out : Written = record { status = call.result.status; before = g.O.Sink.written c.args.out.now; now = g.O.Sink.written call.new.out; faults = g.O.Sink.faults c.args.out.now; count = g.O.Sink.faults call.new.out } in
-    let is : IsMvn said seen after call.result.trace call.result.answers out = record { outcome = call.ensures.outcome; again = call.ensures.again; remains = call.ensures.remains; history = call.ensures.history; causes = call.ensures.causes; refused = call.ensures.refused; once = call.ensures.once; whole_files = call.ensures.whole_files; settled = call.ensures.settled; areas = call.ensures.areas; quiet = call.ensures.quiet; fault = call.ensures.fault; bound = call.ensures.bound; tells = call.ensures.tells } in
+    let is : IsMvn said seen after call.result.trace call.result.answers out = record { outcome = call.ensures.outcome; again = call.ensures.again; remains = call.ensures.remains; history = call.ensures.history; kept = call.ensures.answers; causes = call.ensures.causes; refused = call.ensures.refused; once = call.ensures.once; whole_files = call.ensures.whole_files; settled = call.ensures.settled; areas = call.ensures.areas; quiet = call.ensures.quiet; fault = call.ensures.fault; bound = call.ensures.bound; tells = call.ensures.tells } in
     let e : c.asked-answer.result ≡ Ok (Err c.in-Ok-Err.field-0-0) = c.in-Ok-Err.is ∙ ap (λ (r : Result CommandLine Outcome). Ok r) c.in-Ok-Err.field-0-is in
     let error : Err c.in-Ok-Err.field-0-0 ≡ said = subst (λ (r : Result (Result CommandLine Outcome) OutOfMemory). IfOk r (λ answer. answer ≡ said)) e c.asked-answer.ensures.says in
     words_error said c.in-Ok-Err.field-0-0 seen after call.result.trace call.result.answers out error is

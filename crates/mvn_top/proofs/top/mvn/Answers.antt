@@ -5,6 +5,7 @@ use Rattle.mvn_call.specs.Commands.{asked}
 use Rattle.mvn_call.specs.Seen.{After, Seen}
 use Rattle.mvn_top.proofs.Stops.{stops_between}
 use Rattle.mvn_top.proofs.Writing.{again_of, call_areas, call_ends, call_fault, call_of, call_quiet, call_refused, call_settled}
+use Rattle.call_laws.proofs.Numbering.{of_the_trace}
 use Rattle.rerun_laws.proofs.Leaving.{left_behind}
 use Rattle.mvn_top.proofs.top.mvn.Goals as goal
 
@@ -32,6 +33,13 @@ returns-clause-remains g c =
     let call = c.build-call in
     let after : After = record { faults = g.T.Files.faults call.new.tree; outside = outside_by g.S.Shelf.told g.S.Shelf.faults (state_by g.R.Remote.files g.R.Remote.faults g.S.Area.Area.contents g.S.Area.Area.faults g.S.Area.Area.pieces g.G.Gate.answers g.G.Gate.faults) call.result.shelf call.new.hands } in
     left_behind (asked c.args.words.now (length c.args.hands.now)) seen after call.result.trace call.result.answers call.ensures.calls.history
+
+pub returns-clause-answers : goal.returns-clause-answers
+returns-clause-answers g c =
+    let seen : Seen = record { tree = g.T.Tree.files c.args.tree.now; faults = g.T.Files.faults c.args.tree.now; machine = c.args.machine; outside = outside_by g.S.Shelf.told g.S.Shelf.faults (state_by g.R.Remote.files g.R.Remote.faults g.S.Area.Area.contents g.S.Area.Area.faults g.S.Area.Area.pieces g.G.Gate.answers g.G.Gate.faults) c.args.shelf c.args.hands.now } in
+    let call = c.build-call in
+    let after : After = record { faults = g.T.Files.faults call.new.tree; outside = outside_by g.S.Shelf.told g.S.Shelf.faults (state_by g.R.Remote.files g.R.Remote.faults g.S.Area.Area.contents g.S.Area.Area.faults g.S.Area.Area.pieces g.G.Gate.answers g.G.Gate.faults) call.result.shelf call.new.hands } in
+    of_the_trace (asked c.args.words.now (length c.args.hands.now)) seen after call.result.trace call.result.answers call.ensures.calls.history
 
 pub returns-clause-causes : goal.returns-clause-causes
 returns-clause-causes g c =

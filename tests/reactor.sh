@@ -523,6 +523,23 @@ same 'as many models as modules' 3 "$(grep -c '^  model ' <<< "$got")"
 same 'of one module' $'built demo:b:1.0\n  note missing x:y:1' "$("$mvn" validate --full -pl b | head -n 2)"
 cd "$work" || exit 1
 
+# --- the file of each POM is opened once, also the root's, which is the parent of the others: by a trace of system calls, if strace is installed
+# and may trace
+if ! command -v strace > /dev/null; then
+  echo "        not traced: strace is not installed (on Debian: apt-get install strace)"
+elif ! strace -o "$work/trace" true 2> "$work/why"; then
+  echo "        not traced: strace may not trace here: $(head -n 1 "$work/why")"
+else
+  project 'a b'
+  child a
+  child b "$(on a)"
+  strace -f -o "$work/trace" -e trace=open,openat "$mvn" validate > "$work/said" 2>&1
+  same 'the projects whose POMs are traced are built' 'total 3 built 3 failed 0 skipped 0' "$(tail -n 1 "$work/said")"
+  same 'the file of each POM is opened once' $'a/pom.xml\nb/pom.xml\npom.xml' \
+    "$(sed -n 's,.*"\(\./\)*\([^"]*pom\.xml\)".* = [0-9].*,\2,p' "$work/trace" | sort)"
+  cd "$work" || exit 1
+fi
+
 # --- generated projects, whose reports tests/reactor_graphs.py computes anew
 if told=$(python3 "$here/tests/reactor_graphs.py" "$mvn" 300); then pass "generated projects: $told"; else fail 'generated projects' "$told"; fi
 tell

@@ -43,12 +43,12 @@ module _ (world : World) (given : Given) where
     new : is_met found pom.path ≡ false
     is_read : IsRead world pom
 
-  -- what a file that is read says
-  read_is : (path bytes : List ℕ) (pom : ModulePom) → read_pom path bytes ≡ Ok pom → (pom.path ≡ path) × (read (ids.Path pom.path) bytes ≡ Ok pom.raw)
-  read_is path bytes pom e =
-      let r = bound (read (ids.Path path) bytes) (λ raw. Ok (pom_of path raw)) pom e in
-      let same = ok_is (pom_of path r.0) pom r.2 in
-      (ap (λ (p : ModulePom). p.path) (sym same), subst (λ (p : ModulePom). read (ids.Path p.path) bytes ≡ Ok p.raw) same r.1)
+  -- what is read of a file
+  read_is : (path bytes : List ℕ) (pom : ModulePom) → world.by_path path ≡ Some bytes → read_pom path bytes ≡ Ok pom → (pom.path ≡ path) × IsRead world pom
+  read_is path bytes pom t e =
+      let r = bound (read (ids.Path path) bytes) (λ raw. Ok (pom_of path bytes raw)) pom e in
+      let same = ok_is (pom_of path bytes r.0) pom r.2 in
+      (ap (λ (p : ModulePom). p.path) (sym same), subst (λ p. IsRead world p) same (record { there = t; says = r.1 }))
 
   -- a POM that is found at a path is new, and if none is, no file is there
   new_some : (l : Listed) (found : List ModulePom) (path : List ℕ) (pom : ModulePom) → new_at world read_pom l found path ≡ Ok (Some pom) → IsNew found path pom
@@ -61,8 +61,8 @@ module _ (world : World) (given : Given) where
           let whole : (read_pom path bytes >>= (λ p. Ok (Some p))) ≡ Ok (Some pom) = sym (ap (taken_up read_pom path) t) ∙ sym (ap (λ b. if b then refuse l.by DuplicateProject path else taken_up read_pom path (world.by_path path)) m) ∙ e in
           let r = bound (read_pom path bytes) (λ p. Ok (Some p)) (Some pom) whole in
           let same = some_is r.0 pom (ok_is (Some r.0) (Some pom) r.2) in
-          let is = read_is path bytes pom (subst (λ p. read_pom path bytes ≡ Ok p) same r.1) in
-          record { at = is.0; new = ap (is_met found) is.0 ∙ m; is_read = record { bytes = bytes; there = ap world.by_path is.0 ∙ t; says = is.1 } }
+          let is = read_is path bytes pom t (subst (λ p. read_pom path bytes ≡ Ok p) same r.1) in
+          record { at = is.0; new = ap (is_met found) is.0 ∙ m; is_read = is.1 }
 
   new_none : (l : Listed) (found : List ModulePom) (path : List ℕ) → new_at world read_pom l found path ≡ Ok None → world.by_path path ≡ None
   new_none l found path = by (is_met found path) (world.by_path path) refl refl
@@ -198,8 +198,7 @@ module _ (world : World) (given : Given) where
       by (Some q) is (Some bytes) t at =
           let r = bound (read_pom pom_xml bytes) (λ p. Ok (Some p)) (Some q) (sym (ap (taken_up read_pom pom_xml) t) ∙ at) in
           let same = some_is r.0 q (ok_is (Some r.0) (Some q) r.2) ∙ ok_is q pom is in
-          let said = read_is pom_xml bytes pom (subst (λ p. read_pom pom_xml bytes ≡ Ok p) same r.1) in
-          (said.0, record { bytes = bytes; there = ap world.by_path said.0 ∙ t; says = said.1 })
+          read_is pom_xml bytes pom t (subst (λ p. read_pom pom_xml bytes ≡ Ok p) same r.1)
 
   pub is_project : (poms : List ModulePom) → discovered world given ≡ Ok poms → IsProject world given poms
   is_project poms e =

@@ -27,12 +27,12 @@ pom_xml = codes "pom.xml"
 abbrev pub refuse : {A : Type 0} → List ℕ → Rule → List ℕ → Built A
 refuse path rule text = Err (text_refused (ids.Path path) rule text)
 
--- what the text of a POM says
-abbrev pub pom_of : List ℕ → RawModel → ModulePom
-pom_of path raw = record { path = path; raw = raw }
+-- a POM: where it stands, the bytes of its file, and what they say
+abbrev pub pom_of : List ℕ → List ℕ → RawModel → ModulePom
+pom_of path bytes raw = record { path = path; raw = raw; bytes = bytes }
 
 abbrev pub read_pom : List ℕ → List ℕ → Built ModulePom
-read_pom path bytes = read (ids.Path path) bytes >>= (λ raw. Ok (pom_of path raw))
+read_pom path bytes = read (ids.Path path) bytes >>= (λ raw. Ok (pom_of path bytes raw))
 
 -- the path that a module's text leads to, from the folder of the POM that lists it on
 abbrev pub path_of : Listed → Built (List ℕ)

@@ -17,11 +17,10 @@ pub data AreApart : List ModulePom → Type 0 where
       → AreApart (found ++ pom ∷ [])
 
 module _ (world : World) where
-  -- a POM says what the file at its path says
+  -- a POM has the bytes of the file at its path, and says what they say
   pub record IsRead (pom : ModulePom) : Type 0 where
-    pub bytes : List ℕ
-    pub there : world.by_path pom.path ≡ Some bytes
-    pub says : read (ids.Path pom.path) bytes ≡ Ok pom.raw
+    pub there : world.by_path pom.path ≡ Some pom.bytes
+    pub says : read (ids.Path pom.path) pom.bytes ≡ Ok pom.raw
 
   -- a module leads to a POM: `pom.xml` in the folder of its name, or else the file of its name
   pub record LeadsTo (l : Listed) (pom : ModulePom) : Type 0 where

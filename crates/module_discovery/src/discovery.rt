@@ -173,8 +173,8 @@ fn begun<P: PomSource>(
 /// All POMs of the project, in the order of their declaration: `pom.xml`, and after each POM those of the modules that it and its active
 /// profiles list, each with its own modules before the next. A module is a folder with a file `pom.xml`, or else a file. Or the first
 /// refusal: what a POM's text breaks, or modules in a POM whose packaging isn't `pom`; and for each module an expression in its text, no
-/// POM, a POM that was met, or one POM more than 1,024. Each POM is read once, and stays in the store. `Source` comes only if the
-/// source's count of faults rose. Costs the POMs' bytes, and the criteria of their profiles. Guide to Working with Multiple Modules; POM
+/// POM, a POM that was met, or one POM more than 1,024. Each POM's file is read once: its bytes are in the POM, and what it says stays in
+/// the store. `Source` comes only if the source's count of faults rose. Costs the POMs' bytes, and the criteria of their profiles. Guide to Working with Multiple Modules; POM
 /// Reference, "Aggregation"; the order of refusals and the limit are project rules.
 #[tactic(auto, using(pom_lineage::proofs::Telling::told_both))]
 pub fn discover<P: PomSource>(

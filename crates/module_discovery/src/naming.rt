@@ -12,8 +12,8 @@ ghost use Rattle.module_discovery.specs.Discovery.{as_taken, at_either, at_last,
 use crate::found::FoundPoms;
 use crate::pom::{Listed, ModulePom};
 use mvn_base::{PomId, Rule};
-use mvn_shared::{Mem, Text};
-use pom_lineage::{Store, has_expression, read_at};
+use mvn_shared::{Bytes, Mem, Text};
+use pom_lineage::{Store, has_expression, read_found};
 use pom_paths::joined;
 use pom_source::{BuildFault, PomSource, text_refused};
 use std::alloc::Global;
@@ -40,8 +40,36 @@ fn path_of(alloc: Global, listed: &Listed) -> Result<Text, BuildFault>
     Ok(path)
 }
 
-// The POM at a path, read or kept, if a file is there.
-#[tactic(auto, using(crate::proofs::Reading::read_none, crate::proofs::Reading::read_some, crate::proofs::Reading::read_fails))]
+// The POM at a path whose file was asked for, read or kept, if it was found; with the file's bytes.
+#[tactic(auto, using(crate::proofs::Reading::none_there, crate::proofs::Reading::read_none, crate::proofs::Reading::read_some, crate::proofs::Reading::read_fails))]
+fn pom_found(
+    alloc: Global,
+    store: &mut Store,
+    path: &Text,
+    found: Option<Bytes>,
+) -> Result<Option<ModulePom>, BuildFault>
+    ensures says { (world : World) (given : givens.Given) → Holds world given store.old
+        → found ≡ world.by_path path.now
+        → Says (taken_up read_pom path.now (world.by_path path.now)) result }
+    ensures holds { (world : World) (given : givens.Given) → Holds world given store.old
+        → found ≡ world.by_path path.now → Holds world given store.new }
+    ensures keeps { KeepsRead store.old store.new }
+    ensures keeps_lines { KeepsLines store.old store.new }
+    ensures cause { build_failed result ≡ false }
+{
+    let read = read_found(alloc, store, path, &found)?;
+    let Some(bytes) = found else {
+        return Ok(None);
+    };
+    let Some(raw) = read else {
+        return Ok(None);
+    };
+    let path = path.clone()?;
+    Ok(Some(ModulePom { path, raw, bytes }))
+}
+
+// The POM at a path, if a file is there. The file is read once.
+#[tactic(auto, using(pom_lineage::proofs::Telling::told_once))]
 fn read_pom<P: PomSource>(
     alloc: Global,
     store: &mut Store,
@@ -58,12 +86,10 @@ fn read_pom<P: PomSource>(
     ensures keeps_lines { KeepsLines store.old store.new }
     ensures cause { HasCause (P.faults source.old) (P.faults source.new) (build_failed result) }
 {
-    match read_at(alloc, store, source, path)? {
-        Some(raw) => {
-            let path = path.clone()?;
-            Ok(Some(ModulePom { path, raw }))
-        }
-        None => Ok(None),
+    let found = source.by_path(path)?;
+    match pom_found(alloc, store, path, found) {
+        Ok(pom) => Ok(pom),
+        Err(fault) => Err(fault),
     }
 }
 

@@ -1,4 +1,5 @@
 pub mod Expressions
+pub mod Finding
 pub mod Holding
 pub mod Joining
 pub mod Keeping

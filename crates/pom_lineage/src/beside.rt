@@ -161,6 +161,37 @@ pub fn read_at<P: PomSource>(
     Ok(found)
 }
 
+/// What the file that was found at a path of the project says, for one who asked the source and needs the bytes, too: as it was read
+/// before, or read and kept; none if no file was found; or what its text breaks first. What was read stays in the store. Costs the
+/// POM's bytes the first time, and the path after that. Project rule.
+#[tactic(auto, using(crate::proofs::Finding::says_found, crate::proofs::Finding::reads_found))]
+pub fn read_found(
+    alloc: Global,
+    store: &mut Store,
+    path: &Text,
+    found: &Option<Bytes>,
+) -> Result<Option<Shared<RawModel>>, BuildFault>
+    ensures says { (world : World) (given : givens.Given) → Holds world given store.old
+        → found.now ≡ world.by_path path.now → Says (read_at world path.now) result }
+    ensures holds { (world : World) (given : givens.Given) → Holds world given store.old
+        → found.now ≡ world.by_path path.now → Holds world given store.new }
+    ensures kept { IfOk result (λ raw. read_in store.new path.now ≡ Some raw) }
+    ensures keeps { KeepsRead store.old store.new }
+    ensures keeps_lines { KeepsLines store.old store.new }
+    ensures cause { build_failed result ≡ false }
+{
+    if let Some(raw) = store.find_read(path)? {
+        return Ok(raw);
+    }
+    let pom = PomId::Path(path.clone()?);
+    let raw = match read_file(alloc, &pom, found) {
+        Ok(raw) => raw,
+        Err(fault) => return Err(fault),
+    };
+    store.keep_read(path, &raw)?;
+    Ok(raw)
+}
+
 // The second of two paths, at the first of which no POM is.
 #[tactic(auto, using(crate::proofs::Holding::at_is))]
 fn at_second<P: PomSource>(

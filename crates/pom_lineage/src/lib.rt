@@ -10,7 +10,7 @@ mod reading;
 mod store;
 mod stored;
 
-pub use beside::{raw_gav, read_at};
+pub use beside::{raw_gav, read_at, read_found};
 pub use expression::has_expression;
 pub use joined::Joined;
 pub use origin::{Candidate, Origin};

@@ -1,11 +1,10 @@
 -- A value for each item, one item at a time.
-use Rattle.std.proofs.Common.{◌≡◌, ℕ, ◌+◌, ◌<◌, ◌≤◌, List, [], ◌∷◌, ◌++◌, drop, get_or, length, map, Ok, Err, refl, sym, ap, subst, ◌∙◌}
+use Rattle.std.proofs.Common.{◌≡◌, ℕ, ◌+◌, ◌<◌, ◌≤◌, List, [], ◌∷◌, ◌++◌, drop, get_or, length, Ok, Err, refl, sym, ap, subst, ◌∙◌}
 use Rattle.std.specs.List.{AllByRecursion}
 use Rattle.std.proofs.lemmas.List.{append-nil, append_assoc, drop_all, drop_more, length-append}
 use Rattle.pom_source.specs.Answers.{Built, Fails, ◌>>=◌}
-use Rattle.pom_source.specs.Chains.{ok_is, stop_fails}
+use Rattle.pom_source.specs.Chains.{stop_fails}
 use Rattle.pom_source.specs.declared.fault.BuildFault.{BuildFault}
-use Rattle.pom_source.specs.declared.fault.BuildFault.TheVariants.{Refused, Absent, Source, Memory}
 use Rattle.project_models.specs.Models.{each}
 
 -- all that items have, and one more
@@ -17,34 +16,12 @@ pub all_both : {A : Type 0} (P : A → Type 0) (xs ys : List A) → AllByRecursi
 all_both P [] ys all more = more
 all_both P (x ∷ xs) ys all more = (all.0, all_both P xs ys all.1 more)
 
--- what isn't refused fails as anything that isn't
-pub other_fails : {A B : Type 0} (x : A) (y : B) (fault : BuildFault) → Fails {A = A} (Ok x) fault → Fails {A = B} (Ok y) fault
-other_fails x y (Refused r) e = cc
-other_fails x y Absent e = cc
-other_fails x y Source e = record {}
-other_fails x y Memory e = record {}
-
 -- one more
 pub count_more : {A : Type 0} (done next : List A) (i : ℕ) (y : A) → next ≡ done ++ y ∷ [] → length done ≡ i → length next ≡ i + 1
 count_more done next i y more count = let one : length next ≡ length done + 1 = ap length more ∙ length-append done (y ∷ []) in one ∙ ap (λ n. n + 1) count
 
 pub none_left : {A : Type 0} (items : List A) (i : ℕ) → length items ≤ i → drop i items ≡ []
 none_left items i low = drop_all i items low
-
--- values so far, and those of the rest
-module _ {A B : Type 0} (f : A → B) where
-  pub mapped_none : (items : List A) → [] ++ map f (drop 0 items) ≡ map f items
-  mapped_none items = refl
-
-  pub mapped_more : (done next : List B) (items : List A) (i : ℕ) (x : A) (y : B) → i < length items → x ≡ get_or items i x → next ≡ done ++ y ∷ [] → ◌≡◌ {A = Built B} (Ok (f x)) (Ok y)
-      → done ++ map f (drop i items) ≡ map f items → next ++ map f (drop (i + 1) items) ≡ map f items
-  mapped_more done next items i x y low at more is so =
-      ap (λ l. l ++ map f (drop (i + 1) items)) more ∙ append_assoc done (y ∷ []) (map f (drop (i + 1) items))
-      ∙ ap (λ z. done ++ z ∷ map f (drop (i + 1) items)) (sym (ok_is (f x) y is))
-      ∙ ap (λ l. done ++ map f l) (sym (drop_more items i x low ∙ ap (λ z. z ∷ drop (i + 1) items) (sym at))) ∙ so
-
-  pub mapped_all : (done : List B) (items : List A) (i : ℕ) → drop i items ≡ [] → done ++ map f (drop i items) ≡ map f items → ◌≡◌ {A = Built (List B)} (Ok (map f items)) (Ok done)
-  mapped_all done items i none so = ap (λ l. Ok l) (sym so ∙ ap (λ l. done ++ map f l) none ∙ append-nil done)
 
 module _ {A B : Type 0} (f : A → Built B) where
   -- the values so far, and those of the rest

@@ -1,12 +1,14 @@
 -- The project's POMs have the texts of the files at their paths.
-use Rattle.std.proofs.Common.{◌≡◌, ℕ, Bool, true, false, List, [], ◌∷◌, map, find, unwrap_or, Option, Some, option_map, Ok, refl, sym, ap, subst, ◌∙◌}
+use Rattle.std.proofs.Common.{◌≡◌, ℕ, Bool, true, false, List, [], ◌∷◌, map, find, unwrap_or, Option, Some, option_map, Result, Ok, refl, sym, ap, subst, ◌∙◌}
 use Rattle.std.specs.Prelude.{cond}
 use Rattle.std.specs.List.{AllByRecursion}
 use Rattle.std.specs.Option.{option_or}
 use Rattle.std.specs.Str.{bytes_eq}
 use Rattle.mvn_shared.specs.Files.{Files}
-use Rattle.pom_source.specs.Chains.{bound, ok_is}
+use Rattle.pom_source.specs.Answers.{Says}
+use Rattle.pom_source.specs.Chains.{bound, goes_on, ok_is}
 use Rattle.pom_source.specs.Worlds.{World}
+use Rattle.pom_source.specs.declared.fault.BuildFault.{BuildFault}
 use Rattle.pom_source.specs.declared.found.Given.{Given}
 use Rattle.pom_lineage.proofs.Holding.{same_path}
 use Rattle.pom_lineage.specs.Stores.{AgreesOnPaths}
@@ -17,7 +19,7 @@ use Rattle.module_discovery.specs.declared.pom.ModulePom.{ModulePom}
 use Rattle.module_discovery.proofs.Projects.{is_project}
 use Rattle.model_resolver.specs.Finding.{project_at, world_of}
 use Rattle.model_resolver.specs.declared.resolver.ProjectPom.{ProjectPom}
-use Rattle.project_models.specs.Models.{found_pom, project_poms}
+use Rattle.project_models.specs.Models.{found_pom, project_poms, with_own_text, with_text}
 use Rattle.project_models.proofs.Each.{all_both}
 
 -- what a function takes
@@ -25,12 +27,12 @@ abbrev Taken : {A B : Type 0} → (A → B) → Type 0
 Taken {A} {B} f = A
 
 module _ (world : World) where
-  -- a POM that was discovered has a file
+  -- a POM that was discovered has the bytes of its file
   abbrev IsThere : ModulePom → Type 0
-  IsThere m = (bytes : List ℕ) × (world.by_path m.path ≡ Some bytes)
+  IsThere m = world.by_path m.path ≡ Some m.bytes
 
   read_there : (m : ModulePom) → IsRead world m → IsThere m
-  read_there m r = (r.bytes, r.there)
+  read_there m r = r.there
 
   all_there : (given : Given) {ls : List (Taken path_of)} {poms : List ModulePom} → AreListed world given ls poms → AllByRecursion IsThere poms
   all_there given no_module = tt
@@ -46,13 +48,26 @@ module _ (world : World) where
 
       by : option_or (option_map (λ (p : ProjectPom). p.bytes) rest) (world.by_path path) ≡ world.by_path path → (same : Bool) → bytes_eq m.path path ≡ same
           → option_or (option_map (λ (p : ProjectPom). p.bytes) (cond same (Some (found_pom world m)) rest)) (world.by_path path) ≡ world.by_path path
-      by more true is = ap (λ o. Some (unwrap_or o [])) all.0.1 ∙ sym all.0.1 ∙ ap world.by_path (same_path m.path path is)
+      by more true is = ap (λ o. Some (unwrap_or o [])) all.0 ∙ sym all.0 ∙ ap world.by_path (same_path m.path path is)
       by more false is = more
 
   project_there : (given : Given) (found : List ModulePom) → IsProject world given found → AllByRecursion IsThere found
   project_there given found is = subst (λ l. AllByRecursion IsThere l) (sym is.begins) (read_there is.root is.is_read, all_there given is.are_listed)
 
--- so a world in which they are found by their coordinates has the same POMs at their paths
+  own_texts : (found : List ModulePom) → AllByRecursion IsThere found → map with_own_text found ≡ map (found_pom world) found
+  own_texts [] all = refl
+  own_texts (m ∷ found) all =
+      ap (λ o. with_text m (unwrap_or o []) ∷ map with_own_text found) (sym all.0) ∙ ap (λ l. found_pom world m ∷ l) (own_texts found all.1)
+
+-- so the project's POMs are those that were discovered, with their own bytes
+pub poms_found : (world : World) (given : Given) (found : List ModulePom) (poms : List ProjectPom) (result : Result (List ProjectPom) BuildFault)
+    → discovered world given ≡ Ok found → poms ≡ map with_own_text found → Says (Ok poms) result → Says (project_poms world given) result
+poms_found world given found poms result said own says =
+    let there = project_there world given found (is_project world given found said) in
+    goes_on (discovered world given) (λ l. Ok (map (found_pom world) l)) found result said
+    (subst (λ (l : List ProjectPom). Says (Ok l) result) (own ∙ own_texts world found there) says)
+
+-- and a world in which they are found by their coordinates has the same POMs at their paths
 pub agrees : (tree local remote : Files) (given : Given) (poms : List ProjectPom) → project_poms (world_of [] tree local remote) given ≡ Ok poms
     → AgreesOnPaths (world_of [] tree local remote) (world_of poms tree local remote)
 agrees tree local remote given poms said path =

@@ -40,9 +40,13 @@ each f (x ∷ xs) = f x >>= (λ y. each f xs >>= (λ ys. Ok (y ∷ ys)))
 abbrev pub with_text : ModulePom → List ℕ → ProjectPom
 with_text m bytes = record { path = m.path; gav = raw_gav m.raw; bytes = bytes }
 
--- a POM that was discovered, with its text
+-- a POM that was discovered, with the text of the file at its path
 abbrev pub found_pom : World → ModulePom → ProjectPom
 found_pom world m = with_text m (unwrap_or (world.by_path m.path) [])
+
+-- so with the bytes that were discovered with it
+abbrev pub with_own_text : ModulePom → ProjectPom
+with_own_text m = with_text m m.bytes
 
 abbrev pub project_poms : World → Given → Built (List ProjectPom)
 project_poms world given = discovered world given >>= (λ found. Ok (map (found_pom world) found))

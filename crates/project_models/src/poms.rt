@@ -1,15 +1,15 @@
 // The POMs of a project, with their coordinates and their texts.
-ghost use Rattle.std.specs.Prelude.{◌≡◌, ◌≤◌, [], false, Ok, length, map, unwrap_or, IfOk};
+ghost use Rattle.std.specs.Prelude.{◌≡◌, ◌≤◌, false, Ok, length, map, IfOk};
 ghost use Rattle.mvn_shared.specs.Cause.{HasCause};
 ghost use Rattle.profile_activation.specs.Judging.{TellsOn};
 ghost use Rattle.pom_source.specs.Answers.{Says, build_failed};
 ghost use Rattle.pom_source.specs.Worlds.{World};
 ghost use Rattle.pom_lineage.specs.Stores.{Holds};
-ghost use Rattle.project_models.specs.Models.{found_pom, project_poms, with_text};
+ghost use Rattle.project_models.specs.Models.{project_poms, with_own_text};
 
 use model_resolver::ProjectPom;
 use module_discovery::{ModulePom, discover};
-use mvn_shared::{Bytes, List, Mem};
+use mvn_shared::{List, Mem};
 use pom_lineage::{Store, raw_gav};
 use pom_source::{BuildFault, Given, PomSource};
 use std::alloc::Global;
@@ -17,62 +17,22 @@ use std::alloc::Global;
 /// The modules that a project may have. Project rule.
 const MOST_MODULES: usize = 1_024;
 
-// The text of a POM, or an empty one if its file is gone.
-fn text_of(alloc: Global, found: Option<Bytes>) -> Bytes
-    ensures { result ≡ unwrap_or found [] }
+// A POM that was discovered, with its coordinates as it says them and with its text. Neither its path nor its text is copied.
+fn found_pom(alloc: Global, listed: ModulePom) -> Mem<ProjectPom>
+    ensures { IfOk result (λ pom. pom ≡ with_own_text listed) }
 {
-    match found {
-        Some(bytes) => bytes,
-        None => Bytes::of(Vec::new(alloc)),
-    }
-}
-
-// A POM with a text, and with its coordinates as it says them.
-fn with_text(alloc: Global, listed: &ModulePom, bytes: Bytes) -> Mem<ProjectPom>
-    ensures { IfOk result (λ pom. pom ≡ with_text listed.now bytes) }
-{
-    let path = listed.path.clone()?;
-    let gav = raw_gav(alloc, &listed.raw)?;
+    let ModulePom { path, raw, bytes } = listed;
+    let gav = raw_gav(alloc, &raw)?;
     Ok(ProjectPom { path, gav, bytes })
 }
 
-// A POM that was discovered, with its coordinates and its text.
-#[tactic(auto, using(pom_lineage::proofs::Telling::told_once, pom_lineage::proofs::Telling::untold))]
-fn found_pom<P: PomSource>(
-    alloc: Global,
-    source: &mut P,
-    listed: &ModulePom,
-) -> Result<ProjectPom, BuildFault>
-    ensures says { (world : World) → P.fits_poms source.old world
-        → Says (Ok (found_pom world listed.now)) result }
-    ensures fit { (world : World) → P.fits_poms source.old world → P.fits_poms source.new world }
-    ensures same { TellsOn P.tells_same source.old source.new }
-    ensures cause { HasCause (P.faults source.old) (P.faults source.new) (build_failed result) }
-{
-    let found = source.by_path(&listed.path)?;
-    let pom = with_text(alloc, listed, text_of(alloc, found))?;
-    Ok(pom)
-}
-
 // All of them.
-#[tactic(auto, using(pom_lineage::proofs::Telling::told_both, crate::proofs::Each::other_fails, crate::proofs::Each::mapped_none, crate::proofs::Each::mapped_more, crate::proofs::Each::mapped_all))]
-fn found_poms<P: PomSource>(
-    alloc: Global,
-    source: &mut P,
-    modules: &List<ModulePom>,
-) -> Result<List<ProjectPom>, BuildFault>
-    ensures says { (world : World) → P.fits_poms source.old world
-        → Says (Ok (map (found_pom world) modules.now)) result }
-    ensures same { TellsOn P.tells_same source.old source.new }
-    ensures cause { HasCause (P.faults source.old) (P.faults source.new) (build_failed result) }
+fn found_poms(alloc: Global, modules: List<ModulePom>) -> Mem<List<ProjectPom>>
+    ensures { IfOk result (λ poms. poms ≡ map with_own_text modules) }
 {
     let mut poms = List::new(alloc);
-    for module in modules.as_slice() {
-        let pom = match found_pom(alloc, source, module) {
-            Ok(pom) => pom,
-            Err(fault) => return Err(fault),
-        };
-        poms.push(pom)?;
+    for listed in modules.into_vec() {
+        poms.push(found_pom(alloc, listed)?)?;
     }
     Ok(poms)
 }
@@ -92,9 +52,8 @@ fn bounded(poms: List<ProjectPom>) -> Result<List<ProjectPom>, BuildFault>
 }
 
 /// The POMs of the project in the order of their declaration, each with its coordinates as it says them and with its text, or the first
-/// refusal. Each POM is parsed once, and what it says stays in the store; its file is read a second time for its text. Guide to Working
-/// with Multiple Modules.
-#[tactic(auto, using(pom_lineage::proofs::Telling::told_both))]
+/// refusal. Each POM's file is read and parsed once, and what it says stays in the store. Guide to Working with Multiple Modules.
+#[tactic(auto, using(crate::proofs::Paths::poms_found))]
 pub(crate) fn project_poms<P: PomSource>(
     alloc: Global,
     store: &mut Store,
@@ -111,9 +70,6 @@ pub(crate) fn project_poms<P: PomSource>(
     ensures cause { HasCause (P.faults source.old) (P.faults source.new) (build_failed result) }
 {
     let found = discover(alloc, store, source, given)?;
-    let poms = match found_poms(alloc, source, &found) {
-        Ok(poms) => poms,
-        Err(fault) => return Err(fault),
-    };
+    let poms = found_poms(alloc, found)?;
     bounded(poms)
 }

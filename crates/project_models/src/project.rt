@@ -228,8 +228,8 @@ fn with_poms<T: Tree, S: Shelf, R: Remote>(
 /// the effective models refuse, module by module; then the first module whose effective coordinates one before it has, with the path of
 /// that one. A POM that coordinates name is looked up among the project's POMs first, then in the local repository, then in the remote
 /// one. What was read and built stays in the store, for the world of these devices. `Source` comes only where a device failed, and then
-/// `failures.first` names it. Each POM is parsed once, and its file is read twice; costs what effective models cost besides. Guide to
-/// Working with Multiple Modules; Maven Model Builder, "Model building".
+/// `failures.first` names it. Each POM's file is read and parsed once; costs what effective models cost besides. Guide to Working with
+/// Multiple Modules; Maven Model Builder, "Model building".
 #[tactic(auto, using(model_resolver::proofs::Counting::counted_twice))]
 pub fn project_models<T: Tree, S: Shelf, R: Remote>(
     alloc: Global,

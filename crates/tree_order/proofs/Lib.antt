@@ -1,3 +1,3 @@
 pub mod Trees
-pub mod Listing
+pub mod Linked
 pub mod NoneLost

@@ -1,10 +1,11 @@
 -- A tree is a place and the trees below it.
-use Rattle.std.proofs.Common.{◌≡◌, ◌⊎◌, inl, inr, ℕ, zero, suc, ◌+◌, ◌-◌, ◌<◌, ◌≤◌, Bool, true, false, ◌==◌, List, [], ◌∷◌, ◌++◌, flat_map, get_or, length, reverse, slice_get, Option, Some, None, refl, sym, ap, subst, ◌∙◌, arith, append_assoc, if◌then◌else◌}
+use Rattle.std.proofs.Common.{◌≡◌, ◌⊎◌, inl, inr, ℕ, zero, suc, ◌+◌, ◌-◌, ◌<◌, ◌≤◌, Bool, true, false, ◌==◌, List, [], ◌∷◌, ◌++◌, flat_map, get_or, length, reverse, slice_get, Option, Some, None, refl, sym, ap, subst, ◌∙◌, arith, append-nil, append_assoc, if◌then◌else◌}
+use Rattle.std.specs.Option.{option_to_list}
 use Rattle.std.proofs.lemmas.Bool.{false≢true}
 use Rattle.std.proofs.lemmas.Bool.Decides.{nat_tests}
 use Rattle.std.proofs.lemmas.List.{reverse-append}
 use Rattle.std.proofs.lemmas.Grind.{flat_map-append}
-use Rattle.tree_order.specs.Preorder.{Ascends, below, below_from, preorder, stands_below, tree}
+use Rattle.tree_order.specs.Preorder.{Ascends, behind, below, below_from, onward, preorder, stands_below, tree}
 
 -- what stands in a list
 abbrev pub IsIn : List ℕ → ℕ → Type 0
@@ -67,6 +68,14 @@ settled above ascends (suc f) (suc g) p low deep deeper =
     let behind = child_behind above p c ascends there in
     settled above ascends f g c behind.1 (omega (arith, deep, behind.0)) (omega (arith, deeper, behind.0))))
 
+-- the trees of a place and of those behind it
+abbrev pub trees_from : List (Option ℕ) → ℕ → List ℕ
+trees_from above p = flat_map (tree above (suc (length above))) (p ∷ behind above p)
+
+-- what a stack of such places comes to
+abbrev pub waiting : List (Option ℕ) → List ℕ → List ℕ
+waiting above stack = flat_map (trees_from above) (reverse stack)
+
 module _ (above : List (Option ℕ)) (ascends : Ascends above) where
   abbrev pub whole_tree : ℕ → List ℕ
   whole_tree p = tree above (suc (length above)) p
@@ -78,7 +87,7 @@ module _ (above : List (Option ℕ)) (ascends : Ascends above) where
       settled above ascends (length above) (suc (length above)) c behind.1 (omega arith) (omega arith)))
 
   -- none stands below a place that isn't there
-  none_below : (p : ℕ) → length above ≤ p → below (Some p) above ≡ []
+  pub none_below : (p : ℕ) → length above ≤ p → below (Some p) above ≡ []
   none_below p high = by (below (Some p) above) (λ c there. child_behind above p c ascends there)
     where
       by : (l : List ℕ) → ((c : ℕ) → IsIn l c → (p < c) × (c < length above)) → l ≡ []
@@ -87,53 +96,46 @@ module _ (above : List (Option ℕ)) (ascends : Ascends above) where
           let behind = all c (inl refl) in
           absurd (omega (arith, behind.0, behind.1, high))
 
+  -- the trees from a link on
+  of_link : (link : Option ℕ) → flat_map (trees_from above) (option_to_list link) ≡ flat_map whole_tree (onward above link)
+  of_link None = refl
+  of_link (Some p) = append-nil (flat_map whole_tree (p ∷ behind above p))
+
+  back : (link : Option ℕ) → reverse (option_to_list link) ≡ option_to_list link
+  back None = refl
+  back (Some p) = refl
+
+  -- a link is put on the stack
+  put : (stack : List ℕ) (link : Option ℕ) → waiting above (stack ++ option_to_list link) ≡ flat_map whole_tree (onward above link) ++ waiting above stack
+  put stack link =
+      ap (flat_map (trees_from above)) (reverse-append stack (option_to_list link) ∙ ap (λ l. l ++ reverse stack) (back link))
+      ∙ flat_map-append (trees_from above) (option_to_list link) (reverse stack)
+      ∙ ap (λ l. l ++ waiting above stack) (of_link link)
+
+  -- a place is taken from the stack, and its links are put there
+  taken : (stack new : List ℕ) (p : ℕ) (next first : Option ℕ) → onward above next ≡ behind above p → onward above first ≡ below (Some p) above
+      → new ≡ (stack ++ option_to_list next) ++ option_to_list first → waiting above (stack ++ p ∷ []) ≡ p ∷ waiting above new
+  taken stack new p next first nexts firsts is =
+      let children = flat_map whole_tree (below (Some p) above) in
+      let others = flat_map whole_tree (behind above p) in
+      put stack (Some p)
+      ∙ ap (λ l. (l ++ others) ++ waiting above stack) (unfolds p)
+      ∙ ap (λ l. p ∷ l) (append_assoc children others (waiting above stack)
+      ∙ ap (λ l. children ++ (flat_map whole_tree l ++ waiting above stack)) (sym nexts)
+      ∙ ap (λ l. children ++ l) (sym (put stack next))
+      ∙ ap (λ l. flat_map whole_tree l ++ waiting above (stack ++ option_to_list next)) (sym firsts)
+      ∙ sym (put (stack ++ option_to_list next) first)
+      ∙ ap (waiting above) (sym is))
+
   -- one place less is to come
-  pub smaller : (stack new : List ℕ) (p : ℕ) (list : List ℕ) → list ≡ below (Some p) above → reverse new ≡ list ++ reverse stack
-      → length (flat_map whole_tree (reverse new)) < length (flat_map whole_tree (reverse (stack ++ p ∷ [])))
-  smaller stack new p list is pushed = omega (arith, ap length whole)
-    where
-      whole : flat_map whole_tree (reverse (stack ++ p ∷ [])) ≡ p ∷ flat_map whole_tree (reverse new)
-      whole =
-          ap (flat_map whole_tree) (reverse-append stack (p ∷ []))
-          ∙ ap (λ l. l ++ flat_map whole_tree (reverse stack)) (unfolds p)
-          ∙ ap (λ l. p ∷ (flat_map whole_tree l ++ flat_map whole_tree (reverse stack))) (sym is)
-          ∙ ap (λ l. p ∷ l) (sym (flat_map-append whole_tree list (reverse stack)))
-          ∙ ap (λ l. p ∷ flat_map whole_tree l) (sym pushed)
+  pub smaller : (stack new : List ℕ) (p : ℕ) (next first : Option ℕ) → onward above next ≡ behind above p → onward above first ≡ below (Some p) above
+      → new ≡ (stack ++ option_to_list next) ++ option_to_list first → length (waiting above new) < length (waiting above (stack ++ p ∷ []))
+  smaller stack new p next first nexts firsts is = omega (arith, ap length (taken stack new p next first nexts firsts is))
 
   -- what is below a place is looked at next
-  pub next_place : (order stack new : List ℕ) (p : ℕ) (list : List ℕ) (all : List ℕ)
-      → list ≡ below (Some p) above → reverse new ≡ list ++ reverse stack
-      → order ++ flat_map whole_tree (reverse (stack ++ p ∷ [])) ≡ all
-      → (order ++ p ∷ []) ++ flat_map whole_tree (reverse new) ≡ all
-  next_place order stack new p list all is pushed before =
-      ap (λ l. (order ++ p ∷ []) ++ flat_map whole_tree l) pushed
-      ∙ ap (λ l. (order ++ p ∷ []) ++ l) (flat_map-append whole_tree list (reverse stack))
-      ∙ append_assoc order (p ∷ []) (flat_map whole_tree list ++ flat_map whole_tree (reverse stack))
-      ∙ ap (λ l. order ++ (p ∷ (flat_map whole_tree l ++ flat_map whole_tree (reverse stack)))) is
-      ∙ ap (λ l. order ++ (l ++ flat_map whole_tree (reverse stack))) (sym (unfolds p))
-      ∙ ap (λ l. order ++ flat_map whole_tree l) (sym (reverse-append stack (p ∷ [])))
+  pub next_place : (order stack new : List ℕ) (p : ℕ) (next first : Option ℕ) (all : List ℕ) → onward above next ≡ behind above p → onward above first ≡ below (Some p) above
+      → new ≡ (stack ++ option_to_list next) ++ option_to_list first → order ++ waiting above (stack ++ p ∷ []) ≡ all → (order ++ p ∷ []) ++ waiting above new ≡ all
+  next_place order stack new p next first all nexts firsts is before =
+      append_assoc order (p ∷ []) (waiting above new)
+      ∙ ap (λ l. order ++ l) (sym (taken stack new p next first nexts firsts is))
       ∙ before
-
-  pub place_more : (lists : List (List ℕ)) (p : ℕ) → length lists ≡ length above → ((q : ℕ) → q < length above → get_or lists q [] ≡ below (Some q) above) → get_or lists p [] ≡ below (Some p) above
-  place_more lists p long each = by (within p (length above))
-    where
-      within : (a b : ℕ) → (a < b) ⊎ (b ≤ a)
-      within a zero = inr (omega arith)
-      within zero (suc b) = inl (omega arith)
-      within (suc a) (suc b) = lift (within a b)
-        where
-          lift : (a < b) ⊎ (b ≤ a) → (suc a < suc b) ⊎ (suc b ≤ suc a)
-          lift (inl less) = inl (omega (arith, less))
-          lift (inr more) = inr (omega (arith, more))
-
-      past : (lists : List (List ℕ)) (p : ℕ) → length lists ≤ p → get_or lists p [] ≡ []
-      past [] p high = refl
-      past (l ∷ lists) zero high = absurd (never high)
-        where
-          never : suc (length lists) ≤ 0 → ⊥
-          never high = omega (arith, high)
-      past (l ∷ lists) (suc p) high = past lists p (omega (arith, high))
-
-      by : (p < length above) ⊎ (length above ≤ p) → get_or lists p [] ≡ below (Some p) above
-      by (inl low) = each p low
-      by (inr high) = past lists p (omega (arith, high, long)) ∙ sym (none_below p high)

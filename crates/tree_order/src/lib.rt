@@ -2,7 +2,7 @@
 #![tactic(auto)]
 
 mod law;
-mod lists;
+mod linking;
 mod order;
 
 pub use law::no_place_lost;

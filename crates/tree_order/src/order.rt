@@ -1,30 +1,46 @@
-ghost use Rattle.std.specs.Prelude.{◌≡◌, ◌++◌, [], get_or, reverse, IfOk, OnOk};
+ghost use Rattle.std.specs.Prelude.{◌≡◌, ◌++◌, [], None, get_or, IfOk, OnOk};
+ghost use Rattle.std.specs.Option.{option_to_list};
 ghost use Rattle.tree_order.specs.Preorder.{Ascends, preorder};
 
-use crate::lists::{children, roots};
+use crate::linking::{Links, links_of};
 use mvn_shared::{List, Mem};
 use std::alloc::Global;
 
-// Puts places on a stack, the first on top.
-fn push_reversed(stack: &mut Vec<usize>, list: &[usize]) -> Mem<()>
-    ensures { OnOk result (reverse stack.new.items ≡ list.now ++ reverse stack.old.items) }
+// An empty list with room for so many.
+fn with_room(alloc: Global, count: usize) -> Mem<List<usize>>
+    ensures { IfOk result (λ list. list ≡ []) }
 {
-    let mut at = list.len();
-    while at > 0 {
-        at -= 1;
-        stack.push(list[at])?;
+    Ok(List::of(Vec::with_capacity(alloc, count)?))
+}
+
+// Puts a place on a stack, if there is one.
+fn push_link(stack: &mut Vec<usize>, link: Option<usize>) -> Mem<()>
+    ensures { OnOk result (stack.new.items ≡ stack.old.items ++ option_to_list link) }
+{
+    if let Some(place) = link {
+        stack.push(place)?;
     }
     Ok(())
 }
 
-// So what stands below a place.
-fn push_below(stack: &mut Vec<usize>, lists: &[List<usize>], place: usize) -> Mem<()>
-    ensures { OnOk result (reverse stack.new.items
-        ≡ get_or lists.now place [] ++ reverse stack.old.items) }
+// The link at a place, if there is one.
+fn link_at(links: &[Option<usize>], place: usize) -> Option<usize>
+    ensures { result ≡ get_or links.now place None }
 {
-    if let Some(list) = lists.get(place) {
-        push_reversed(stack, list.as_slice())?;
+    match links.get(place) {
+        Some(link) => *link,
+        None => None,
     }
+}
+
+// Puts what comes behind a place on a stack: what stands below it first.
+fn push_behind(stack: &mut Vec<usize>, links: &Links, place: usize) -> Mem<()>
+    ensures { OnOk result (stack.new.items
+        ≡ (stack.old.items ++ option_to_list (get_or links.now.next.items place None))
+        ++ option_to_list (get_or links.now.first.items place None)) }
+{
+    push_link(stack, link_at(links.next.as_slice(), place))?;
+    push_link(stack, link_at(links.first.as_slice(), place))?;
     Ok(())
 }
 
@@ -35,14 +51,13 @@ pub fn preorder(alloc: Global, above: &[Option<usize>]) -> Mem<List<usize>>
     requires { Ascends above.now }
     ensures { IfOk result (λ order. order ≡ preorder above.now) }
 {
-    let roots = roots(alloc, above)?;
-    let lists = children(alloc, above)?;
+    let links = links_of(alloc, above)?;
+    let mut order = with_room(alloc, above.len())?;
     let mut stack = Vec::new(alloc);
-    push_reversed(&mut stack, roots.as_slice())?;
-    let mut order = List::new(alloc);
+    push_link(&mut stack, links.top)?;
     while let Some(place) = stack.pop() {
         order.push(place)?;
-        push_below(&mut stack, &lists, place)?;
+        push_behind(&mut stack, &links, place)?;
     }
     Ok(order)
 }

@@ -3,6 +3,8 @@
 # from a remote repository that is a folder on the same disk into a new local one, by one worker and by four. What is taken off is a run over
 # the local repository that has all of them: planning, reading the classpaths, and the goals. Beside it stands what `cp` of the same files
 # takes, with `sync` of each file and folder behind it, and how often the one goes into the other. The aim is a straight line, and 1.5.
+# Nothing is removed before the end: on a disk without a journal making a file takes the longer the more were removed in the minutes before,
+# so that each run would pay for those before it. Three tries take 2.5 GB of the disk.
 # usage: bench/fetch.sh [TRIES], 3 if absent. The program is the one that MVN names, or bin/mvn.
 . "$(dirname "$0")/common.sh"
 tries=${1-3}
@@ -14,8 +16,8 @@ head='<project><modelVersion>4.0.0</modelVersion><groupId>demo</groupId><version
 
 # COUNT: a project whose modules need so many libraries together, and a remote repository that has them, without POMs
 project() {
-  rm -rf "$MVN_REMOTE" m*
   local module at
+  fresh remote m*
   for module in $(seq 16); do
     mkdir "m$module"
     {
@@ -35,7 +37,13 @@ project() {
 fetch() { "$program" compile -T "$workers" > out || stop "it ended with status $?: $(tail -n 1 out)"; }
 copy() { cp -R "$MVN_REMOTE" copy && find copy -print0 | xargs -0 sync; }
 nothing() { :; }
-fresh() { rm -rf "$MVN_REPO" copy; }
+
+# NAME..: moves what stands under these names aside, where it stays until the end
+fresh() {
+  local aside it
+  aside=$(mktemp -d "$work/aside.XXXXXX")
+  for it in "$@"; do [ ! -e "$it" ] || mv "$it" "$aside"; done
+}
 
 # HOW IT IS PREPARED, WHAT ONE RUN IS: its nanoseconds
 time_of() {
@@ -46,9 +54,9 @@ time_of() {
 first=
 for count in 256 512 1024 2048; do
   project "$count"
-  copied=$(time_of fresh copy)
+  copied=$(time_of 'fresh copy' copy)
   for workers in 1 4; do
-    whole=$(time_of fresh fetch)
+    whole=$(time_of 'fresh repository' fetch)
     again=$(time_of nothing fetch)
     spent=$((whole - again))
     [ -n "$first" ] || first=$spent

@@ -1,10 +1,12 @@
 ghost use Rattle.std.specs.Prelude.{◌≡◌, IfOk};
 ghost use Rattle.model_merge.specs.Keyed.{with_others};
+ghost use Rattle.model_merge.specs.Merging.{key_of_pair};
 ghost use Rattle.inheritance.specs.Inherit.{inherit, inherit_base, inherit_build, inherit_build_base, inherit_coordinates, inherit_outputs, inherit_sources};
 
 use crate::placing::inherited_plugins;
 use model_merge::{Item, settled, stated, stated_list, with_others};
 use model_types::{Build, BuildBase, Coordinates, ModelBase, Outputs, Parent, RawModel, Sources};
+use mvn_base::Pair;
 use mvn_shared::{List, Mem, Shared};
 use std::alloc::Global;
 
@@ -40,17 +42,46 @@ fn taken_over<T: Item>(alloc: Global, child: &[T], parent: &[T]) -> Mem<List<T>>
     with_others(alloc, child, parent)
 }
 
+// A property whose name its copies share.
+fn shared_name(alloc: Global, pair: Pair) -> Mem<Pair>
+    ensures { IfOk result (λ same. same ≡ pair) }
+{
+    let Pair { name, value } = pair;
+    let name = name.shared(alloc)?;
+    Ok(Pair { name, value })
+}
+
+// Properties whose names their copies share: each POM below copies them, and so does what fills its texts.
+fn shared_names(alloc: Global, pairs: List<Pair>) -> Mem<List<Pair>>
+    ensures { IfOk result (λ same. same ≡ pairs) }
+{
+    let mut list = pairs.emptied()?;
+    for pair in pairs.into_vec() {
+        list.push(shared_name(alloc, pair)?)?;
+    }
+    Ok(list)
+}
+
+// The properties of both, as they are taken over.
+fn properties_of(alloc: Global, child: &ModelBase, parent: &ModelBase) -> Mem<List<Pair>>
+    ensures { IfOk result (λ list.
+        list ≡ with_others key_of_pair child.now.properties parent.now.properties) }
+{
+    let properties = taken_over(
+        alloc,
+        child.properties.as_slice(),
+        parent.properties.as_slice(),
+    )?;
+    shared_names(alloc, properties)
+}
+
 // The child's modules, and the lists that are joined by their keys.
 #[tactic(auto, unfolding(crate::specs::Inherit::inherit_base))]
 fn inherit_base(alloc: Global, child: &ModelBase, parent: &ModelBase) -> Mem<ModelBase>
     ensures { IfOk result (λ both. both ≡ inherit_base child.now parent.now) }
 {
     let modules = child.modules.clone()?;
-    let properties = taken_over(
-        alloc,
-        child.properties.as_slice(),
-        parent.properties.as_slice(),
-    )?;
+    let properties = properties_of(alloc, child, parent)?;
     let managed = taken_over(alloc, child.managed.as_slice(), parent.managed.as_slice())?;
     let dependencies = taken_over(
         alloc,

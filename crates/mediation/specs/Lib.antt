@@ -5,3 +5,4 @@ pub mod Found
 pub mod Counting
 pub mod Telling
 pub mod Jars
+pub mod Keys

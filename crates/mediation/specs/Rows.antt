@@ -1,7 +1,7 @@
 -- Winners as they are kept: each with its edge, its version and the place of the winner that it stands below.
 use Rattle.std.specs.Prelude.{◌≡◌, ◌≤◌, ℕ, suc, List, [], ◌∷◌, ◌++◌, fold, find, length, map, position, slice_get, unwrap_or, Option, Some, None, Result, Ok, Err, All}
 use Rattle.std.specs.Option.{option_or}
-use Rattle.model_merge.specs.Keyed.{keyed, same_key}
+use Rattle.model_merge.specs.Keyed.{same_key}
 use Rattle.mvn_base.specs.declared.key.Key.{Key}
 use Rattle.model_types.specs.declared.dependency.Dependency.{Dependency}
 use Rattle.collector.specs.Edges.{transitive_edges}
@@ -13,10 +13,7 @@ use Rattle.mediation.specs.Faults.{Reason}
 use Rattle.mediation.specs.Libraries.{Libraries, chosen, declarations, gav_of, picked}
 use Rattle.winner_law.specs.Winners.{Graph, Path, firsts, winners}
 
--- the key that a winner is kept under, and the winner of a key
-abbrev pub key_of : Winner → Key
-key_of w = w.edge.key
-
+-- the winner of a key
 abbrev pub row_of : List Winner → Key → Option Winner
 row_of rows key = find (λ w. same_key key w.edge.key) rows
 
@@ -91,11 +88,6 @@ won_by libraries e above version = record {
   above = above;
   known = libraries.at (gav_of e.key version);
 }
-
--- winners stand under their keys, and there are at most 16,384
-pub record IsKept (entries : List (Key × Winner)) : Type 0 where
-  pub named : entries ≡ keyed key_of (map (λ e. e.1) entries)
-  pub few : length entries ≤ 16384
 
 -- the winners that there were stand where they stood
 pub record IsPrefix (old new : List Winner) : Type 0 where

@@ -333,7 +333,7 @@ fn room_for(declared: usize) -> usize
 }
 
 // No list yet, with room for a number.
-fn with_room(alloc: Global, room: usize) -> Mem<List<Shared<List<Edge>>>>
+fn with_room<T>(alloc: Global, room: usize) -> Mem<List<T>>
     ensures { IfOk result (λ list. list ≡ []) }
 {
     Ok(List::of(Vec::with_capacity(alloc, room)?))
@@ -358,7 +358,7 @@ pub struct DependencyGraph {
 /// more than 4,096 versions are available, and at the 16,385th winner, whose versions aren't looked up. `Lookup` comes
 /// only where the look-up failed. Costs a look-up for each winner, and the texts of each declaration on the average; for
 /// each winner with a range one look-up more, and each available version is parsed once. Begins with room for 16 times as
-/// many winners as the project has declarations, at most for 16,384. Introduction to the Dependency Mechanism,
+/// many winners and places as the project has declarations, at most for 16,384. Introduction to the Dependency Mechanism,
 /// "Dependency mediation".
 #[tactic(auto, using(crate::proofs::Telling::untold, crate::proofs::Telling::told_both))]
 pub fn find_winners<L: Lookup>(
@@ -382,7 +382,7 @@ pub fn find_winners<L: Lookup>(
     let room = room_for(direct.len());
     let mut winners = Winners::new(alloc, room)?;
     let mut below = with_room(alloc, room)?;
-    let mut places = List::new(alloc);
+    let mut places = with_room(alloc, room)?;
     let own = direct_edges(alloc, direct)?;
     let declared = own.as_slice();
     match add_edges(alloc, lookup, &mut winners, &mut places, declared, None) {

@@ -10,6 +10,7 @@ mod law;
 mod levels;
 mod library;
 mod pick;
+mod row;
 mod winner;
 
 pub use fault::MediationFault;

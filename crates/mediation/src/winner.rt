@@ -3,8 +3,9 @@ ghost use Rattle.std.specs.Option.{option_copied};
 ghost use Rattle.mediation.specs.Rows.{place_of, row_of};
 
 use crate::known::Known;
+use crate::row::Row;
 use collector::Edge;
-use indexmap::IndexMap;
+use indexmap::IndexSet;
 use mvn_base::Key;
 use mvn_shared::{Mem, Text};
 use std::alloc::Global;
@@ -26,24 +27,23 @@ pub struct Winner {
 /// Contracts see it as the list.
 #[derive(Drop)]
 pub struct Winners {
-    index: IndexMap<Key, Winner>,
+    index: IndexSet<Row>,
 }
 
 impl Model for Winners {
     ghost use Rattle.std.specs.Prelude as logic;
-    ghost use Rattle.std.specs.Prelude.{map};
+    ghost use Rattle.std.specs.Prelude.{◌≤◌, length};
     ghost use Rattle.std.specs.Coded.{codes};
     ghost use Rattle.mvn_base.specs.contracts.setting.Setting as settings;
-    ghost use Rattle.mediation.specs.Rows.{IsKept};
     ghost use Rattle.mediation.specs.declared.winner.Winner as winners;
 
     ghost Value = { logic.List winners.Winner };
 
     ghost coded = { Prim.hlevel (codes, settings.the_row.coded) };
 
-    ghost view = { λ w. map (λ e. e.1) w.index.entries };
+    ghost view = { λ w. w.index.keys };
 
-    ghost invariant = { λ w. IsKept w.index.entries };
+    ghost invariant = { λ w. length w.index.keys ≤ 16384 };
 }
 
 impl Winners {
@@ -51,7 +51,7 @@ impl Winners {
     pub(crate) fn new(alloc: Global, room: usize) -> Mem<Winners>
         ensures { IfOk result (λ winners. winners ≡ []) }
     {
-        let index = IndexMap::with_capacity(alloc, room)?;
+        let index = IndexSet::with_capacity(alloc, room)?;
         Ok(Winners { index })
     }
 
@@ -62,8 +62,7 @@ impl Winners {
         ensures more { OnOk result (self.new ≡ self.old ++ winner ∷ []) }
         ensures placed { OnOk result (place_of self.new winner.edge.key ≡ Some (length self.old)) }
     {
-        let key = winner.edge.key.clone()?;
-        self.index.insert(key, winner)?;
+        self.index.insert(Row { winner })?;
         Ok(())
     }
 
@@ -80,7 +79,10 @@ impl Winners {
     pub fn find(&self, key: &Key) -> Option<&Winner>
         ensures { option_copied result ≡ row_of self.now key.now }
     {
-        self.index.get(key)
+        match self.index.get(key) {
+            Some(row) => Some(&row.winner),
+            None => None,
+        }
     }
 
     /// The winner at a place. Constant time.
@@ -88,7 +90,7 @@ impl Winners {
         ensures { option_copied result ≡ slice_get self.now place }
     {
         match self.index.get_index(place) {
-            Some((_, winner)) => Some(winner),
+            Some(row) => Some(&row.winner),
             None => None,
         }
     }

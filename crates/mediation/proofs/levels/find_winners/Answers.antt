@@ -20,8 +20,8 @@ loop-from-init g c = record {
       (c.in-Ok.ensures.adds libraries [] fits refl);
   below = c.in_ok-below.ensures;
   placed =
-      own_placed c.in_ok-winners.winners c.add_edges.new.winners c.as_slice-declared.result.now (direct_edges c.args.direct.now) c.in_ok-below.below c.new-places.result c.add_edges.new.places
-      c.new-places.ensures c.in_ok-below.ensures (c.as_slice-declared.ensures ∙ c.in_ok-own.ensures) c.in-Ok.ensures.placed;
+      own_placed c.in_ok-winners.winners c.add_edges.new.winners c.as_slice-declared.result.now (direct_edges c.args.direct.now) c.in_ok-below.below c.in_ok-places.places c.add_edges.new.places
+      c.in_ok-places.ensures c.in_ok-below.ensures (c.as_slice-declared.ensures ∙ c.in_ok-own.ensures) c.in-Ok.ensures.placed;
   fit = λ libraries fits. c.in-Ok.ensures.same libraries fits;
   alike = c.in-Ok.ensures.alike;
   faults = c.in-Ok.ensures.cause;

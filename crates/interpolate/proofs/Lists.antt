@@ -127,3 +127,11 @@ setting_fails known s name text new (Refused r at) named has fails =
     setting_filled known s
     ∙ chain _ (ap (λ n. text_of known n (out-Setting s).text) (sym named) ∙ has) (ap (λ c. c >>= (λ children. Ok (roll-Setting (record { name = (out-Setting s).name; text = text; children = children })))) fails)
 setting_fails known s name text new Memory named has fails = record {}
+
+-- a list without length is empty
+pub no_items : {A : Type 0} (xs : List A) → length xs ≡ 0 → xs ≡ []
+no_items [] e = refl
+no_items (x ∷ xs) e = absurd (some_items (length xs) e)
+  where
+    some_items : (n : ℕ) → suc n ≡ 0 → ⊥
+    some_items n e = omega (arith, e)

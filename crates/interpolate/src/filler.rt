@@ -173,16 +173,25 @@ fn add(fresh: &mut HashMap<Text, Text>, pair: Pair) -> Mem<()>
     Ok(())
 }
 
+// The names with their texts, of equal names the last one.
+fn texts_of(alloc: Global, pairs: List<Pair>) -> Mem<HashMap<Text, Text>>
+    ensures { IfOk result (λ texts. (q : Items ℕ) →
+        get bytes_eq texts q ≡ last_named pairs q) }
+{
+    let mut texts = HashMap::with_capacity(alloc, pairs.len())?;
+    for pair in pairs.into_vec() {
+        add(&mut texts, pair)?;
+    }
+    Ok(texts)
+}
+
 impl Filler {
     /// All that can be named, of equal names the last one, and nothing begun. Costs the names, on the average.
     #[tactic(auto, unfolding(crate::specs::Tables::IsTable))]
     pub(crate) fn of(alloc: Global, pairs: List<Pair>) -> Mem<Filler>
         ensures { IfOk result (IsTable pairs []) }
     {
-        let mut fresh = HashMap::new(alloc);
-        for pair in pairs.into_vec() {
-            add(&mut fresh, pair)?;
-        }
+        let fresh = texts_of(alloc, pairs)?;
         Ok(Filler {
             fresh,
             begun: HashMap::new(alloc),

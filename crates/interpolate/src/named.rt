@@ -1,4 +1,4 @@
-ghost use Rattle.std.specs.Prelude.{◌≡◌, ◌++◌, OnOk, IfOk};
+ghost use Rattle.std.specs.Prelude.{◌≡◌, ◌++◌, [], OnOk, IfOk};
 ghost use Rattle.std.specs.Option.{option_copied};
 ghost use Rattle.interpolate.specs.Named.{behind, build_fields, coordinate_fields, field, fields, named, output_fields, own_fields, parent_fields, source_fields};
 
@@ -149,6 +149,23 @@ fn push_all(list: &mut List<Pair>, pairs: &[Pair]) -> Mem<()>
     Ok(())
 }
 
+/// More names than the fields of a model have, alone and behind both fronts.
+const FIELDS: usize = 32;
+
+// An empty list, with room for what can be named.
+fn with_room(alloc: Global, raw: &RawModel, machine: &Machine, defines: &[Pair]) -> Mem<List<Pair>>
+    ensures { IfOk result (λ list. list ≡ []) }
+{
+    let room = machine
+        .system
+        .len()
+        .saturating_add(machine.env.len())
+        .saturating_add(raw.base.properties.len())
+        .saturating_add(defines.len())
+        .saturating_add(FIELDS);
+    Ok(List::of(Vec::with_capacity(alloc, room)?))
+}
+
 /// All that can be named in a model, from what counts least on. Costs all of it.
 #[tactic(auto, unfolding(crate::specs::Named::named))]
 pub(crate) fn named(
@@ -162,7 +179,7 @@ pub(crate) fn named(
         list ≡ named raw.now (option_copied basedir.entry) machine.now defines.now) }
 {
     let fields = fields(alloc, raw, basedir)?;
-    let mut list = List::new(alloc);
+    let mut list = with_room(alloc, raw, machine, defines)?;
     push_own(alloc, &mut list, raw, basedir)?;
     push_all(&mut list, machine.system.as_slice())?;
     push_behind(alloc, &mut list, "env.", machine.env.as_slice())?;

@@ -4,7 +4,7 @@ use Rattle.std.specs.Option.{option_or}
 use Rattle.std.specs.Str.{bytes_eq}
 use Rattle.std.specs.Vec.Iter.{into_iter_items}
 use Rattle.expressions.specs.Named.{last_named}
-use Rattle.interpolate.proofs.filler.Filler.of.Given as goal
+use Rattle.interpolate.proofs.filler.texts_of.Given as goal
 
 abbrev pub invariant-loop-pair : goal.invariant-loop-pair
-invariant-loop-pair l = (q : List ℕ) → option_or (last_named (into_iter_items l.pair-iterator) q) (get bytes_eq l.fresh q) ≡ last_named l.fn.pairs q
+invariant-loop-pair l = (q : List ℕ) → option_or (last_named (into_iter_items l.pair-iterator) q) (get bytes_eq l.texts q) ≡ last_named l.fn.pairs q

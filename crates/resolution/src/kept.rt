@@ -1,5 +1,6 @@
 // Rows that projects are built with, each held once.
 ghost use Rattle.std.specs.Prelude.{◌≡◌, true, IfOk, IfSome};
+ghost use Rattle.std.specs.HashMap.{IsEmpty};
 ghost use Rattle.mediation.specs.Libraries.{gav_of};
 ghost use Rattle.resolution.specs.Resolved.{resolved};
 
@@ -21,7 +22,9 @@ pub struct KeptRows {
 
 impl KeptRows {
     /// No rows yet. Takes no memory.
-    pub fn new(alloc: Global) -> KeptRows {
+    pub fn new(alloc: Global) -> KeptRows
+        ensures { IsEmpty result.rows }
+    {
         KeptRows {
             rows: HashMap::new(alloc),
         }

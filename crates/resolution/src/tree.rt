@@ -1,4 +1,4 @@
-ghost use Rattle.std.specs.Prelude.{◌≡◌, ◌++◌, map, slice_get, IfOk, OnOk};
+ghost use Rattle.std.specs.Prelude.{◌≡◌, ◌++◌, [], map, slice_get, IfOk, OnOk};
 ghost use Rattle.std.specs.Option.{option_to_list};
 ghost use Rattle.resolution.specs.Resolved.{above_at, aboves_from, earlier, tree_order};
 
@@ -28,11 +28,18 @@ fn add_above(list: &mut List<Option<usize>>, winners: &Winners, place: usize) ->
     Ok(())
 }
 
+// An empty list with room for so many places.
+fn with_room(alloc: Global, count: usize) -> Mem<List<Option<usize>>>
+    ensures { IfOk result (λ list. list ≡ []) }
+{
+    Ok(List::of(Vec::with_capacity(alloc, count)?))
+}
+
 // The places above the winners.
 fn aboves(alloc: Global, winners: &Winners) -> Mem<List<Option<usize>>>
     ensures { IfOk result (λ list. list ≡ aboves_from 0 winners.now) }
 {
-    let mut list = List::new(alloc);
+    let mut list = with_room(alloc, winners.len())?;
     for place in 0..winners.len() {
         add_above(&mut list, winners, place)?;
     }

@@ -3,3 +3,4 @@ pub mod Placing
 pub mod Problems
 pub mod Validity
 pub mod Scoping
+mod Declaring

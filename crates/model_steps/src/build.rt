@@ -2,6 +2,7 @@ ghost use Rattle.std.specs.Prelude.{◌≡◌, false, IfOk};
 ghost use Rattle.pom_source.specs.Answers.{Says, build_failed};
 ghost use Rattle.model_steps.specs.Building.{bound_base, built, built_by};
 ghost use Rattle.lifecycle.specs.Bindings.{bindings};
+ghost use Rattle.managed_deps.specs.Managed.{apply_plugins};
 
 use crate::texts::is_of_project;
 use lifecycle::{bind, bindings};
@@ -12,6 +13,22 @@ use mvn_shared::{List, Mem, Shared, Text};
 use pom_source::{BuildFault, text_refused};
 use std::alloc::Global;
 
+// The declared plugins under their managed entries, at which nothing looks where no plugin is declared.
+#[tactic(auto, using(crate::proofs::Declaring::none_declared))]
+fn declared_of(alloc: Global, base: &BuildBase) -> Mem<List<Shared<Plugin>>>
+    ensures { IfOk result (λ list.
+        list ≡ apply_plugins base.now.plugins base.now.managed_plugins) }
+{
+    if base.plugins.len() == 0 {
+        return Ok(List::new(alloc));
+    }
+    apply_plugins(
+        alloc,
+        base.plugins.as_slice(),
+        base.managed_plugins.as_slice(),
+    )
+}
+
 // The declared plugins under their managed entries, and the bound ones.
 fn bound_base(
     alloc: Global,
@@ -21,7 +38,7 @@ fn bound_base(
     ensures { IfOk result (λ it. it ≡ bound_base base.now bound) }
 {
     let managed = base.managed_plugins.as_slice();
-    let declared = apply_plugins(alloc, base.plugins.as_slice(), managed)?;
+    let declared = declared_of(alloc, base)?;
     let plugins = bind(alloc, declared.as_slice(), managed, bound)?;
     let managed_plugins = base.managed_plugins.clone()?;
     let base = BuildBase {

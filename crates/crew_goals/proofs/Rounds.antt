@@ -37,7 +37,6 @@ use Rattle.worker_law.specs.Others.{HasAll}
 use Rattle.atomic_table.specs.Seated.{TableId}
 use Rattle.board.specs.Builds.{answer_kept}
 use Rattle.board.specs.declared.kept.Opened.{Opened}
-use Rattle.board.specs.declared.next.AnswerKept.{AnswerKept}
 use Rattle.crew_laws.specs.Gathered.{needed_of}
 use Rattle.crew_laws.proofs.Answering.{begun}
 use Rattle.crew_paths.specs.Asking.{IsRequestOf, asked}
@@ -282,20 +281,19 @@ module _ (t : ModuleTask) (lock : TableId) (paths : List PathEntry) (goal : ℕ)
       left_by (Some (ending.Fault d)) end = absurd end
 
     -- as its answer is settled
-    module _ (mid : GoalRequest) (own : List OwnBytes) (call : GoalCall) (answer copy : GoalAnswer) (list : List PathEntry) (k : AnswerKept) (stop : Option Ending)
-        (at : slice_get t.unit.goals goal ≡ Some call) (same : copy ≡ answer) (goals : (stood_by t pass).goals ≡ goals_with t before goal copy)
-        (kept : k ≡ answer_kept goal (stood_by t pass).goals) (asks : mid ≡ asked request call list) (settles : SettlesAnswer goal call.slot k answer mid.own own stop) where
+    module _ (mid : GoalRequest) (own : List OwnBytes) (call : GoalCall) (answer : GoalAnswer) (list : List PathEntry) (stop : Option Ending)
+        (at : slice_get t.unit.goals goal ≡ Some call) (goals : (stood_by t pass).goals ≡ goals_with t before goal answer) (asks : mid ≡ asked request call list)
+        (settles : SettlesAnswer goal call.slot (answer_kept goal (stood_by t pass).goals) answer mid.own own stop) where
       goals_are : (stood_by t pass).goals ≡ one_goal t.unit.budget goal call.slot answer request.own all_answered
       goals_are =
           goals
-          ∙ ap (λ o. one_goal t.unit.budget goal (option_map_or (λ (c : GoalCall). c.slot) o Nowhere) copy (kept_of (stood_by t before).goals) all_answered) at
-          ∙ ap (λ a. one_goal t.unit.budget goal call.slot a (kept_of (stood_by t before).goals) all_answered) same
+          ∙ ap (λ o. one_goal t.unit.budget goal (option_map_or (λ (c : GoalCall). c.slot) o Nowhere) answer (kept_of (stood_by t before).goals) all_answered) at
           ∙ ap (λ o. one_goal t.unit.budget goal call.slot answer o all_answered) (sym stands.asks.is.own)
 
       ends_so : EndsSo goal (one_goal t.unit.budget goal call.slot answer request.own all_answered) own stop
       ends_so =
-          settled t.unit.budget goal call.slot request.own own k answer stop (kept ∙ ap (answer_kept goal) goals_are)
-          (subst (λ o. SettlesAnswer goal call.slot k answer o own stop) (ap (λ (r : GoalRequest). r.own) asks) settles)
+          settled t.unit.budget goal call.slot request.own own (answer_kept goal (stood_by t pass).goals) answer stop (ap (answer_kept goal) goals_are)
+          (subst (λ o. SettlesAnswer goal call.slot (answer_kept goal (stood_by t pass).goals) answer o own stop) (ap (λ (r : GoalRequest). r.own) asks) settles)
 
       pub left_of : IsLeft t lock paths (goal + 1) (record mid { own = own }) stop pass
       left_of = left_by (record mid { own = own }) call answer at goals_are (ap (λ (r : GoalRequest). r.«module») asks) (ap (λ (r : GoalRequest). r.sources) asks) stop ends_so

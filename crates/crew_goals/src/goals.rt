@@ -3,15 +3,20 @@ ghost use Rattle.std.specs.Prelude.{◌≡◌, ◌+◌, ◌<◌, ℕ, Bool, true
 ghost use Rattle.mvn_shared.specs.Cause.{HasCause};
 ghost use Rattle.mvn_shared.specs.Files.{Files};
 ghost use Rattle.goal_types.specs.Goals.{HasOwnSlots};
+ghost use Rattle.goal_types.specs.declared.goal.GoalAnswer.TheVariants.{Produced};
 ghost use Rattle.build_core.specs.Slots.{kept_of};
 ghost use Rattle.build_core.specs.declared.ending.Device.TheVariants as device;
-ghost use Rattle.crew_stages.specs.Asked.{KeepsOwn, SettlesAnswer};
+ghost use Rattle.build_core.specs.declared.event.Event.TheVariants as event;
+ghost use Rattle.event_core.specs.Worlds.{FitsAnswer, HandTold};
+ghost use Rattle.event_core.specs.declared.entry.Carried.TheVariants as carried;
+ghost use Rattle.board.specs.Builds.{answer_kept};
+ghost use Rattle.crew_stages.specs.Asked.{KeepsOwn, SettlesAnswer, goals_with};
 ghost use Rattle.crew_stages.specs.Endings.{fails_by, is_goal_end, stops_by};
 ghost use Rattle.crew_stages.specs.Hands.{told_by};
 ghost use Rattle.crew_stages.specs.Paths.{IsPath};
 ghost use Rattle.crew_laws.specs.Gathered.{needed_of};
 ghost use Rattle.crew_paths.specs.Asking.{asked};
-ghost use Rattle.crew_turns.specs.Seen.{Follows, IsOf, KeepsFit, names_by};
+ghost use Rattle.crew_turns.specs.Seen.{Follows, IsOf, KeepsFit, Steps, names_by};
 ghost use Rattle.crew_stages.specs.Stages.{HasAnswered};
 ghost use Rattle.crew_stages.specs.Stops.{MayStop};
 ghost use Rattle.crew_turns.specs.Tasks.{stood_by};
@@ -31,14 +36,11 @@ use std::mem;
 use std::sync::Wait;
 use turn_lock::{Pass, TurnLock};
 
-fn copy_of_answer(answer: &GoalAnswer) -> Mem<GoalAnswer>
-    ensures { IfOk result (λ copy. copy ≡ answer.now) }
+// A copy of an output.
+fn copy_of_output(bytes: &Bytes) -> Mem<Bytes>
+    ensures { IfOk result (λ copy. copy ≡ bytes.now) }
 {
-    match answer {
-        GoalAnswer::Done => Ok(GoalAnswer::Done),
-        GoalAnswer::Produced(bytes) => Ok(GoalAnswer::Produced(bytes.clone()?)),
-        GoalAnswer::Failed(text) => Ok(GoalAnswer::Failed(text.clone()?)),
-    }
+    Ok(bytes.clone()?)
 }
 
 // Puts an output into its slot.
@@ -58,24 +60,88 @@ fn put_output(alloc: Global, slot: Slot, bytes: Bytes, own: &mut List<OwnBytes>)
     }
 }
 
-// What an answer makes of the module: whether it ends by it, and the outputs that it keeps.
-fn settle_answer(
+// Puts a copy of an output into its slot. Where that is none, nothing is copied.
+fn put_copy(alloc: Global, slot: Slot, bytes: &Bytes, own: &mut List<OwnBytes>) -> Option<Ending>
+    ensures { KeepsOwn slot bytes.now own.old own.new result }
+{
+    if slot == Slot::Nowhere {
+        return None;
+    }
+    let Ok(copy) = copy_of_output(bytes) else {
+        return Some(Ending::Memory);
+    };
+    put_output(alloc, slot, copy, own)
+}
+
+// Keeps an output as its goal's answer, also where memory for the copy in its slot is missing. Says how the module ends, if it does.
+fn take_output<'b, W: Wait, S: Shelf>(
     alloc: Global,
+    rt: &W,
+    lock: &TurnLock<Board<'b, S>>,
+    pass: &mut Pass<Board<'b, S>>,
+    task: &Task,
     goal: u32,
     slot: Slot,
-    kept: AnswerKept,
+    bytes: Bytes,
+    own: &mut List<OwnBytes>,
+) -> Option<Ending>
+    requires of { IsOf task.now.plan lock.now task.now.worker pass.old }
+    requires good { (last : Option ℕ) × HasAnswered task.now goal last pass.old }
+    requires some_goal { goal < length task.now.unit.goals }
+    ensures step { Steps task.now.plan lock.now task.now.worker
+        (event.Answer task.now.worker goal) pass.old pass.new }
+    ensures goals { (stood_by task.now pass.new).goals
+        ≡ goals_with task.now pass.old goal (Produced bytes) }
+    ensures settles { SettlesAnswer goal slot (answer_kept goal
+        (stood_by task.now pass.new).goals) (Produced bytes) own.old own.new result }
+    ensures fits { (told : HandTold) → FitsAnswer (stood_by task.now pass.old) told goal
+        (carried.Answered (Produced bytes))
+        → KeepsFit task.now.plan task.now.worker told pass.old pass.new }
+{
+    let stop = put_copy(alloc, slot, &bytes, own);
+    match keep_answer(rt, lock, pass, task, goal, GoalAnswer::Produced(bytes)) {
+        AnswerKept::TooLarge => Some(Ending::OutputTooLarge(goal)),
+        AnswerKept::Held => stop,
+    }
+}
+
+// Keeps an answer, whatever it is. Says how the module ends, if it does.
+fn take_answer<'b, W: Wait, S: Shelf>(
+    alloc: Global,
+    rt: &W,
+    lock: &TurnLock<Board<'b, S>>,
+    pass: &mut Pass<Board<'b, S>>,
+    task: &Task,
+    goal: u32,
+    slot: Slot,
     answer: GoalAnswer,
     own: &mut List<OwnBytes>,
 ) -> Option<Ending>
-    ensures { SettlesAnswer goal slot kept answer own.old own.new result }
+    requires of { IsOf task.now.plan lock.now task.now.worker pass.old }
+    requires good { (last : Option ℕ) × HasAnswered task.now goal last pass.old }
+    requires some_goal { goal < length task.now.unit.goals }
+    ensures step { Steps task.now.plan lock.now task.now.worker
+        (event.Answer task.now.worker goal) pass.old pass.new }
+    ensures goals { (stood_by task.now pass.new).goals
+        ≡ goals_with task.now pass.old goal answer }
+    ensures settles { SettlesAnswer goal slot (answer_kept goal
+        (stood_by task.now pass.new).goals) answer own.old own.new result }
+    ensures fits { (told : HandTold)
+        → FitsAnswer (stood_by task.now pass.old) told goal (carried.Answered answer)
+        → KeepsFit task.now.plan task.now.worker told pass.old pass.new }
 {
     match answer {
-        GoalAnswer::Done => None,
-        GoalAnswer::Failed(_) => Some(Ending::Goal(goal)),
-        GoalAnswer::Produced(bytes) => match kept {
-            AnswerKept::TooLarge => Some(Ending::OutputTooLarge(goal)),
-            AnswerKept::Held => put_output(alloc, slot, bytes, own),
-        },
+        GoalAnswer::Done => {
+            let _kept = keep_answer(rt, lock, pass, task, goal, GoalAnswer::Done);
+            None
+        }
+        GoalAnswer::Failed(text) => {
+            let _kept = keep_answer(rt, lock, pass, task, goal, GoalAnswer::Failed(text));
+            Some(Ending::Goal(goal))
+        }
+        GoalAnswer::Produced(bytes) => {
+            take_output(alloc, rt, lock, pass, task, goal, slot, bytes, own)
+        }
     }
 }
 
@@ -133,11 +199,17 @@ fn answer_goal<'b, W: Wait, S: Shelf, G: Gate>(
         Ok(answer) => answer,
         Err(ending) => return Some(ending),
     };
-    let Ok(copy) = copy_of_answer(&answer) else {
-        return Some(Ending::Memory);
-    };
-    let kept = keep_answer(rt, lock, pass, task, goal, copy);
-    settle_answer(alloc, goal, call.slot, kept, answer, &mut request.own)
+    take_answer(
+        alloc,
+        rt,
+        lock,
+        pass,
+        task,
+        goal,
+        call.slot,
+        answer,
+        &mut request.own,
+    )
 }
 
 // Asks all goals in order until one stops them, from a request of the module without outputs.
@@ -203,8 +275,9 @@ fn ask_goals<'b, W: Wait, S: Shelf, G: Gate>(
 
 /// Asks the module's goals in order until one stops them: the outputs that are kept then, or how the module ends. A goal that failed or
 /// whose output is too large stops them, and so does a gate that failed. A module of 2^32 goals or more ends for want of memory. Each
-/// goal is asked outside turns, and its answer kept in one. May wait for the turns. Costs the sources once, and for each goal the bytes
-/// of its classpath and its output once more. Introduction to the Build Lifecycle, for the order; project rule for the rest.
+/// goal is asked outside turns, and its answer kept in one, also where memory for the module's copy of its output is missing. May wait
+/// for the turns. Costs the sources once, and for each goal the bytes of its classpath, and once more those of an output that has a
+/// slot. Introduction to the Build Lifecycle, for the order; project rule for the rest.
 pub fn answer_goals<'b, W: Wait, S: Shelf, G: Gate>(
     alloc: Global,
     rt: &W,

@@ -3,11 +3,13 @@
 # from a remote repository that is a folder on the same disk into a new local one, by one worker and by four. What is taken off is a run over
 # the local repository that has all of them: planning, reading the classpaths, and the goals. Beside it stands what `cp` of the same files
 # takes, with `sync` of each file and folder behind it, and how often the one goes into the other. The aim is a straight line, and 1.5.
+# They run in turns, each behind a `sync` of the disk, so that what the disk does later for one run is paid by none, and each is the least
+# of its tries.
 # Nothing is removed before the end: on a disk without a journal making a file takes the longer the more were removed in the minutes before,
-# so that each run would pay for those before it. Three tries take 2.5 GB of the disk.
-# usage: bench/fetch.sh [TRIES], 3 if absent. The program is the one that MVN names, or bin/mvn.
+# so that each run would pay for those before it. Five tries take 4 GB of the disk.
+# usage: bench/fetch.sh [TRIES], 5 if absent. The program is the one that MVN names, or bin/mvn.
 . "$(dirname "$0")/common.sh"
-tries=${1-3}
+tries=${1-5}
 [[ $tries =~ ^[1-9][0-9]*$ ]] || stop "usage: fetch.sh [TRIES]"
 want_mvn
 export MVN_REPO=$work/repository MVN_REMOTE=$work/remote
@@ -45,22 +47,29 @@ fresh() {
   for it in "$@"; do [ ! -e "$it" ] || mv "$it" "$aside"; done
 }
 
-# HOW IT IS PREPARED, WHAT ONE RUN IS: its nanoseconds
-time_of() {
-  eval "prepare() { $1; }; once() { $2; }"
-  least "$tries"
+# NAME, HOW IT IS PREPARED, WHAT ONE RUN IS: runs it once behind a sync; `best_NAME` is the least of its nanoseconds so far
+turn() {
+  local spent
+  eval "prepare() { $2; sync; }; once() { $3; }"
+  spent=$(least 1)
+  eval "if [ -z \"\${best_$1}\" ] || [ $spent -lt \"\${best_$1}\" ]; then best_$1=$spent; fi"
 }
 
 first=
 for count in 256 512 1024 2048; do
   project "$count"
-  copied=$(time_of 'fresh copy' copy)
+  best_copied= best_whole1= best_again1= best_whole4= best_again4=
+  for _ in $(seq "$tries"); do
+    turn copied 'fresh copy' copy
+    for workers in 1 4; do
+      turn "whole$workers" 'fresh repository' fetch
+      turn "again$workers" nothing fetch
+    done
+  done
   for workers in 1 4; do
-    whole=$(time_of 'fresh repository' fetch)
-    again=$(time_of nothing fetch)
-    spent=$((whole - again))
+    eval "spent=\$((best_whole$workers - best_again$workers))"
     [ -n "$first" ] || first=$spent
-    awk -v count="$count" -v workers="$workers" -v spent="$spent" -v first="$first" -v copied="$copied" \
+    awk -v count="$count" -v workers="$workers" -v spent="$spent" -v first="$first" -v copied="$best_copied" \
       'BEGIN { printf "files %5d  workers %d  fetched in %9.2f ms  ratio %5.2f  cp and sync %9.2f ms  %5.2f times\n", count, workers, spent / 1e6, spent / first, copied / 1e6, spent / copied }'
   done
 done

@@ -1,7 +1,9 @@
 mod Composed
 mod FirstOfEach
+mod Injected
 mod Keys
 mod Merges
+mod Once
 mod Places
 mod Plugins
 mod Worked

@@ -1,2 +1,4 @@
+pub mod Injected
 pub mod Keys
+pub mod Once
 pub mod Stated

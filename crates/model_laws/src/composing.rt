@@ -1,4 +1,4 @@
-ghost use Rattle.std.specs.Prelude.{◌≡◌, true, List, [], ◌++◌, Some};
+ghost use Rattle.std.specs.Prelude.{◌≡◌, ℕ, true, List, [], ◌++◌, Some};
 ghost use Rattle.model_types.specs.declared.dependency.Dependency as dependencies;
 ghost use Rattle.model_types.specs.declared.model.RawModel as models;
 ghost use Rattle.model_types.specs.declared.plugin.Plugin as plugins;
@@ -7,8 +7,9 @@ ghost use Rattle.model_merge.specs.Merging.{key_of_dependency, key_of_plugin, me
 ghost use Rattle.inheritance.specs.Inherit.{inherit};
 ghost use Rattle.inheritance.specs.Placing.{inheritable, inherited_plugins};
 ghost use Rattle.managed_deps.specs.Managed.{apply_one, apply_plugins, first_of_each};
-ghost use Rattle.profile_injection.specs.Injection.{inject};
+ghost use Rattle.profile_injection.specs.Injection.{inject, profiles_at};
 ghost use Rattle.lifecycle.specs.Bindings.{bound_to, undeclared};
+ghost use Rattle.model_laws.specs.Injected.{HasKeysOfBoth, IsStatedByProfiles};
 ghost use Rattle.model_laws.specs.Keys.{IsJoin, each_once};
 ghost use Rattle.model_laws.specs.Stated.{IsManagedAlone, IsStatedFirst, Managed, Stays, managed_list, names, settled_model};
 
@@ -29,6 +30,20 @@ pub fn inherited_names()
 /// Reference, "Profiles".
 pub fn no_profile_settles()
     ensures { (raw : models.RawModel) → inject raw [] ≡ settled_model raw }
+{}
+
+/// A law of profiles: a property, a dependency and a managed dependency that an active profile states is the profile's, of several the
+/// last one's; under other keys stands what the POM states. POM Reference, "Profiles"; which profile counts is a project rule.
+pub fn profile_wins()
+    ensures { (raw : models.RawModel) (places : List ℕ)
+        → IsStatedByProfiles raw (profiles_at raw.profiles places) (inject raw places) }
+{}
+
+/// A law of profiles: the keys of a POM's properties, dependencies, managed dependencies, plugins and managed plugins are its own and
+/// those of its active profiles, each once. POM Reference, "Profiles".
+pub fn profiles_add_keys()
+    ensures { (raw : models.RawModel) (places : List ℕ)
+        → HasKeysOfBoth raw (profiles_at raw.profiles places) (inject raw places) }
 {}
 
 /// A law of managed dependencies: a declaration keeps its key, and the version and the scope that it states. Introduction to the

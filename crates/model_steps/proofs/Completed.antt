@@ -10,6 +10,7 @@ use Rattle.model_types.specs.declared.build.BuildBase.{BuildBase}
 use Rattle.model_types.specs.declared.dependency.Dependency.{Dependency}
 use Rattle.model_types.specs.declared.model.Model.{Model}
 use Rattle.model_types.specs.declared.model.RawModel.{RawModel}
+use Rattle.model_merge.specs.Keyed.{settled}
 use Rattle.managed_deps.specs.Managed.{add, all_entries, apply_one, find_pair, first_of_each, is_import, key_of, own_entries}
 use Rattle.model_steps.specs.Assembly.{kept_as, managed_set, model_of, with_scope}
 use Rattle.model_steps.specs.Valid.{has_no_import, is_scoped}
@@ -25,7 +26,7 @@ all_scoped (d ∷ ds) = and_from _ _ (stated d.scope (codes "compile")) (all_sco
 
 model_scoped : (raw : RawModel) (base : BuildBase) (imports : List (List Dependency)) → is_scoped (model_of raw base imports) ≡ true
 unfolding model_of
-model_scoped raw base imports = all_scoped (map (apply_one (managed_set raw.base.managed imports)) (kept_as raw.pom raw.base.dependencies))
+model_scoped raw base imports = all_scoped (map (apply_one (managed_set raw.base.managed imports)) (kept_as raw.pom (settled key_of raw.base.dependencies)))
 
 -- each dependency of an effective model has a scope
 pub scoped : (raw : RawModel) (base : BuildBase) (imports : List (List Dependency)) (model : Model) → model ≡ model_of raw base imports → is_scoped model ≡ true

@@ -15,6 +15,8 @@ use Rattle.model_types.specs.declared.model.Model.{Model}
 use Rattle.model_types.specs.declared.model.ModelBase.{ModelBase}
 use Rattle.model_types.specs.declared.model.Parent.{Parent}
 use Rattle.model_types.specs.declared.model.RawModel.{RawModel}
+use Rattle.model_merge.specs.Keyed.{settled}
+use Rattle.model_merge.specs.Merging.{key_of_dependency, key_of_extension, settled_plugins}
 use Rattle.managed_deps.specs.Managed.{all_entries, apply_one, first_of_each, is_scope}
 
 -- a dependency that nobody gets who depends on the POM
@@ -45,9 +47,10 @@ with_scope d = record {
 abbrev pub managed_set : List Dependency → List (List Dependency) → List (Key × Dependency)
 managed_set own imports = first_of_each (all_entries own imports)
 
--- the dependencies that count, as managed, each with a scope
+-- the dependencies that count, of equal keys the last one, as managed, each with a scope. Expressions may have made keys equal
 abbrev pub completed : PomId → List (Key × Dependency) → List Dependency → List Dependency
-completed pom set dependencies = map with_scope (map (apply_one set) (kept_as pom dependencies))
+completed pom set dependencies =
+    map with_scope (map (apply_one set) (kept_as pom (settled key_of_dependency dependencies)))
 
 -- the coordinates; a text that is missing is empty
 abbrev pub gav_of : Coordinates → Gav
@@ -61,8 +64,26 @@ base_of pom set b = record {
   dependencies = completed pom set b.dependencies;
 }
 
+-- plugins of which each name has one, and each is settled
+abbrev pub settled_base : BuildBase → BuildBase
+settled_base base = record {
+  plugins = settled_plugins base.plugins;
+  managed_plugins = settled_plugins base.managed_plugins;
+}
+
+-- the plugins of a module are settled when goals are bound; those of a POM by coordinates, which isn't built, are settled here
+abbrev pub plugins_as : PomId → BuildBase → BuildBase
+plugins_as (ids.Path path) base = base
+plugins_as (ids.Gav gav) base = settled_base base
+
+-- a build with these plugins, of extensions of equal keys the last one
 abbrev pub build_of : Build → BuildBase → Build
-build_of b base = record { outputs = b.outputs; sources = b.sources; base = base; extensions = b.extensions }
+build_of b base = record {
+  outputs = b.outputs;
+  sources = b.sources;
+  base = base;
+  extensions = settled key_of_extension b.extensions;
+}
 
 -- the effective model of a filled one, of its plugins, and of what each of its imports manages
 unfoldable pub model_of : RawModel → BuildBase → List (List Dependency) → Model
@@ -72,5 +93,5 @@ model_of raw base imports = record {
   packaging = raw.coordinates.packaging;
   parent = option_map (λ (p : Parent). p.gav) raw.parent;
   base = base_of raw.pom (managed_set raw.base.managed imports) raw.base;
-  build = build_of raw.build base;
+  build = build_of raw.build (plugins_as raw.pom base);
 }

@@ -7,16 +7,17 @@ use Rattle.model_types.specs.declared.build.BuildBase.{BuildBase}
 use Rattle.model_types.specs.declared.model.RawModel.{RawModel}
 use Rattle.model_types.specs.declared.plugin.Plugin.{Plugin}
 use Rattle.lifecycle.specs.Bindings.{bindings, bound_to}
+use Rattle.model_merge.specs.Merging.{settled_plugins}
 use Rattle.managed_deps.specs.Managed.{apply_plugins}
 use Rattle.profile_activation.specs.Activation.{is_of_project}
 use Rattle.pom_source.specs.Answers.{Built}
 use Rattle.pom_source.specs.Refusals.{text_refused}
 
--- the declared plugins under their managed entries, and the bound ones
+-- the declared plugins under their managed entries, and the bound ones; expressions may have made keys equal, so all are settled
 abbrev pub bound_base : BuildBase → List Plugin → BuildBase
 bound_base base bound = record {
   plugins = bound_to (apply_plugins base.plugins base.managed_plugins) base.managed_plugins bound;
-  managed_plugins = base.managed_plugins;
+  managed_plugins = settled_plugins base.managed_plugins;
 }
 
 -- the plugins of a module, by what its packaging binds

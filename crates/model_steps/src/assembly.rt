@@ -2,12 +2,12 @@ ghost use Rattle.std.specs.Prelude.{◌≡◌, Some, filter, map, not, option_ma
 ghost use Rattle.std.specs.List.{list_all};
 ghost use Rattle.model_types.specs.declared.model.Parent as parents;
 ghost use Rattle.model_types.specs.declared.dependency.Dependency as entries;
-ghost use Rattle.model_steps.specs.Assembly.{base_of, build_of, completed, gav_of, is_dropped, kept_as, model_of, with_scope};
+ghost use Rattle.model_steps.specs.Assembly.{base_of, build_of, completed, gav_of, is_dropped, kept_as, model_of, plugins_as, settled_base, with_scope};
 ghost use Rattle.model_steps.specs.Valid.{has_no_import, is_scoped};
 
 use crate::texts::{is_scope, text_or_empty};
 use managed_deps::{ManagedSet, apply, managed};
-use model_merge::copies;
+use model_merge::{copies, settled, settled_plugins};
 use model_types::{Build, BuildBase, Coordinates, Dependency, Model, ModelBase, Parent, RawModel};
 use mvn_base::{Gav, PomId};
 use mvn_shared::{List, Mem, Shared, Text};
@@ -101,7 +101,7 @@ fn with_scopes(
     Ok(list)
 }
 
-// The dependencies of the effective model.
+// The dependencies of the effective model, of equal keys the last one.
 fn completed(
     alloc: Global,
     pom: &PomId,
@@ -110,7 +110,8 @@ fn completed(
 ) -> Mem<List<Shared<Dependency>>>
     ensures { IfOk result (λ list. list ≡ completed pom.now set.now dependencies.now) }
 {
-    let kept = kept_as(alloc, pom, dependencies)?;
+    let own = settled(alloc, dependencies.as_slice())?;
+    let kept = kept_as(alloc, pom, &own)?;
     let applied = apply(alloc, kept.as_slice(), set)?;
     with_scopes(alloc, &applied)
 }
@@ -132,14 +133,42 @@ fn base_of(alloc: Global, pom: &PomId, set: ManagedSet, base: &ModelBase) -> Mem
     Shared::new(alloc, base)
 }
 
-// A build with these plugins.
-fn build_of(alloc: Global, build: &Build, base: &Shared<BuildBase>) -> Mem<Shared<Build>>
-    ensures { IfOk result (λ it. it ≡ build_of build.now base.now) }
+// Plugins, each name once, and each of them settled.
+fn settled_base(alloc: Global, base: &BuildBase) -> Mem<Shared<BuildBase>>
+    ensures { IfOk result (λ it. it ≡ settled_base base.now) }
+{
+    let plugins = settled_plugins(alloc, base.plugins.as_slice())?;
+    let managed_plugins = settled_plugins(alloc, base.managed_plugins.as_slice())?;
+    let base = BuildBase {
+        plugins,
+        managed_plugins,
+    };
+    Shared::new(alloc, base)
+}
+
+// The plugins of a POM; those of a module are settled already.
+fn plugins_as(alloc: Global, pom: &PomId, base: &Shared<BuildBase>) -> Mem<Shared<BuildBase>>
+    ensures { IfOk result (λ it. it ≡ plugins_as pom.now base.now) }
+{
+    match pom {
+        PomId::Path(_) => base.share(),
+        PomId::Gav(_) => settled_base(alloc, base),
+    }
+}
+
+// A build with these plugins, as a POM has them, and of extensions of equal keys the last one.
+fn build_of(
+    alloc: Global,
+    pom: &PomId,
+    build: &Build,
+    base: &Shared<BuildBase>,
+) -> Mem<Shared<Build>>
+    ensures { IfOk result (λ it. it ≡ build_of build.now (plugins_as pom.now base.now)) }
 {
     let outputs = build.outputs.share()?;
     let sources = build.sources.share()?;
-    let base = base.share()?;
-    let extensions = copies(&build.extensions)?;
+    let base = plugins_as(alloc, pom, base)?;
+    let extensions = settled(alloc, build.extensions.as_slice())?;
     let build = Build {
         outputs,
         sources,
@@ -186,7 +215,7 @@ fn composed(
 {
     let set = managed(alloc, raw.base.managed.as_slice(), imports)?;
     let base_of = base_of(alloc, &raw.pom, set, &raw.base)?;
-    let build = build_of(alloc, &raw.build, base)?;
+    let build = build_of(alloc, &raw.pom, &raw.build, base)?;
     let pom = raw.pom.share()?;
     let gav = gav_of(alloc, &raw.coordinates)?;
     let packaging = raw.coordinates.packaging.clone()?;
@@ -202,11 +231,13 @@ fn composed(
 }
 
 /// The effective model, before it is checked, of a filled model, of its plugins and of the entries that each of its imports manages, in
-/// the order of the imports. Of a key the first entry counts: the model's own without its imports, then those of the imports. A
-/// dependency takes what is managed under its key, and the scope `compile` if it has none. A POM that was read by coordinates loses
-/// the dependencies that are optional or of scope `test`, `provided` or `system` before that. Costs the entries and the
-/// dependencies, on the average. Introduction to the Dependency Mechanism, "Dependency Management"; that a POM by coordinates loses
-/// dependencies is a project rule. Dependencies stay in their order, also two of one key.
+/// the order of the imports. Of a key the first entry counts: the model's own without its imports, then those of the imports. Of
+/// dependencies, of extensions, and of the plugins of a POM by coordinates the last one of each key stands, at the place of the
+/// first: expressions may have made keys equal. A dependency takes what is managed under its key, and the scope `compile` if it has
+/// none. A POM that was read by coordinates loses the dependencies that are optional or of scope `test`, `provided` or `system`
+/// before that. Costs the entries, the dependencies, the extensions and those plugins, on the average. Introduction to the
+/// Dependency Mechanism, "Dependency Management"; that a POM by coordinates loses dependencies, and which of one key stands, are
+/// project rules.
 #[tactic(auto, using(crate::proofs::Completed::scoped, crate::proofs::Completed::no_import_left))]
 pub fn model_of(
     alloc: Global,

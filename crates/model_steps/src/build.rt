@@ -7,6 +7,7 @@ ghost use Rattle.managed_deps.specs.Managed.{apply_plugins};
 use crate::texts::is_of_project;
 use lifecycle::{bind, bindings};
 use managed_deps::apply_plugins;
+use model_merge::settled_plugins;
 use model_types::{BuildBase, Plugin, RawModel};
 use mvn_base::{PomId, Rule};
 use mvn_shared::{List, Mem, Shared, Text};
@@ -29,7 +30,7 @@ fn declared_of(alloc: Global, base: &BuildBase) -> Mem<List<Shared<Plugin>>>
     )
 }
 
-// The declared plugins under their managed entries, and the bound ones.
+// The declared plugins under their managed entries, and the bound ones; the managed ones settled.
 fn bound_base(
     alloc: Global,
     base: &BuildBase,
@@ -40,7 +41,7 @@ fn bound_base(
     let managed = base.managed_plugins.as_slice();
     let declared = declared_of(alloc, base)?;
     let plugins = bind(alloc, declared.as_slice(), managed, bound)?;
-    let managed_plugins = base.managed_plugins.clone()?;
+    let managed_plugins = settled_plugins(alloc, managed)?;
     let base = BuildBase {
         plugins,
         managed_plugins,
@@ -65,8 +66,10 @@ fn built_by(
 }
 
 /// The plugins of a filled model: the declared ones under their managed entries, and those that its packaging binds. An unknown
-/// packaging is refused. A POM that was read by coordinates isn't built, so its plugins stay as they are. Costs the plugins, on the
-/// average. POM Reference, "Plugin Management"; Introduction to the Build Lifecycle.
+/// packaging is refused. A POM that was read by coordinates isn't built, so its plugins stay as they are. Expressions may have made
+/// keys equal, so a module's plugins and its managed ones are settled: of equal names, executions, dependencies and goals the last
+/// stands, at the place of the first. Costs the plugins, on the average. POM Reference, "Plugin Management"; Introduction to the
+/// Build Lifecycle; which of one key stands is a project rule.
 #[tactic(auto, unfolding(crate::specs::Building::built))]
 pub fn built(alloc: Global, raw: &RawModel) -> Result<Shared<BuildBase>, BuildFault>
     ensures says { Says (built raw.now) result }

@@ -30,7 +30,7 @@ use std::alloc::Global;
 #[derive(Drop)]
 pub enum PlanFault {
     Build(BuildFault),
-    Unknown(u32),
+    Unknown(usize),
 }
 
 /// What planning gave, and the device that failed, if one did.

@@ -34,14 +34,14 @@ fn call_text_at(alloc: Global, goals: &[GoalCall], number: u32) -> Mem<Text>
 }
 
 // Whether an answer is one of this goal of this module.
-fn is_of(answered: &Answered, number: u32, goal: u32) -> bool
+fn is_of(answered: &Answered, number: usize, goal: u32) -> bool
     ensures { result ≡ ((answered.now.«module» == number) && (answered.now.goal == goal)) }
 {
-    answered.module == number && answered.goal == goal
+    answered.module as usize == number && answered.goal == goal
 }
 
 // The first answer that is kept of a module's goal.
-fn find_answer(answers: &[Answered], number: u32, goal: u32) -> Option<&Answered>
+fn find_answer(answers: &[Answered], number: usize, goal: u32) -> Option<&Answered>
     ensures { option_map (λ a. a.now) result
         ≡ find (λ a. (a.«module» == number) && (a.goal == goal)) answers.now }
 {
@@ -54,7 +54,7 @@ fn find_answer(answers: &[Answered], number: u32, goal: u32) -> Option<&Answered
 }
 
 // What a module's goal says, if it failed.
-fn said_at(alloc: Global, answers: &[Answered], number: u32, goal: u32) -> Mem<Text>
+fn said_at(alloc: Global, answers: &[Answered], number: usize, goal: u32) -> Mem<Text>
     ensures { IfOk result (λ text. text ≡ said (answer_at answers.now number goal)) }
 {
     match find_answer(answers, number, goal) {
@@ -82,7 +82,7 @@ fn ending_row(
     plan: &Plan,
     module: &PlanModule,
     answers: &[Answered],
-    number: u32,
+    number: usize,
     ending: Ending,
 ) -> Mem<RowEnd>
     requires { names_file plan.now (IsEnded ending) ≡ true }
@@ -122,7 +122,7 @@ pub(crate) fn row_end(
     plan: &Plan,
     module: &PlanModule,
     answers: &[Answered],
-    number: u32,
+    number: usize,
     state: State,
 ) -> Mem<RowEnd>
     requires { names_file plan.now state ≡ true }

@@ -9,7 +9,7 @@ ghost use Rattle.std.specs.Prelude.{true};
 use crate::details::Details;
 use crate::ending::row_end;
 use build_core::{Answered, Plan, PlanModule, State};
-use mvn_shared::{Bytes, List, Mem, OutOfMemory};
+use mvn_shared::{Bytes, List, Mem};
 use run_report::{ReportRow, report};
 use std::alloc::Global;
 
@@ -19,7 +19,7 @@ fn row_of(
     plan: &Plan,
     module: &PlanModule,
     answers: &[Answered],
-    number: u32,
+    number: usize,
     state: State,
     details: Details,
 ) -> Mem<ReportRow>
@@ -52,20 +52,16 @@ fn rows_of(
         ≡ rows plan.now (answer_at answers.now) 0 details plan.now.modules states.now) }
 {
     let mut list = Vec::new(alloc);
-    let mut number: u32 = 0;
+    let mut number = 0;
     for detail in details.into_vec() {
-        let at = number as usize;
-        let Some(module) = plan.modules.as_slice().get(at) else {
+        let Some(module) = plan.modules.as_slice().get(number) else {
             return Ok(list);
         };
-        let Some(state) = states.get(at) else {
+        let Some(state) = states.get(number) else {
             return Ok(list);
         };
         list.push(row_of(alloc, plan, module, answers, number, *state, detail)?)?;
-        let Some(next) = number.checked_add(1) else {
-            return Err(OutOfMemory);
-        };
-        number = next;
+        number += 1;
     }
     Ok(list)
 }

@@ -4,7 +4,7 @@ use mvn_shared::{List, Text};
 /// A selector of modules, and the number of the word where it stands. Guide to Working with Multiple Modules.
 #[derive(Clone, Drop, PartialEq, Eq)]
 pub struct Word {
-    pub place: u32,
+    pub place: usize,
     pub text: Text,
 }
 

@@ -51,7 +51,7 @@ impl WordKind {
 /// The first fault of a command line: the number of the word, from 0, and what is wrong there.
 #[derive(Clone, Copy, Debug, PartialEq, Eq)]
 pub struct WordFault {
-    pub place: u32,
+    pub place: usize,
     pub kind: WordKind,
 }
 
@@ -105,7 +105,7 @@ impl From<OutOfMemory> for WordError {
 }
 
 /// The error of a fault. Constant time.
-pub(crate) fn fault(place: u32, kind: WordKind) -> WordError
+pub(crate) fn fault(place: usize, kind: WordKind) -> WordError
     ensures { result ≡ Fault (record { place = place; kind = kind }) }
 {
     WordError::Fault(WordFault { place, kind })

@@ -6,7 +6,7 @@ use mvn_shared::List;
 /// A number of workers, and the word where it stands.
 #[derive(Clone, Copy)]
 pub struct Count {
-    pub place: u32,
+    pub place: usize,
     pub value: u32,
 }
 

@@ -26,7 +26,7 @@ impl Line {
     fn joined_value(
         self,
         alloc: Global,
-        at: u32,
+        at: usize,
         wanted: Wanted,
         value: &str,
     ) -> Result<Line, WordError>
@@ -41,7 +41,7 @@ impl Line {
     }
 
     // A word without a hyphen.
-    fn phase_word(mut self, at: u32, word: &str) -> Result<Line, WordError>
+    fn phase_word(mut self, at: usize, word: &str) -> Result<Line, WordError>
         ensures { Answers (phase_word at word.now self) result }
     {
         match phase_of(word.as_bytes()) {
@@ -57,7 +57,7 @@ impl Line {
 
     // A phase, or an option of one letter with its value behind it.
     #[tactic(auto, using(crate::proofs::Texts::third_boundary))]
-    fn joined_word(self, alloc: Global, at: u32, word: &str) -> Result<Line, WordError>
+    fn joined_word(self, alloc: Global, at: usize, word: &str) -> Result<Line, WordError>
         ensures { Answers (joined_word at word.now self) result }
     {
         match word.as_bytes() {
@@ -70,7 +70,7 @@ impl Line {
     }
 
     // A word that isn't an option by itself.
-    fn other_word(self, alloc: Global, at: u32, word: &str) -> Result<Line, WordError>
+    fn other_word(self, alloc: Global, at: usize, word: &str) -> Result<Line, WordError>
         ensures { Answers (other_word at word.now self) result }
     {
         match spelled(name_of(word)) {
@@ -96,7 +96,7 @@ impl Line {
     }
 
     // A word where no value is awaited.
-    fn option_word(self, alloc: Global, at: u32, word: &str) -> Result<Line, WordError>
+    fn option_word(self, alloc: Global, at: usize, word: &str) -> Result<Line, WordError>
         ensures { Answers (option_word at word.now self) result }
     {
         match spelled(word) {
@@ -110,7 +110,7 @@ impl Line {
     fn next_value(
         mut self,
         alloc: Global,
-        at: u32,
+        at: usize,
         wanted: Wanted,
         value: &[u8],
     ) -> Result<Line, WordError>
@@ -129,7 +129,7 @@ impl Line {
 
     /// One word more. Costs its length.
     #[tactic(auto, unfolding(crate::specs::Options::next_word))]
-    pub(crate) fn next_word(self, alloc: Global, at: u32, word: &[u8]) -> Result<Line, WordError>
+    pub(crate) fn next_word(self, alloc: Global, at: usize, word: &[u8]) -> Result<Line, WordError>
         requires { is_some self.awaits ≡ true → 1 ≤ at }
         ensures { Answers (next_word at word.now self) result }
     {

@@ -14,7 +14,7 @@ use std::alloc::Global;
 
 impl Line {
     // The number of workers.
-    fn with_workers(mut self, at: u32, value: &str) -> Result<Line, WordError>
+    fn with_workers(mut self, at: usize, value: &str) -> Result<Line, WordError>
         ensures { Answers (with_workers at value.now self) result }
     {
         match number(value.as_bytes()) {
@@ -27,7 +27,7 @@ impl Line {
     }
 
     // The module from which on is built.
-    fn with_from(mut self, alloc: Global, at: u32, value: &str) -> Result<Line, WordError>
+    fn with_from(mut self, alloc: Global, at: usize, value: &str) -> Result<Line, WordError>
         ensures { Answers (with_from at value.now self) result }
     {
         let selector = trimmed(value);
@@ -40,7 +40,7 @@ impl Line {
     }
 
     // The number of the POMs of the generated project.
-    fn with_generated(mut self, at: u32, value: &str) -> Result<Line, WordError>
+    fn with_generated(mut self, at: usize, value: &str) -> Result<Line, WordError>
         ensures { Answers (with_generated at value.now self) result }
     {
         match number(value.as_bytes()) {
@@ -53,7 +53,7 @@ impl Line {
     }
 
     // The selectors of modules.
-    fn with_projects(mut self, alloc: Global, at: u32, value: &str) -> Result<Line, WordError>
+    fn with_projects(mut self, alloc: Global, at: usize, value: &str) -> Result<Line, WordError>
         ensures { Answers (with_projects at value.now self) result }
     {
         match with_selectors(alloc, self.projects, at, value)? {
@@ -74,7 +74,7 @@ impl Line {
     }
 
     // A property.
-    fn with_define(mut self, alloc: Global, at: u32, value: &str) -> Result<Line, WordError>
+    fn with_define(mut self, alloc: Global, at: usize, value: &str) -> Result<Line, WordError>
         ensures { Answers (with_define at value.now self) result }
     {
         let name = trimmed(name_of(value));
@@ -92,7 +92,7 @@ impl Line {
     pub(crate) fn with_value(
         self,
         alloc: Global,
-        at: u32,
+        at: usize,
         wanted: Wanted,
         value: &str,
     ) -> Result<Line, WordError>
@@ -131,7 +131,7 @@ fn any_bad_selector(selectors: &[&str]) -> bool
 fn with_selectors(
     alloc: Global,
     mut projects: List<Word>,
-    at: u32,
+    at: usize,
     value: &str,
 ) -> Mem<Option<List<Word>>>
     ensures { IfOk result (λ more. more ≡ (if are_bad_selectors (items value.now) then None

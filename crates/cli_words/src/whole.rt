@@ -1,4 +1,4 @@
-ghost use Rattle.std.specs.Prelude.{◌≡◌, ◌<◌, ◌≤◌, true, length, is_some};
+ghost use Rattle.std.specs.Prelude.{◌≡◌, ◌≤◌, true, is_some};
 ghost use Rattle.cli_words.specs.Faults.{Answers};
 ghost use Rattle.cli_words.specs.Options.{command_line, no_words, options, whole_line, with_hands};
 
@@ -63,7 +63,7 @@ impl Line {
 
     // Behind the last word.
     #[tactic(auto, unfolding(crate::specs::Options::whole_line))]
-    fn whole_line(self, count: u32, hands: u32) -> Result<CommandLine, WordError>
+    fn whole_line(self, count: usize, hands: u32) -> Result<CommandLine, WordError>
         requires { is_some self.awaits ≡ true → 1 ≤ count }
         ensures { Answers (whole_line count hands self) result }
     {
@@ -82,16 +82,15 @@ impl Line {
 /// options.
 #[tactic(auto, unfolding(crate::specs::Options::options))]
 pub fn options(alloc: Global, words: &[Bytes], hands: u32) -> Result<CommandLine, WordError>
-    requires words { length words.now < 4294967296 }
     requires hands { (1 ≤ hands) × (hands ≤ 16) }
     ensures { Answers (options words.now hands) result }
 {
     let mut line = Line::new(alloc);
-    for at in 0..words.len() as u32 {
-        match line.next_word(alloc, at, words[at as usize].as_slice()) {
+    for at in 0..words.len() {
+        match line.next_word(alloc, at, words[at].as_slice()) {
             Ok(more) => line = more,
             Err(error) => return Err(error),
         }
     }
-    line.whole_line(words.len() as u32, hands)
+    line.whole_line(words.len(), hands)
 }

@@ -1,4 +1,5 @@
 pub mod Collecting
+pub mod Counting
 pub mod Injected
 pub mod Meeting
 pub mod Projects

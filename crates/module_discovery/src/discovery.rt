@@ -1,4 +1,4 @@
-ghost use Rattle.std.specs.Prelude.{◌≡◌, ◌∷◌, ◌++◌, [], IfOk};
+ghost use Rattle.std.specs.Prelude.{◌≡◌, ◌≤◌, ◌+◌, ◌∷◌, ◌++◌, [], length, IfOk};
 ghost use Rattle.mvn_shared.specs.Cause.{HasCause};
 ghost use Rattle.profile_activation.specs.Judging.{TellsOn};
 ghost use Rattle.pom_source.specs.Answers.{Says, build_failed};
@@ -32,6 +32,7 @@ fn put(found: FoundPoms, waiting: Waiting, pom: ModulePom, modules: List<Listed>
 }
 
 // The same, with the modules that it lists.
+#[tactic(auto, using(crate::proofs::Counting::one_longer))]
 fn with_pom<P: PomSource>(
     alloc: Global,
     source: &mut P,
@@ -42,6 +43,7 @@ fn with_pom<P: PomSource>(
 ) -> Result<Progress, BuildFault>
     ensures says { (world : World) → P.fits_poms source.old world
         → Says (with_pom world given.now found waiting pom) result }
+    ensures one { IfOk result (λ progress. length progress.found ≡ length found + 1) }
     ensures fit { (world : World) → P.fits_poms source.old world → P.fits_poms source.new world }
     ensures same { TellsOn P.tells_same source.old source.new }
     ensures cause { HasCause (P.faults source.old) (P.faults source.new) (build_failed result) }
@@ -64,6 +66,7 @@ fn with_module<P: PomSource>(
 ) -> Result<Progress, BuildFault>
     ensures says { (world : World) → P.fits_poms source.old world → Holds world given.now store.old
         → Says (with_module world given.now found waiting listed.now) result }
+    ensures one { IfOk result (λ progress. length progress.found ≡ length found + 1) }
     ensures fit { (world : World) → P.fits_poms source.old world → P.fits_poms source.new world }
     ensures same { TellsOn P.tells_same source.old source.new }
     ensures holds { (world : World) → P.fits_poms source.old world → Holds world given.now store.old
@@ -90,6 +93,7 @@ fn with_none<P: PomSource>(
     ensures says { (world : World) (given : givens.Given) → P.fits_poms source.old world
         → Holds world given store.old
         → Says (with_none world progress.found progress.waiting) result }
+    ensures none { IfOk result (λ list. list ≡ progress.found) }
     ensures fit { (world : World) → P.fits_poms source.old world → P.fits_poms source.new world }
     ensures same { TellsOn P.tells_same source.old source.new }
     ensures holds { (world : World) (given : givens.Given) → P.fits_poms source.old world
@@ -118,6 +122,8 @@ fn collected<P: PomSource>(
 ) -> Result<List<ModulePom>, BuildFault>
     ensures says { (world : World) → P.fits_poms source.old world → Holds world given.now store.old
         → Says (collected world given.now 1023 progress.found progress.waiting) result }
+    ensures any { IfOk result (λ list. length progress.found ≤ length list) }
+    ensures few { IfOk result (λ list. length list ≤ length progress.found + 1023) }
     ensures fit { (world : World) → P.fits_poms source.old world → P.fits_poms source.new world }
     ensures same { TellsOn P.tells_same source.old source.new }
     ensures holds { (world : World) → P.fits_poms source.old world → Holds world given.now store.old
@@ -153,6 +159,7 @@ fn begun<P: PomSource>(
 ) -> Result<Progress, BuildFault>
     ensures says { (world : World) → P.fits_poms source.old world → Holds world given.now store.old
         → Says (begun world given.now) result }
+    ensures one { IfOk result (λ progress. length progress.found ≡ 1) }
     ensures fit { (world : World) → P.fits_poms source.old world → P.fits_poms source.new world }
     ensures same { TellsOn P.tells_same source.old source.new }
     ensures holds { (world : World) → P.fits_poms source.old world → Holds world given.now store.old
@@ -173,9 +180,10 @@ fn begun<P: PomSource>(
 /// All POMs of the project, in the order of their declaration: `pom.xml`, and after each POM those of the modules that it and its active
 /// profiles list, each with its own modules before the next. A module is a folder with a file `pom.xml`, or else a file. Or the first
 /// refusal: what a POM's text breaks, or modules in a POM whose packaging isn't `pom`; and for each module an expression in its text, no
-/// POM, a POM that was met, or one POM more than 1,024. Each POM's file is read once: its bytes are in the POM, and what it says stays in
-/// the store. `Source` comes only if the source's count of faults rose. Costs the POMs' bytes, and the criteria of their profiles. Guide to Working with Multiple Modules; POM
-/// Reference, "Aggregation"; the order of refusals and the limit are project rules.
+/// POM, a POM that was met, or one POM more than 1,024. So there are 1 to 1,024 POMs, whatever the source tells. Each POM's file is read
+/// once: its bytes are in the POM, and what it says stays in the store. `Source` comes only if the source's count of faults rose. Costs the
+/// POMs' bytes, and the criteria of their profiles. Guide to Working with Multiple Modules; POM Reference, "Aggregation"; the order of
+/// refusals and the limit are project rules.
 #[tactic(auto, using(pom_lineage::proofs::Telling::told_both))]
 pub fn discover<P: PomSource>(
     alloc: Global,
@@ -185,6 +193,8 @@ pub fn discover<P: PomSource>(
 ) -> Result<List<ModulePom>, BuildFault>
     ensures says { (world : World) → P.fits_poms source.old world → Holds world given.now store.old
         → Says (discovered world given.now) result }
+    ensures any { IfOk result (λ list. 1 ≤ length list) }
+    ensures few { IfOk result (λ list. length list ≤ 1024) }
     ensures fit { (world : World) → P.fits_poms source.old world → P.fits_poms source.new world }
     ensures same { TellsOn P.tells_same source.old source.new }
     ensures holds { (world : World) → P.fits_poms source.old world → Holds world given.now store.old

@@ -16,9 +16,6 @@ use pom_source::{BuildFault, Given, PomSource};
 use profile_activation::active;
 use std::alloc::Global;
 
-/// The profiles that one POM may have, so that each has a number of 32 bits.
-const MOST_PROFILES: usize = 4_294_967_295;
-
 // The modules of one POM or profile, behind others.
 fn push_modules(by: &Text, modules: &List<Text>, list: &mut List<Listed>) -> Mem<()>
     ensures { OnOk result (list.new ≡ list.old ++ listed by.now modules.now) }
@@ -32,11 +29,16 @@ fn push_modules(by: &Text, modules: &List<Text>, list: &mut List<Listed>) -> Mem
 }
 
 // The modules of the profile at a place, if there is one, behind others.
-fn push_profile(by: &Text, profiles: &List<Profile>, place: u32, list: &mut List<Listed>) -> Mem<()>
+fn push_profile(
+    by: &Text,
+    profiles: &List<Profile>,
+    place: usize,
+    list: &mut List<Listed>,
+) -> Mem<()>
     ensures { OnOk result (list.new ≡ list.old ++ listed by.now
         (modules_in (slice_get profiles.now place))) }
 {
-    match profiles.get(place as usize) {
+    match profiles.get(place) {
         Some(profile) => push_modules(by, &profile.base.modules, list),
         None => Ok(()),
     }
@@ -46,7 +48,7 @@ fn push_profile(by: &Text, profiles: &List<Profile>, place: u32, list: &mut List
 fn push_profiles(
     by: &Text,
     profiles: &List<Profile>,
-    places: &List<u32>,
+    places: &List<usize>,
     list: &mut List<Listed>,
 ) -> Mem<()>
     ensures { OnOk result (list.new ≡ list.old ++ listed by.now
@@ -59,7 +61,7 @@ fn push_profiles(
 }
 
 // The modules of a POM and of its profiles at some places, behind others.
-fn push_all(by: &Text, raw: &RawModel, places: &List<u32>, list: &mut List<Listed>) -> Mem<()>
+fn push_all(by: &Text, raw: &RawModel, places: &List<usize>, list: &mut List<Listed>) -> Mem<()>
     ensures { OnOk result (list.new ≡ list.old ++ listed by.now (modules_at raw.now places.now)) }
 {
     push_modules(by, &raw.base.modules, list)?;
@@ -68,7 +70,7 @@ fn push_all(by: &Text, raw: &RawModel, places: &List<u32>, list: &mut List<Liste
 
 // The modules of a POM with its profiles at some places.
 #[tactic(auto, using(crate::proofs::Injected::injected_modules))]
-fn modules_at(alloc: Global, pom: &ModulePom, places: &List<u32>) -> Mem<List<Listed>>
+fn modules_at(alloc: Global, pom: &ModulePom, places: &List<usize>) -> Mem<List<Listed>>
     ensures { IfOk result (λ list. list
         ≡ listed pom.now.path (inject pom.now.raw places.now).base.modules) }
 {
@@ -107,9 +109,6 @@ pub(crate) fn listed_by<P: PomSource>(
     ensures same { TellsOn P.tells_same source.old source.new }
     ensures cause { HasCause (P.faults source.old) (P.faults source.new) (build_failed result) }
 {
-    if pom.raw.profiles.len() > MOST_PROFILES {
-        return Err(BuildFault::Memory);
-    }
     let defines = given.defines.as_slice();
     let places = active(
         alloc,

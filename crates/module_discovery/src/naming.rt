@@ -1,4 +1,4 @@
-ghost use Rattle.std.specs.Prelude.{◌≡◌, false, Err, IfOk};
+ghost use Rattle.std.specs.Prelude.{◌≡◌, false, true, None, Err, IfOk};
 ghost use Rattle.mvn_shared.specs.Cause.{HasCause};
 ghost use Rattle.profile_activation.specs.Judging.{TellsOn};
 ghost use Rattle.pom_source.specs.Answers.{Says, build_failed};
@@ -103,6 +103,7 @@ fn too_many<P: PomSource>(
 ) -> Result<Option<ModulePom>, BuildFault>
     ensures says { (world : World) → P.fits_poms source.old world
         → Says (taken_up (one_too_many listed.now) path.now (world.by_path path.now)) result }
+    ensures none { IfOk result (λ pom. pom ≡ None) }
     ensures fit { (world : World) → P.fits_poms source.old world → P.fits_poms source.new world }
     ensures same { TellsOn P.tells_same source.old source.new }
     ensures cause { HasCause (P.faults source.old) (P.faults source.new) (build_failed result) }
@@ -128,6 +129,7 @@ fn taken_up<P: PomSource>(
     ensures says { (world : World) (given : givens.Given) → P.fits_poms source.old world
         → Holds world given store.old
         → Says (taken_up (as_taken full listed.now) path.now (world.by_path path.now)) result }
+    ensures none { full ≡ true → IfOk result (λ pom. pom ≡ None) }
     ensures fit { (world : World) → P.fits_poms source.old world → P.fits_poms source.new world }
     ensures same { TellsOn P.tells_same source.old source.new }
     ensures holds { (world : World) (given : givens.Given) → P.fits_poms source.old world
@@ -157,6 +159,7 @@ fn new_at<P: PomSource>(
     ensures says { (world : World) (given : givens.Given) → P.fits_poms source.old world
         → Holds world given store.old
         → Says (new_at world (as_taken full listed.now) listed.now found.now path.now) result }
+    ensures none { full ≡ true → IfOk result (λ pom. pom ≡ None) }
     ensures fit { (world : World) → P.fits_poms source.old world → P.fits_poms source.new world }
     ensures same { TellsOn P.tells_same source.old source.new }
     ensures holds { (world : World) (given : givens.Given) → P.fits_poms source.old world
@@ -184,6 +187,7 @@ fn at_last<P: PomSource>(
     ensures says { (world : World) (given : givens.Given) → P.fits_poms source.old world
         → Holds world given store.old
         → Says (at_last world (as_taken full listed.now) listed.now found.now path.now) result }
+    ensures never { full ≡ true → IfOk result (λ pom. ⊥) }
     ensures fit { (world : World) → P.fits_poms source.old world → P.fits_poms source.new world }
     ensures same { TellsOn P.tells_same source.old source.new }
     ensures holds { (world : World) (given : givens.Given) → P.fits_poms source.old world
@@ -212,6 +216,7 @@ fn at_either<P: PomSource>(
     ensures says { (world : World) (given : givens.Given) → P.fits_poms source.old world
         → Holds world given store.old
         → Says (at_either world (as_taken full listed.now) listed.now found.now path.now) result }
+    ensures never { full ≡ true → IfOk result (λ pom. ⊥) }
     ensures fit { (world : World) → P.fits_poms source.old world → P.fits_poms source.new world }
     ensures same { TellsOn P.tells_same source.old source.new }
     ensures holds { (world : World) (given : givens.Given) → P.fits_poms source.old world
@@ -230,8 +235,8 @@ fn at_either<P: PomSource>(
     }
 }
 
-/// The POM that a module leads to, or its refusal: an expression in its text, no POM, one that was met, one too many if `full`, or
-/// what the POM's text breaks. Costs the paths and the POM's bytes.
+/// The POM that a module leads to, or its refusal: an expression in its text, no POM, one that was met, or what the POM's text breaks. If
+/// `full`, none: a POM that is found is one too many. Costs the paths and the POM's bytes.
 #[tactic(auto, using(pom_lineage::proofs::Telling::untold))]
 pub(crate) fn named<P: PomSource>(
     alloc: Global,
@@ -244,6 +249,7 @@ pub(crate) fn named<P: PomSource>(
     ensures says { (world : World) (given : givens.Given) → P.fits_poms source.old world
         → Holds world given store.old
         → Says (named world (as_taken full listed.now) listed.now found.now) result }
+    ensures never { full ≡ true → IfOk result (λ pom. ⊥) }
     ensures fit { (world : World) → P.fits_poms source.old world → P.fits_poms source.new world }
     ensures same { TellsOn P.tells_same source.old source.new }
     ensures holds { (world : World) (given : givens.Given) → P.fits_poms source.old world

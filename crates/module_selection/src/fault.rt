@@ -4,7 +4,7 @@ use std::alloc::AllocError;
 /// Why no modules are selected: the word at a place means none that is built, or want of memory.
 #[derive(Clone, Copy)]
 pub enum SelectionFault {
-    Unknown(u32),
+    Unknown(usize),
     Memory,
 }
 

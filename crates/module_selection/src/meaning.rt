@@ -71,7 +71,7 @@ pub(crate) fn meant(alloc: Global, modules: &[Shared<Model>], text: &Text) -> Me
 }
 
 // With the place of a word, if it means no module.
-fn or_unknown(numbers: &[u32], place: Option<u32>, word: &Word) -> Option<u32>
+fn or_unknown(numbers: &[u32], place: Option<usize>, word: &Word) -> Option<usize>
     ensures { result ≡ or_unknown numbers.now place word.now }
 {
     if !numbers.is_empty() {
@@ -87,9 +87,9 @@ fn or_unknown(numbers: &[u32], place: Option<u32>, word: &Word) -> Option<u32>
 pub(crate) fn unknown(
     alloc: Global,
     modules: &[Shared<Model>],
-    place: Option<u32>,
+    place: Option<usize>,
     words: &[Word],
-) -> Mem<Option<u32>>
+) -> Mem<Option<usize>>
     requires { length modules.now < 4294967296 }
     ensures { IfOk result (λ found. found ≡ unknown modules.now place words.now) }
 {

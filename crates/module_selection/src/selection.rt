@@ -15,7 +15,7 @@ use std::alloc::Global;
 
 // The first place of a word that means no module.
 #[tactic(auto, using(crate::proofs::Unknown::last_word))]
-fn unknown_word(alloc: Global, modules: &[Shared<Model>], line: &CommandLine) -> Mem<Option<u32>>
+fn unknown_word(alloc: Global, modules: &[Shared<Model>], line: &CommandLine) -> Mem<Option<usize>>
     requires { length modules.now < 4294967296 }
     ensures { IfOk result (λ place. place ≡ unknown modules.now None (naming line.now)) }
 {
@@ -121,7 +121,7 @@ fn rest_from(alloc: Global, list: &[u32], n: u32) -> Mem<Option<Vec<u32>>>
 fn resumed_at(
     alloc: Global,
     whole: &List<u32>,
-    place: u32,
+    place: usize,
     first: Option<u32>,
 ) -> Result<List<u32>, SelectionFault>
     ensures { Resumes (resumed_at whole.now place first) result }

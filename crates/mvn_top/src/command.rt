@@ -16,9 +16,6 @@ pub fn asked(alloc: Global, words: &[Bytes], hands: u32) -> Mem<Result<CommandLi
     ensures workers { IfOk result (λ answer. IfOk answer (λ line.
         (1 ≤ line.workers) × (line.workers ≤ hands))) }
 {
-    if words.len() > 4_294_967_295 {
-        return Err(OutOfMemory);
-    }
     match options(alloc, words, hands) {
         Ok(line) => Ok(Ok(line)),
         Err(WordError::Fault(fault)) => Ok(Err(word_fault(alloc, fault)?)),

@@ -105,7 +105,7 @@ fn unplanned(alloc: Global, fault: &BuildFault, failed: Option<PomDevice>) -> Me
 }
 
 // The answer where a word names no module that is built.
-fn unknown_module(alloc: Global, place: u32) -> Mem<Outcome>
+fn unknown_module(alloc: Global, place: usize) -> Mem<Outcome>
     ensures { IfOk result (λ outcome. outcome ≡ unknown_module place) }
 {
     let kind = WordKind::UnknownModule;

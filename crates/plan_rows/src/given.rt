@@ -54,8 +54,5 @@ fn words_of(alloc: Global, words: &str) -> Mem<Vec<Bytes>> {
 /// What words ask for.
 pub(crate) fn line(alloc: Global, words: &str) -> Result<CommandLine, WordError> {
     let list = words_of(alloc, words)?;
-    if list.len() >= 4_294_967_296 {
-        return Err(WordError::Memory);
-    }
     options(alloc, &list, 16)
 }

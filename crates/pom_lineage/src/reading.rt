@@ -18,9 +18,6 @@ use profile_activation::active;
 use profile_injection::inject;
 use std::alloc::Global;
 
-/// The profiles that one POM may have, so that each has a number of 32 bits.
-const MOST_PROFILES: usize = 4_294_967_295;
-
 // A refusal of a POM at a byte.
 fn byte_refused<T>(pom: &PomId, rule: Rule, place: u64) -> Result<T, BuildFault>
     ensures says { Says
@@ -75,9 +72,6 @@ pub fn with_profiles<P: PomSource>(
     ensures same { TellsOn P.tells_same source.old source.new }
     ensures cause { HasCause (P.faults source.old) (P.faults source.new) (build_failed result) }
 {
-    if raw.profiles.len() > MOST_PROFILES {
-        return Err(BuildFault::Memory);
-    }
     let defines = given.defines.as_slice();
     let places = active(alloc, raw, &given.machine, defines, &given.choice, source)?;
     let model = inject(alloc, raw, places.as_slice())?;

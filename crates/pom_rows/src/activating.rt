@@ -68,10 +68,7 @@ fn places(
     raw: &RawModel,
     asked: &Request,
     fails: bool,
-) -> Result<List<u32>, DeviceFault> {
-    if raw.profiles.len() > 1024 {
-        return Err(DeviceFault::Memory);
-    }
+) -> Result<List<usize>, DeviceFault> {
     let mut files = tree(alloc, FILES, fails)?;
     let defines = asked.defines.as_slice();
     active(
@@ -84,14 +81,14 @@ fn places(
     )
 }
 
-fn push_place(alloc: Global, shown: &mut String, place: u32) -> Mem<()> {
+fn push_place(alloc: Global, shown: &mut String, place: usize) -> Mem<()> {
     let place = format!(in alloc; " {place}")?;
     shown.push_str(place.as_str())?;
     Ok(())
 }
 
 // Places with a space in front of each.
-fn shown(alloc: Global, places: &[u32]) -> Mem<String> {
+fn shown(alloc: Global, places: &[usize]) -> Mem<String> {
     let mut shown = String::new(alloc);
     for place in places {
         push_place(alloc, &mut shown, *place)?;
@@ -100,7 +97,7 @@ fn shown(alloc: Global, places: &[u32]) -> Mem<String> {
 }
 
 // The places, or that a file could not be asked for.
-fn answered(alloc: Global, places: &Result<List<u32>, DeviceFault>) -> Mem<String> {
+fn answered(alloc: Global, places: &Result<List<usize>, DeviceFault>) -> Mem<String> {
     match places {
         Ok(places) => shown(alloc, places.as_slice()),
         Err(DeviceFault::Failed) => word(alloc, "failed"),

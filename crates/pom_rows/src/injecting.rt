@@ -7,17 +7,17 @@ use row_models::{behind, field, push_base, push_build_base};
 use std::alloc::Global;
 
 // The words of a field as numbers.
-fn numbers(alloc: Global, field: &str) -> Mem<Vec<u32>> {
+fn numbers(alloc: Global, field: &str) -> Mem<Vec<usize>> {
     let mut list = Vec::new(alloc);
     for word in field.split_whitespace() {
-        let number = word.parse::<u32>().unwrap_or(0);
+        let number = word.parse::<usize>().unwrap_or(0);
         list.push(number)?;
     }
     Ok(list)
 }
 
 // A POM with its profiles at some places.
-fn injected(alloc: Global, raw: &RawModel, places: &[u32]) -> Mem<Shared<RawModel>> {
+fn injected(alloc: Global, raw: &RawModel, places: &[usize]) -> Mem<Shared<RawModel>> {
     let model = inject(alloc, raw, places)?;
     Shared::new(alloc, model)
 }

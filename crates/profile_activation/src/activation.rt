@@ -1,4 +1,4 @@
-ghost use Rattle.std.specs.Prelude.{◌≡◌, ℕ, Bool, false, List as Items, ◌<◌, ◌^◌, length, map, zip, IfOk};
+ghost use Rattle.std.specs.Prelude.{◌≡◌, ℕ, Bool, false, List as Items, length, map, zip, IfOk};
 ghost use Rattle.std.specs.List.{list_any};
 ghost use Rattle.mvn_shared.specs.Cause.{HasCause};
 ghost use Rattle.mvn_outside.specs.Faults.{device_failed};
@@ -50,8 +50,12 @@ fn is_placed(judge: &Judge<'_>, any: bool, chosen: bool, profile: &Profile) -> b
 }
 
 // The places of the profiles that are chosen, or active by default.
-fn places(alloc: Global, judge: &Judge<'_>, chosen: &[bool], profiles: &[Profile]) -> Mem<List<u32>>
-    requires few { length profiles.now < 2 ^ 32 }
+fn places(
+    alloc: Global,
+    judge: &Judge<'_>,
+    chosen: &[bool],
+    profiles: &[Profile],
+) -> Mem<List<usize>>
     requires each { length chosen.now ≡ length profiles.now }
     ensures { IfOk result (λ list. list
         ≡ places_from (is_placed judge.now (list_any (λ b. b) chosen.now)) 0
@@ -61,7 +65,7 @@ fn places(alloc: Global, judge: &Judge<'_>, chosen: &[bool], profiles: &[Profile
     let mut list = List::new(alloc);
     for at in 0..profiles.len() {
         if is_placed(judge, any, chosen[at], &profiles[at]) {
-            list.push(at as u32)?;
+            list.push(at)?;
         }
     }
     Ok(list)
@@ -73,8 +77,7 @@ fn active_among<F: Files>(
     judge: &Judge<'_>,
     raw: &RawModel,
     files: &mut F,
-) -> Result<List<u32>, DeviceFault>
-    requires { length raw.now.profiles < 2 ^ 32 }
+) -> Result<List<usize>, DeviceFault>
     ensures asks { Asks F.fits F.faults F.tells_same files.old files.new result
         (λ world. active_in judge.now world raw.now.profiles) }
     ensures alone { Alone (asks_for_any judge.now raw.now.profiles) result
@@ -100,8 +103,7 @@ pub fn active<F: Files>(
     defines: &[Pair],
     choice: &Choice,
     files: &mut F,
-) -> Result<List<u32>, DeviceFault>
-    requires { length raw.now.profiles < 2 ^ 32 }
+) -> Result<List<usize>, DeviceFault>
     ensures tells { (world : Items ℕ → Bool) → F.fits files.old world
         → IfOk result (λ places. places
         ≡ active machine.now defines.now choice.now world raw.now.pom raw.now.profiles) }

@@ -52,20 +52,25 @@ fn push_build(alloc: Global, build: &mut BuildBase, profile: &Profile) -> Mem<()
 }
 
 // What the profile at a place has, behind what others have.
-fn push_base_at(base: &mut ModelBase, profiles: &[Profile], place: u32) -> Mem<()>
+fn push_base_at(base: &mut ModelBase, profiles: &[Profile], place: usize) -> Mem<()>
     ensures { OnOk result (base.new ≡ base_behind_at base.old (slice_get profiles.now place)) }
 {
-    match profiles.get(place as usize) {
+    match profiles.get(place) {
         Some(profile) => push_base(base, profile),
         None => Ok(()),
     }
 }
 
 // The plugins of the profile at a place, behind those of others.
-fn push_build_at(alloc: Global, build: &mut BuildBase, profiles: &[Profile], place: u32) -> Mem<()>
+fn push_build_at(
+    alloc: Global,
+    build: &mut BuildBase,
+    profiles: &[Profile],
+    place: usize,
+) -> Mem<()>
     ensures { OnOk result (build.new ≡ build_behind_at build.old (slice_get profiles.now place)) }
 {
-    match profiles.get(place as usize) {
+    match profiles.get(place) {
         Some(profile) => push_build(alloc, build, profile),
         None => Ok(()),
     }
@@ -88,7 +93,7 @@ fn copy_of(own: &ModelBase) -> Mem<ModelBase>
 }
 
 // What a POM has itself, and then what its profiles at some places have, one by one.
-fn base_of(own: &ModelBase, profiles: &[Profile], places: &[u32]) -> Mem<ModelBase>
+fn base_of(own: &ModelBase, profiles: &[Profile], places: &[usize]) -> Mem<ModelBase>
     ensures { IfOk result (λ base. base
         ≡ fold base_behind own.now (profiles_at profiles.now places.now)) }
 {
@@ -110,7 +115,7 @@ fn no_plugins(alloc: Global) -> BuildBase
 }
 
 // The plugins of profiles at some places, one by one.
-fn build_of(alloc: Global, profiles: &[Profile], places: &[u32]) -> Mem<BuildBase>
+fn build_of(alloc: Global, profiles: &[Profile], places: &[usize]) -> Mem<BuildBase>
     ensures { IfOk result (λ build. build
         ≡ fold build_behind no_plugins (profiles_at profiles.now places.now)) }
 {
@@ -124,7 +129,11 @@ fn build_of(alloc: Global, profiles: &[Profile], places: &[u32]) -> Mem<BuildBas
 /// What a POM has itself, and then what its profiles at some places have. Costs the lists; the items are
 /// shared.
 #[tactic(auto, using(crate::proofs::Gathering::bases_behind))]
-pub(crate) fn gathered_base(own: &ModelBase, profiles: &[Profile], places: &[u32]) -> Mem<ModelBase>
+pub(crate) fn gathered_base(
+    own: &ModelBase,
+    profiles: &[Profile],
+    places: &[usize],
+) -> Mem<ModelBase>
     ensures { IfOk result (λ base. base
         ≡ all_behind own.now (profiles_at profiles.now places.now)) }
 {
@@ -134,7 +143,11 @@ pub(crate) fn gathered_base(own: &ModelBase, profiles: &[Profile], places: &[u32
 /// The plugins of profiles at some places, those of each profile settled. Costs the lists, on the average;
 /// the items are shared.
 #[tactic(auto, using(crate::proofs::Gathering::builds_behind))]
-pub(crate) fn gathered_build(alloc: Global, profiles: &[Profile], places: &[u32]) -> Mem<BuildBase>
+pub(crate) fn gathered_build(
+    alloc: Global,
+    profiles: &[Profile],
+    places: &[usize],
+) -> Mem<BuildBase>
     ensures { IfOk result (λ build. build
         ≡ all_built no_plugins (profiles_at profiles.now places.now)) }
 {

@@ -32,7 +32,7 @@ fn inject_base(
     alloc: Global,
     own: &ModelBase,
     profiles: &[Profile],
-    places: &[u32],
+    places: &[usize],
 ) -> Mem<ModelBase>
     ensures { IfOk result (λ base. base
         ≡ inject_base own.now (profiles_at profiles.now places.now)) }
@@ -71,7 +71,7 @@ fn inject_build_base(
     alloc: Global,
     own: &BuildBase,
     profiles: &[Profile],
-    places: &[u32],
+    places: &[usize],
 ) -> Mem<BuildBase>
     ensures { IfOk result (λ build. build
         ≡ inject_build_base own.now (profiles_at profiles.now places.now)) }
@@ -81,7 +81,7 @@ fn inject_build_base(
 
 // A build, with the plugins of the profiles at some places.
 #[tactic(auto, unfolding(crate::specs::Injection::inject_build))]
-fn inject_build(alloc: Global, own: &Build, profiles: &[Profile], places: &[u32]) -> Mem<Build>
+fn inject_build(alloc: Global, own: &Build, profiles: &[Profile], places: &[usize]) -> Mem<Build>
     ensures { IfOk result (λ build. build
         ≡ inject_build own.now (profiles_at profiles.now places.now)) }
 {
@@ -102,7 +102,7 @@ fn inject_build(alloc: Global, own: &Build, profiles: &[Profile], places: &[u32]
 /// their names. Costs the lists that are joined, on the average, besides the merging; all else is shared.
 /// POM Reference, "Profiles"; the order is an own rule.
 #[tactic(auto, unfolding(crate::specs::Injection::inject))]
-pub fn inject(alloc: Global, raw: &RawModel, places: &[u32]) -> Mem<RawModel>
+pub fn inject(alloc: Global, raw: &RawModel, places: &[usize]) -> Mem<RawModel>
     ensures { IfOk result (λ model. model ≡ inject raw.now places.now) }
 {
     let profiles = raw.profiles.as_slice();

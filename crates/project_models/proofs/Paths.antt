@@ -1,14 +1,13 @@
 -- The project's POMs have the texts of the files at their paths.
-use Rattle.std.proofs.Common.{◌≡◌, ℕ, Bool, true, false, List, [], ◌∷◌, map, find, unwrap_or, Option, Some, option_map, Result, Ok, refl, sym, ap, subst, ◌∙◌}
+use Rattle.std.proofs.Common.{◌≡◌, ◌≤◌, ℕ, Bool, true, false, List, [], ◌∷◌, map, find, length, unwrap_or, Option, Some, option_map, Ok, refl, sym, ap, subst, ◌∙◌, arith}
+use Rattle.std.proofs.lemmas.List.{length-map}
 use Rattle.std.specs.Prelude.{cond}
 use Rattle.std.specs.List.{AllByRecursion}
 use Rattle.std.specs.Option.{option_or}
 use Rattle.std.specs.Str.{bytes_eq}
 use Rattle.mvn_shared.specs.Files.{Files}
-use Rattle.pom_source.specs.Answers.{Says}
 use Rattle.pom_source.specs.Chains.{bound, goes_on, ok_is}
 use Rattle.pom_source.specs.Worlds.{World}
-use Rattle.pom_source.specs.declared.fault.BuildFault.{BuildFault}
 use Rattle.pom_source.specs.declared.found.Given.{Given}
 use Rattle.pom_lineage.proofs.Holding.{same_path}
 use Rattle.pom_lineage.specs.Stores.{AgreesOnPaths}
@@ -60,12 +59,21 @@ module _ (world : World) where
       ap (λ o. with_text m (unwrap_or o []) ∷ map with_own_text found) (sym all.0) ∙ ap (λ l. found_pom world m ∷ l) (own_texts found all.1)
 
 -- so the project's POMs are those that were discovered, with their own bytes
-pub poms_found : (world : World) (given : Given) (found : List ModulePom) (poms : List ProjectPom) (result : Result (List ProjectPom) BuildFault)
-    → discovered world given ≡ Ok found → poms ≡ map with_own_text found → Says (Ok poms) result → Says (project_poms world given) result
-poms_found world given found poms result said own says =
+pub poms_found : (world : World) (given : Given) (found : List ModulePom) (poms : List ProjectPom) → discovered world given ≡ Ok found → poms ≡ map with_own_text found → project_poms world given ≡ Ok poms
+poms_found world given found poms said own =
     let there = project_there world given found (is_project world given found said) in
-    goes_on (discovered world given) (λ l. Ok (map (found_pom world) l)) found result said
-    (subst (λ (l : List ProjectPom). Says (Ok l) result) (own ∙ own_texts world found there) says)
+    goes_on (discovered world given) (λ l. Ok (map (found_pom world) l)) found (Ok poms) said
+    (ap (λ (l : List ProjectPom). Ok l) (sym (own ∙ own_texts world found there)))
+
+-- and they are as many
+as_many : (found : List ModulePom) (poms : List ProjectPom) → poms ≡ map with_own_text found → length poms ≡ length found
+as_many found poms own = ap length own ∙ length-map found with_own_text
+
+pub some_poms : (found : List ModulePom) (poms : List ProjectPom) → poms ≡ map with_own_text found → 1 ≤ length found → 1 ≤ length poms
+some_poms found poms own any = let many = as_many found poms own in omega (arith, many, any)
+
+pub few_poms : (found : List ModulePom) (poms : List ProjectPom) → poms ≡ map with_own_text found → length found ≤ 1024 → length poms ≤ 1024
+few_poms found poms own few = let many = as_many found poms own in omega (arith, many, few)
 
 -- and a world in which they are found by their coordinates has the same POMs at their paths
 pub agrees : (tree local remote : Files) (given : Given) (poms : List ProjectPom) → project_poms (world_of [] tree local remote) given ≡ Ok poms

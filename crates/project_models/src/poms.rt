@@ -1,5 +1,5 @@
 // The POMs of a project, with their coordinates and their texts.
-ghost use Rattle.std.specs.Prelude.{◌≡◌, ◌≤◌, false, Ok, length, map, IfOk};
+ghost use Rattle.std.specs.Prelude.{◌≡◌, ◌≤◌, length, map, IfOk};
 ghost use Rattle.mvn_shared.specs.Cause.{HasCause};
 ghost use Rattle.profile_activation.specs.Judging.{TellsOn};
 ghost use Rattle.pom_source.specs.Answers.{Says, build_failed};
@@ -13,9 +13,6 @@ use mvn_shared::{List, Mem};
 use pom_lineage::{Store, raw_gav};
 use pom_source::{BuildFault, Given, PomSource};
 use std::alloc::Global;
-
-/// The modules that a project may have. Project rule.
-const MOST_MODULES: usize = 1_024;
 
 // A POM that was discovered, with its coordinates as it says them and with its text. Neither its path nor its text is copied.
 fn found_pom(alloc: Global, listed: ModulePom) -> Mem<ProjectPom>
@@ -37,23 +34,9 @@ fn found_poms(alloc: Global, modules: List<ModulePom>) -> Mem<List<ProjectPom>>
     Ok(poms)
 }
 
-// 1 to 1,024 of them. Discovery gives no others; of a folder that doesn't tell what it holds its clauses don't say so.
-fn bounded(poms: List<ProjectPom>) -> Result<List<ProjectPom>, BuildFault>
-    ensures says { Says (Ok poms) result }
-    ensures any { IfOk result (λ poms. 1 ≤ length poms) }
-    ensures few { IfOk result (λ poms. length poms ≤ 1024) }
-    ensures cause { build_failed result ≡ false }
-{
-    let count = poms.len();
-    if count == 0 || count > MOST_MODULES {
-        return Err(BuildFault::Memory);
-    }
-    Ok(poms)
-}
-
 /// The POMs of the project in the order of their declaration, each with its coordinates as it says them and with its text, or the first
 /// refusal. Each POM's file is read and parsed once, and what it says stays in the store. Guide to Working with Multiple Modules.
-#[tactic(auto, using(crate::proofs::Paths::poms_found))]
+#[tactic(auto, using(crate::proofs::Paths::poms_found, crate::proofs::Paths::some_poms, crate::proofs::Paths::few_poms))]
 pub(crate) fn project_poms<P: PomSource>(
     alloc: Global,
     store: &mut Store,
@@ -71,5 +54,5 @@ pub(crate) fn project_poms<P: PomSource>(
 {
     let found = discover(alloc, store, source, given)?;
     let poms = found_poms(alloc, found)?;
-    bounded(poms)
+    Ok(poms)
 }

@@ -26,7 +26,7 @@ pub struct ReactorModules {
 #[derive(Drop)]
 pub enum ReactorFault {
     Refused(Refusal),
-    Unknown(u32),
+    Unknown(usize),
     Memory,
 }
 

@@ -6,7 +6,7 @@ use Rattle.module_discovery.proofs.Collecting.{collected_step, full_fails}
 use Rattle.module_discovery.proofs.discovery.collected.Goals as goal
 
 pub loop-init : goal.loop-init
-loop-init g c = (λ world fits. fits, here c.args.source.now, refl, λ path found there. there, λ origin there. there, λ world fits holds. (holds, refl))
+loop-init g c = (λ world fits. fits, here c.args.source.now, refl, λ path found there. there, λ origin there. there, λ world fits holds. (holds, refl), omega arith, omega arith)
 
 pub loop-preserved : goal.loop-preserved
 loop-preserved g c =
@@ -24,6 +24,8 @@ loop-preserved g c =
             sym (collected_step world c.args.given.now (1023 - c.loop.counter) (1023 - (c.loop.counter + 1)) c.loop.progress.found c.loop.progress.waiting c.in-Some.waiting c.in-Some.listed c.in-Ok.progress one c.in-Some.ensures (c.in-Ok.ensures.says world (inv.0 world fits) told.0))
                 ∙ told.1,
           ),
+      omega (arith, c.in-Ok.ensures.one, inv.6),
+      omega (arith, lt),
     )
 
 pub returns-in-Err-with_none-clause-says : goal.returns-in-Err-with_none-clause-says

@@ -537,6 +537,21 @@ else
   same 'the projects whose POMs are traced are built' 'total 3 built 3 failed 0 skipped 0' "$(tail -n 1 "$work/said")"
   same 'the file of each POM is opened once' $'a/pom.xml\nb/pom.xml\npom.xml' \
     "$(sed -n 's,.*"\(\./\)*\([^"]*pom\.xml\)".* = [0-9].*,\2,p' "$work/trace" | sort)"
+
+  # and so is a source file that several modules have
+  project 'a b c'
+  shared='<build><sourceDirectory>../shared/src</sourceDirectory></build>'
+  child a "$shared"
+  child b "$shared"
+  child c "$shared"
+  mkdir -p shared/src/x c/src/main/resources
+  echo 'class A {}' > shared/src/x/A.java
+  echo 'class B {}' > shared/src/B.java
+  echo c > c/src/main/resources/c.java
+  strace -f -o "$work/trace" -e trace=open,openat "$mvn" validate > "$work/said" 2>&1
+  same 'modules that share a source folder are built' 'total 4 built 4 failed 0 skipped 0' "$(tail -n 1 "$work/said")"
+  same 'a source file of several modules is opened once' $'c/src/main/resources/c.java\nshared/src/B.java\nshared/src/x/A.java' \
+    "$(sed -n 's,.*"\(\./\)*\([^"]*\.java\)".* = [0-9].*,\2,p' "$work/trace" | LC_ALL=C sort)"
   cd "$work" || exit 1
 fi
 

@@ -1,6 +1,7 @@
 //! The sources of a project: the files below its source folders, each once, with their bytes.
 #![tactic(auto)]
 
+mod earlier;
 mod modules;
 mod names;
 mod sources;

@@ -1,8 +1,10 @@
 // The sources of several modules.
 ghost use Rattle.std.specs.Prelude.{◌≡◌, ◌+◌, length, IfOk, IfSome};
 ghost use Rattle.mvn_shared.specs.Cause.{HasCause};
+ghost use Rattle.source_files.specs.Earlier.{AreThere};
 ghost use Rattle.source_files.specs.Sources.{first_of, GivesAll, PutsSources, TakesRoom, sources_failed};
 
+use crate::earlier::Earlier;
 use crate::names::source_names;
 use crate::sources::{SourcesFault, read_sources};
 use goal_types::SourceFile;
@@ -36,7 +38,9 @@ fn take_sources<T: Tree>(
     folders: &[Text],
     count: &mut usize,
     room: &mut u64,
+    earlier: &Earlier,
 ) -> Result<List<SourceFile>, SourcesFault>
+    requires there { IfSome (T.files tree.old) (λ files. AreThere files earlier.now) }
     ensures takes { IfSome (T.files tree.old) (λ files.
         TakesRoom files folders.now count.old room.old count.new room.new result) }
     ensures same { T.files tree.new ≡ T.files tree.old }
@@ -50,11 +54,11 @@ fn take_sources<T: Tree>(
         return Err(SourcesFault::TooMany);
     }
     *count -= names.len();
-    let read = read_sources(alloc, tree, names.as_slice(), *room);
+    let read = read_sources(alloc, tree, earlier, names.as_slice(), *room);
     kept(read, room)
 }
 
-// Puts the sources of one module more to the list.
+// Puts the sources of one module more to those of the modules before.
 #[tactic(auto, using(crate::proofs::SourcesRead::puts_sources, crate::proofs::SourcesRead::puts_none))]
 fn push_sources<T: Tree>(
     alloc: Global,
@@ -62,26 +66,32 @@ fn push_sources<T: Tree>(
     folders: &[Text],
     count: &mut usize,
     room: &mut u64,
-    list: &mut List<List<SourceFile>>,
+    earlier: &mut Earlier,
 ) -> Result<(), SourcesFault>
+    requires there { IfSome (T.files tree.old) (λ files. AreThere files earlier.old) }
     ensures puts { IfSome (T.files tree.old) (λ files. PutsSources files folders.now
-        count.old room.old count.new room.new list.old list.new result) }
-    ensures one { IfOk result (λ done. length list.new ≡ length list.old + 1) }
+        count.old room.old count.new room.new earlier.old earlier.new result) }
+    ensures one { IfOk result (λ done. length earlier.new ≡ length earlier.old + 1) }
     ensures same { T.files tree.new ≡ T.files tree.old }
     ensures cause { HasCause (T.faults tree.old) (T.faults tree.new) (sources_failed result) }
 {
-    let sources = match take_sources(alloc, tree, folders, count, room) {
+    match earlier.note_last() {
+        Ok(()) => {}
+        Err(_) => return Err(SourcesFault::Memory),
+    }
+    let sources = match take_sources(alloc, tree, folders, count, room, earlier) {
         Ok(sources) => sources,
         Err(fault) => return Err(fault),
     };
-    match list.push(sources) {
+    match earlier.push(sources) {
         Ok(()) => Ok(()),
         Err(_) => Err(SourcesFault::Memory),
     }
 }
 
 /// The sources of several modules, of each the files below its folders, with their paths and bytes, ascending by path, each once. All
-/// together at most 65,536 files of at most 256 MiB; a file of two modules counts twice. No file is read for more bytes than are still
+/// together at most 65,536 files of at most 256 MiB; a file of two modules counts twice, but is read once, for the first of them, and its
+/// bytes are copied for the others. A folder is listed for each module that has it. No file is read for more bytes than are still
 /// allowed. Costs the listings, and logarithmic time for each name. Maven's Standard Directory Layout.
 pub fn all_sources<T: Tree>(
     alloc: Global,
@@ -93,7 +103,7 @@ pub fn all_sources<T: Tree>(
     ensures same { T.files tree.new ≡ T.files tree.old }
     ensures cause { HasCause (T.faults tree.old) (T.faults tree.new) (sources_failed result) }
 {
-    let mut list = List::new(alloc);
+    let mut earlier = Earlier::new(alloc);
     let mut count = MOST_FILES;
     let mut room = MOST_SOURCES;
     for folders in modules {
@@ -103,11 +113,11 @@ pub fn all_sources<T: Tree>(
             folders.as_slice(),
             &mut count,
             &mut room,
-            &mut list,
+            &mut earlier,
         ) {
             Ok(()) => {}
             Err(fault) => return Err(fault),
         }
     }
-    Ok(list)
+    Ok(earlier.into_lists())
 }

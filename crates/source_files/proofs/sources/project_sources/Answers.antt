@@ -1,9 +1,7 @@
-use Rattle.std.proofs.Common.{ℕ, List, Option, Result, Ok, Err, IfSome, subst, sym}
+use Rattle.std.proofs.Common.{ℕ, List, Option, Ok, Err, IfSome, subst}
 use Rattle.mvn_base.specs.Limits.{most_sources}
-use Rattle.goal_types.specs.declared.goal.SourceFile.{SourceFile}
-use Rattle.source_files.specs.declared.sources.SourcesFault.{SourcesFault}
 use Rattle.mvn_shared.specs.Files.{Files}
-use Rattle.source_files.specs.Sources.{first_of, sources_at, ListsNames, ReadsSources, GivesSources}
+use Rattle.source_files.specs.Sources.{sources_at, ListsNames, ReadsSources, GivesSources}
 use Rattle.source_files.proofs.SourcesRead.{if_some_map, if_some_both, names_give, reads_give}
 use Rattle.source_files.proofs.sources.project_sources.Goals as goal
 
@@ -13,11 +11,10 @@ returns-in-Err-clause-gives g c = if_some_map (λ files. ListsNames files c.args
 pub returns-in-Ok-clause-gives : goal.returns-in-Ok-clause-gives
 returns-in-Ok-clause-gives g c =
     let told = g.T.Tree.files c.args.tree.now in
-    let read = first_of c.read_sources.result in
+    let read = c.read_anew.result in
     let reads = λ (ns : List (List ℕ)) (files : Files). ReadsSources most_sources (sources_at files ns) read in
-    subst (λ (r : Result (List SourceFile) SourcesFault). IfSome told (λ files. GivesSources files c.args.folders.now r)) (sym c.sources_alone.ensures)
-    (if_some_both (λ files. ListsNames files c.args.folders.now (Ok c.in-Ok.names)) (reads c.in-Ok.names) (λ files. GivesSources files c.args.folders.now read) told
+    if_some_both (λ files. ListsNames files c.args.folders.now (Ok c.in-Ok.names)) (reads c.in-Ok.names) (λ files. GivesSources files c.args.folders.now read) told
     (λ files n h. reads_give files c.args.folders.now c.in-Ok.names read n h)
     c.in-Ok.ensures.lists
     (subst (λ (t : Option Files). IfSome t (reads c.in-Ok.names)) c.in-Ok.ensures.same
-    (subst (λ (ns : List (List ℕ)). IfSome (g.T.Tree.files c.source_names.new.tree) (reads ns)) c.as_slice.ensures c.read_sources.ensures.reads)))
+    (subst (λ (ns : List (List ℕ)). IfSome (g.T.Tree.files c.source_names.new.tree) (reads ns)) c.as_slice.ensures c.read_anew.ensures.reads))

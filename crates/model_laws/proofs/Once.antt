@@ -7,6 +7,7 @@ use Rattle.mvn_base.specs.declared.refusal.PomId.{PomId}
 use Rattle.mvn_base.specs.declared.refusal.PomId.TheVariants as ids
 use Rattle.model_types.specs.declared.build.BuildBase.{BuildBase}
 use Rattle.model_types.specs.declared.dependency.Dependency.{Dependency}
+use Rattle.model_types.specs.declared.model.Model.{Model}
 use Rattle.model_types.specs.declared.model.RawModel.{RawModel}
 use Rattle.model_types.specs.declared.plugin.Plugin.{Plugin}
 use Rattle.model_merge.specs.Keyed.{item_of, overlaid, same_key, settled, underlaid}
@@ -17,8 +18,12 @@ use Rattle.lifecycle.specs.Bindings.{bindings, bound_to, undeclared}
 use Rattle.profile_activation.specs.Activation.{is_of_project}
 use Rattle.pom_source.specs.Answers.{Built}
 use Rattle.pom_source.specs.Chains.{ok_is}
+use Rattle.pom_source.specs.Worlds.{World}
+use Rattle.pom_source.specs.declared.found.Given.{Given}
 use Rattle.model_steps.specs.Assembly.{completed, is_dropped, kept_as, managed_set, model_of, plugins_as, with_scope}
 use Rattle.model_steps.specs.Building.{bound_base, built, built_by}
+use Rattle.effective.specs.Effective.{effective}
+use Rattle.effective.proofs.Imported.{put_together}
 use Rattle.model_laws.specs.Keys.{IsSettled, each_once, goals_once, has}
 use Rattle.model_laws.specs.Once.{ArePluginsOnce, HasKeysOnce, parts_once}
 use Rattle.model_laws.proofs.Composed.{join_bound, key_applied}
@@ -155,3 +160,8 @@ model_once filled plugins imports e =
       plugins = both.0;
       managed_plugins = both.1;
     }
+
+pub effective_once : (world : World) (given : Given) (pom : PomId) (model : Model) → effective world given pom ≡ Ok model → HasKeysOnce model
+effective_once world given pom model e =
+    let put = put_together world given pom model e in
+    subst HasKeysOnce (sym put.is_whole) (model_once put.filled put.plugins put.lists put.are_built)

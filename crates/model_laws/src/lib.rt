@@ -11,4 +11,4 @@ pub use composing::{
     no_profile_settles, profile_wins, profiles_add_keys, stated_version_stays,
 };
 pub use joining::{executions_join, lists_join, settled_stays};
-pub use whole::keys_stand_once;
+pub use whole::{effective_keys_stand_once, keys_stand_once};

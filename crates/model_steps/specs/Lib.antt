@@ -5,5 +5,6 @@ pub mod Building
 pub mod Folders
 pub mod Imports
 pub mod Kinds
+pub mod Once
 pub mod Valid
 pub mod Validation

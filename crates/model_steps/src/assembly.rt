@@ -5,9 +5,10 @@ ghost use Rattle.model_types.specs.declared.dependency.Dependency as entries;
 ghost use Rattle.model_steps.specs.Assembly.{base_of, build_of, completed, gav_of, is_dropped, kept_as, model_of, plugins_as, settled_base, with_scope};
 ghost use Rattle.model_steps.specs.Valid.{has_no_import, is_scoped};
 
+use crate::once::{once, plugins_once};
 use crate::texts::{is_scope, text_or_empty};
 use managed_deps::{ManagedSet, apply, managed};
-use model_merge::{copies, settled, settled_plugins};
+use model_merge::{copies, settled};
 use model_types::{Build, BuildBase, Coordinates, Dependency, Model, ModelBase, Parent, RawModel};
 use mvn_base::{Gav, PomId};
 use mvn_shared::{List, Mem, Shared, Text};
@@ -110,7 +111,7 @@ fn completed(
 ) -> Mem<List<Shared<Dependency>>>
     ensures { IfOk result (λ list. list ≡ completed pom.now set.now dependencies.now) }
 {
-    let own = settled(alloc, dependencies.as_slice())?;
+    let own = once(alloc, copies(dependencies)?)?;
     let kept = kept_as(alloc, pom, &own)?;
     let applied = apply(alloc, kept.as_slice(), set)?;
     with_scopes(alloc, &applied)
@@ -137,8 +138,8 @@ fn base_of(alloc: Global, pom: &PomId, set: ManagedSet, base: &ModelBase) -> Mem
 fn settled_base(alloc: Global, base: &BuildBase) -> Mem<Shared<BuildBase>>
     ensures { IfOk result (λ it. it ≡ settled_base base.now) }
 {
-    let plugins = settled_plugins(alloc, base.plugins.as_slice())?;
-    let managed_plugins = settled_plugins(alloc, base.managed_plugins.as_slice())?;
+    let plugins = plugins_once(alloc, base.plugins.as_slice())?;
+    let managed_plugins = plugins_once(alloc, base.managed_plugins.as_slice())?;
     let base = BuildBase {
         plugins,
         managed_plugins,

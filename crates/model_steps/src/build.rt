@@ -4,10 +4,10 @@ ghost use Rattle.model_steps.specs.Building.{bound_base, built, built_by};
 ghost use Rattle.lifecycle.specs.Bindings.{bindings};
 ghost use Rattle.managed_deps.specs.Managed.{apply_plugins};
 
+use crate::once::plugins_once;
 use crate::texts::is_of_project;
 use lifecycle::{bind, bindings};
 use managed_deps::apply_plugins;
-use model_merge::settled_plugins;
 use model_types::{BuildBase, Plugin, RawModel};
 use mvn_base::{PomId, Rule};
 use mvn_shared::{List, Mem, Shared, Text};
@@ -41,7 +41,7 @@ fn bound_base(
     let managed = base.managed_plugins.as_slice();
     let declared = declared_of(alloc, base)?;
     let plugins = bind(alloc, declared.as_slice(), managed, bound)?;
-    let managed_plugins = settled_plugins(alloc, managed)?;
+    let managed_plugins = plugins_once(alloc, managed)?;
     let base = BuildBase {
         plugins,
         managed_plugins,

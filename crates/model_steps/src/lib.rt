@@ -7,6 +7,7 @@ mod build;
 mod folders;
 mod import;
 mod kind;
+mod once;
 mod problem;
 mod texts;
 mod validation;

@@ -1,7 +1,9 @@
 #!/usr/bin/env bash
-# How the time of finding winners grows with the dependency graph, as ratios in one run of the built program `bench_graphs`.
-# The graph is read as text, which is part of it; a ratio of the sizes is what near linear costs.
+# How the time of finding winners grows with the dependency graph, as ratios in one run of the built program `bench_graphs`, and for a chain
+# whose libraries each exclude something the most memory. The graph is read as text, which is part of it; a ratio of the sizes is what
+# near linear costs.
 . "$(dirname "$0")/common.sh"
+memory=$PWD/bench/memory.py
 want crates/bench_graphs/out/bench_graphs '(cd crates/bench_graphs && rt run)'
 once() { "$program" < in > out; }
 
@@ -20,6 +22,11 @@ excluded() {
   diamonds "$1" | sed '1s/-$/other:thing/'
 }
 
+# WINNERS: each needs the next one and excludes another artifact below it, so that the last is looked up among as many exclusions
+excluding() {
+  awk -v n="$1" 'BEGIN { print "needs g a1 1 jar - - other:x0"; for (i = 1; i <= n; i++) { print "pom g a" i " 1"; if (i < n) print "needs g a" i + 1 " 1 jar - - other:x" i } }'
+}
+
 # MODULES: each of ten dependencies among 300 artifacts, which need three of the next ones
 modules() {
   awk -v n="$1" 'BEGIN { srand(7); for (m = 0; m < n; m++) { if (m) print "project"; for (k = 0; k < 10; k++) print "needs g a" 1 + int(rand() * 300) " 1 jar - - -"; for (i = 1; i <= 300; i++) { print "pom g a" i " 1"; for (k = 1; k <= 3 && i + 7 * k <= 300; k++) print "needs g a" i + 7 * k " 1 jar - - -" } } }'
@@ -35,7 +42,14 @@ for shape in chain diamonds excluded; do
   done
 done
 first=
-for number in 10 20 40; do
+for winners in 1000 2000 4000; do
+  excluding "$winners" > in
+  row 'winners in a graph: excluding' "$winners" $(($(least 15) - base))
+  kib=$("$memory" "$program" < in)
+  echo "that with $((kib / 1024)) MiB at most"
+done
+first=
+for number in 10 20 40 1000; do
   modules "$number" > in
-  row 'modules of ten dependencies' "$number" $(($(least 15) - base))
+  row 'modules of ten dependencies' "$number" $(($(least $((number > 40 ? 3 : 15))) - base))
 done

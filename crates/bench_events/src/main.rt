@@ -19,8 +19,8 @@ use std::alloc::Global;
 use walks::{front, long, walk};
 use worked::{answers_to, stands};
 
-// What is told of a word and a number.
-fn told(alloc: Global, word: &str, number: u32) -> Mem<(u32, usize)> {
+// The sum and the count of a word and a number.
+fn counted(alloc: Global, word: &str, number: u32) -> Mem<(u32, usize)> {
     match word {
         "walk" => walk(alloc, number),
         "long" => Ok((0, long(alloc, number)? as usize)),
@@ -29,28 +29,34 @@ fn told(alloc: Global, word: &str, number: u32) -> Mem<(u32, usize)> {
     }
 }
 
-fn print_told(rt: &HostRuntime, word: &str, number: u32) -> anyhow::Result<()> {
-    match told(rt.alloc(), word, number) {
-        Ok((sum, count)) => println!(rt; "{word} {number}: {sum} {count}")?,
-        Err(_) => println!(rt; "out of memory")?,
-    }
-    Ok(())
+// What is told of a word and a number.
+fn counts(alloc: Global, word: &str, number: u32) -> Mem<String> {
+    let (sum, count) = counted(alloc, word, number)?;
+    Ok(format!(in alloc; "{word} {number}: {sum} {count}")?)
 }
 
-fn print_line(rt: &HostRuntime, told: Mem<String>) -> anyhow::Result<()> {
-    match told {
-        Ok(shown) => println!(rt; "{shown}")?,
-        Err(_) => println!(rt; "out of memory")?,
+// What is told of a row.
+fn told(alloc: Global, word: &str, rest: &str) -> Mem<String> {
+    match word {
+        "worked" => answers_to(alloc, rest),
+        "stands" => stands(alloc, rest),
+        _ => counts(alloc, word, rest.parse::<u32>().unwrap_or(0)),
     }
-    Ok(())
+}
+
+// The line that is printed.
+fn line_of(told: &Mem<String>) -> &str {
+    match told {
+        Ok(shown) => shown.as_str(),
+        Err(_) => "out of memory",
+    }
 }
 
 fn print_row(rt: &HostRuntime, word: &str, rest: &str) -> anyhow::Result<()> {
-    match word {
-        "worked" => print_line(rt, answers_to(rt.alloc(), rest)),
-        "stands" => print_line(rt, stands(rt.alloc(), rest)),
-        _ => print_told(rt, word, rest.parse::<u32>().unwrap_or(0)),
-    }
+    let told = told(rt.alloc(), word, rest);
+    let line = line_of(&told);
+    println!(rt; "{line}")?;
+    Ok(())
 }
 
 fn main(rt: HostRuntime) -> anyhow::Result<()> {

@@ -27,15 +27,31 @@ fn files(alloc: Global) -> Mem<FileMap> {
     Ok(files)
 }
 
+// Whether these are the names of the two files below `src`.
+fn are_below(names: &[Text]) -> bool {
+    match names {
+        [d, b] => d.as_str() == "src/a/d" && b.as_str() == "src/b",
+        _ => false,
+    }
+}
+
+// Whether those two lie below a folder, which is there and is no file.
+fn lie_below(alloc: Global, files: &FileMap, folder: &Text) -> Mem<bool> {
+    let names = files.names_below(alloc, folder)?;
+    let below = are_below(names.as_slice());
+    Ok(below && files.is_there(folder) && files.get(folder).is_none())
+}
+
+// How many files there are, and how many names.
+fn counts(alloc: Global, files: &FileMap) -> Mem<(usize, usize)> {
+    Ok((files.len(), files.names(alloc)?.len()))
+}
+
 #[test]
 fn files_lie_below_their_folders(rt: HostRuntime) -> Result<(), Fail> {
     let files = files(rt.alloc())?;
     let folder = Text::from_str(rt.alloc(), "src")?;
-    let names = files.names_below(rt.alloc(), &folder)?;
-    assert!(rt;
-        matches!(names.as_slice(), [d, b] if d.as_str() == "src/a/d" && b.as_str() == "src/b")
-    );
-    assert!(rt; files.is_there(&folder) && files.get(&folder).is_none());
-    assert_eq!(rt; (files.len(), files.names(rt.alloc())?.len()), (3, 3));
+    assert!(rt; lie_below(rt.alloc(), &files, &folder)?);
+    assert_eq!(rt; counts(rt.alloc(), &files)?, (3, 3));
     Ok(())
 }

@@ -2,6 +2,7 @@ ghost use Rattle.std.specs.Prelude.{◌≡◌, IfOk};
 ghost use Rattle.collector.specs.Edges.{direct_edge, direct_edges};
 
 use crate::edge::{Edge, stated_edge};
+use crate::exclusions::Exclusions;
 use model_merge::Keyed;
 use model_types::Dependency;
 use mvn_shared::{List, Mem, Shared};
@@ -12,7 +13,7 @@ fn direct_edge(alloc: Global, position: usize, dependency: &Dependency) -> Mem<E
     ensures { IfOk result (λ made. made ≡ direct_edge position dependency.now) }
 {
     let key = dependency.key(alloc)?;
-    let exclusions = Shared::new(alloc, dependency.exclusions.clone()?)?;
+    let exclusions = Exclusions::new(alloc, dependency.exclusions.clone()?)?;
     stated_edge(
         alloc,
         position,

@@ -2,10 +2,10 @@ ghost use Rattle.std.specs.Prelude.{◌≡◌, IfOk};
 ghost use Rattle.std.specs.Option.{option_or};
 ghost use Rattle.collector.specs.Edges.{stated_edge, text_of};
 
+use crate::exclusions::Exclusions;
 use crate::scope::{Scope, scope_of};
-use model_types::Exclusion;
 use mvn_base::Key;
-use mvn_shared::{List, Mem, Shared, Text};
+use mvn_shared::{Mem, Text};
 use std::alloc::Global;
 
 /// A dependency as an edge of the graph: what it leads to, and all that counts below it.
@@ -20,7 +20,7 @@ pub struct Edge {
     /// Whether the project's management gives the scope.
     pub managed_scope: bool,
     /// What is left out below it: what was left out above, and what its declaration and the project's management add.
-    pub exclusions: Shared<List<Exclusion>>,
+    pub exclusions: Exclusions,
 }
 
 // A text, empty where there is none.
@@ -52,7 +52,7 @@ pub fn stated_edge(
     version: &Option<Text>,
     scope: &Option<Text>,
     managed_scope: bool,
-    exclusions: Shared<List<Exclusion>>,
+    exclusions: Exclusions,
 ) -> Mem<Edge>
     ensures { IfOk result (λ made. made
         ≡ stated_edge position key version.now scope.now managed_scope exclusions) }

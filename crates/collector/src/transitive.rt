@@ -1,7 +1,9 @@
 ghost use Rattle.std.specs.Prelude.{◌≡◌, ◌++◌, IfOk, OnOk};
 ghost use Rattle.collector.specs.Edges.{edge_below, excludes, is_excluded, is_kept, is_named, managed_edge, plain_edge, transitive_edge, transitive_edges};
 
+use crate::chain::{Chain, Link};
 use crate::edge::{Edge, first_of, stated_edge};
+use crate::exclusions::Exclusions;
 use crate::scope::is_scope;
 use managed_deps::ManagedSet;
 use model_merge::Keyed;
@@ -36,7 +38,7 @@ fn excludes(exclusion: &Exclusion, dependency: &Dependency) -> bool
         && is_named(exclusion.artifact.as_str(), dependency.artifact.as_str())
 }
 
-// Whether some exclusion does.
+// Whether some exclusion of one part does.
 fn is_excluded(cut: &[Exclusion], dependency: &Dependency) -> bool
     ensures { result ≡ is_excluded cut.now dependency.now }
 {
@@ -48,30 +50,22 @@ fn is_excluded(cut: &[Exclusion], dependency: &Dependency) -> bool
     false
 }
 
-// Exclusions more.
-fn add_all(list: &mut List<Exclusion>, more: &[Exclusion]) -> Mem<()>
-    ensures { OnOk result (list.new ≡ list.old ++ more.now) }
+// Whether some exclusion of all the parts does; the last part is looked at first.
+fn is_among(chain: &Chain, dependency: &Dependency) -> bool
+    ensures { result ≡ is_excluded chain.now dependency.now }
 {
-    for exclusion in more {
-        list.push(exclusion.clone()?)?;
+    let mut cut = chain;
+    loop {
+        match &cut.link {
+            Link::First(own) => return is_excluded(own.as_slice(), dependency),
+            Link::Behind(above, own) => {
+                if is_excluded(own.as_slice(), dependency) {
+                    return true;
+                }
+                cut = above;
+            }
+        }
     }
-    Ok(())
-}
-
-// What is left out above, and what is added; shared where nothing is.
-fn gathered(
-    alloc: Global,
-    cut: &Shared<List<Exclusion>>,
-    more: &List<Exclusion>,
-) -> Mem<Shared<List<Exclusion>>>
-    ensures { IfOk result (λ list. list ≡ cut.now ++ more.now) }
-{
-    if more.is_empty() {
-        return cut.share();
-    }
-    let mut list = cut.value().clone()?;
-    add_all(&mut list, more.as_slice())?;
-    Shared::new(alloc, list)
 }
 
 // What a declaration leads to that isn't managed.
@@ -80,11 +74,11 @@ fn plain_edge(
     position: usize,
     key: Key,
     dependency: &Dependency,
-    cut: &Shared<List<Exclusion>>,
+    cut: &Exclusions,
 ) -> Mem<Edge>
     ensures { IfOk result (λ made. made ≡ plain_edge position key dependency.now cut.now) }
 {
-    let exclusions = gathered(alloc, cut, &dependency.exclusions)?;
+    let exclusions = cut.with(alloc, &dependency.exclusions)?;
     stated_edge(
         alloc,
         position,
@@ -102,14 +96,14 @@ fn managed_edge(
     position: usize,
     key: Key,
     dependency: &Dependency,
-    cut: &Shared<List<Exclusion>>,
+    cut: &Exclusions,
     managed: &Dependency,
 ) -> Mem<Edge>
     ensures { IfOk result (λ made. made
         ≡ managed_edge position key dependency.now cut.now managed.now) }
 {
-    let own = gathered(alloc, cut, &dependency.exclusions)?;
-    let exclusions = gathered(alloc, &own, &managed.exclusions)?;
+    let own = cut.with(alloc, &dependency.exclusions)?;
+    let exclusions = own.with(alloc, &managed.exclusions)?;
     stated_edge(
         alloc,
         position,
@@ -127,7 +121,7 @@ fn edge_below(
     position: usize,
     dependency: &Dependency,
     managed: &ManagedSet,
-    cut: &Shared<List<Exclusion>>,
+    cut: &Exclusions,
 ) -> Mem<Edge>
     ensures { IfOk result (λ made. made ≡ edge_below position dependency.now managed.now cut.now) }
 {
@@ -145,12 +139,12 @@ fn add_edge(
     position: usize,
     dependency: &Dependency,
     managed: &ManagedSet,
-    cut: &Shared<List<Exclusion>>,
+    cut: &Exclusions,
 ) -> Mem<()>
     ensures { OnOk result (list.new
         ≡ list.old ++ transitive_edge managed.now cut.now position dependency.now) }
 {
-    if is_kept(dependency) && !is_excluded(cut.as_slice(), dependency) {
+    if is_kept(dependency) && !is_among(&cut.chain, dependency) {
         list.push(edge_below(alloc, position, dependency, managed, cut)?)?;
     }
     Ok(())
@@ -159,14 +153,14 @@ fn add_edge(
 /// What the dependencies of a POM below the project lead to. Left out are those that are optional, those of the scopes
 /// test, provided and system, and those that an exclusion from above names, `*` standing for any group or artifact. The
 /// version and the scope that the project manages replace the declaration's, and its exclusions are added. Costs the
-/// texts, a look-up each, and a comparison with each exclusion; what is left out above is shared where nothing is
-/// added. Introduction to the Dependency Mechanism, "Transitive Dependencies", "Dependency Management" and "Excluded
+/// texts, a look-up each, and a comparison with each exclusion; what is left out above is shared and never copied.
+/// Introduction to the Dependency Mechanism, "Transitive Dependencies", "Dependency Management" and "Excluded
 /// Dependencies".
 pub fn edges(
     alloc: Global,
     dependencies: &[Shared<Dependency>],
     managed: &ManagedSet,
-    cut: &Shared<List<Exclusion>>,
+    cut: &Exclusions,
 ) -> Mem<List<Edge>>
     ensures { IfOk result (λ list. list ≡ transitive_edges dependencies.now managed.now cut.now) }
 {

@@ -17,9 +17,9 @@ use crate::fault::MediationFault;
 use crate::known::{Known, Lookup, ask_model};
 use crate::pick::chosen;
 use crate::winner::{Winner, Winners};
-use collector::{Edge, direct_edges};
+use collector::{Edge, Exclusions, direct_edges};
 use managed_deps::ManagedSet;
-use model_types::{Dependency, Exclusion};
+use model_types::Dependency;
 use mvn_base::{Gav, Key};
 use mvn_shared::{List, Mem, Shared, Text};
 use std::alloc::Global;
@@ -224,7 +224,7 @@ fn edges_of(
     alloc: Global,
     known: &Known,
     managed: &ManagedSet,
-    cut: &Shared<List<Exclusion>>,
+    cut: &Exclusions,
 ) -> Mem<Shared<List<Edge>>>
     ensures { IfOk result (λ list.
         list ≡ transitive_edges (declarations known.now) managed.now cut.now) }

@@ -6,9 +6,8 @@ ghost use Rattle.mediation.specs.Jars.{jar_row};
 
 use crate::jars::{Jars, jar_with, jars_of};
 use classpaths::Resolved;
-use collector::{Edge, Scope, edges};
+use collector::{Edge, Exclusions, Scope, edges};
 use managed_deps::{ManagedSet, managed};
-use model_types::Exclusion;
 use mvn_shared::{List, Mem, Shared};
 use std::alloc::Global;
 use std::marker::Model;
@@ -46,7 +45,7 @@ fn shared_edges(
     alloc: Global,
     model: &model_types::Model,
     managed: &ManagedSet,
-    cut: &Shared<List<Exclusion>>,
+    cut: &Exclusions,
 ) -> Mem<Shared<List<Edge>>>
     ensures { IfOk result (λ list.
         list ≡ transitive_edges model.now.base.dependencies managed.now cut.now) }
@@ -60,7 +59,7 @@ fn plain_edges(alloc: Global, model: &model_types::Model) -> Mem<Shared<List<Edg
     ensures { IfOk result (λ list. list ≡ transitive_edges model.now.base.dependencies [] []) }
 {
     let nothing = managed(alloc, &[], &[])?;
-    let none = Shared::new(alloc, List::new(alloc))?;
+    let none = Exclusions::new(alloc, List::new(alloc))?;
     shared_edges(alloc, model, &nothing, &none)
 }
 
@@ -108,7 +107,7 @@ impl Library {
         &self,
         alloc: Global,
         managed: &ManagedSet,
-        cut: &Shared<List<Exclusion>>,
+        cut: &Exclusions,
     ) -> Mem<Shared<List<Edge>>>
         ensures { IfOk result (λ list.
             list ≡ transitive_edges self.now.base.dependencies managed.now cut.now) }

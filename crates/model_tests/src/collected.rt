@@ -1,7 +1,7 @@
 // What the dependencies of a POM lead to (`collector`).
-use collector::{direct_edges, edges};
+use collector::{Exclusions, direct_edges, edges};
 use managed_deps::managed;
-use mvn_shared::{List, Shared};
+use mvn_shared::List;
 use row_models::behind;
 use std::test::Fail;
 
@@ -21,7 +21,7 @@ fn a_project_has_all_that_it_declares(rt: HostRuntime) -> Result<(), Fail> {
 fn below_a_project_the_optional_is_left_out(rt: HostRuntime) -> Result<(), Fail> {
     let model = behind(rt.alloc(), POM)?;
     let set = managed(rt.alloc(), model.base.managed.as_slice(), &[])?;
-    let cut = Shared::new(rt.alloc(), List::new(rt.alloc()))?;
+    let cut = Exclusions::new(rt.alloc(), List::new(rt.alloc()))?;
     let below = edges(rt.alloc(), model.base.dependencies.as_slice(), &set, &cut)?;
     let edge = below.get(0).ok_or("no edge")?;
     assert_eq!(rt;

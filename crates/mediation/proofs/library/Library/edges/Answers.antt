@@ -7,7 +7,7 @@ use Rattle.mediation.proofs.library.Library.edges.Goals as goal
 
 pub returns : goal.returns
 returns c =
-    let at : c.as_slice.result.now ≡ c.self.inside.edges = c.as_slice.ensures ∙ c.deref-else-not-is_empty.ensures in
+    let at : c.as_slice.result.now ≡ c.self.inside.edges = c.as_slice.ensures ∙ c.deref.ensures in
     let free : list_any (λ e. is_some (find_pair c.args.managed.now e.key)) c.self.inside.edges ≡ false =
     sym (ap (list_any (λ e. is_some (find_pair c.args.managed.now e.key))) at) ∙ sym c.is_managed.ensures ∙ c.if-is_managed.false in
     let cut : c.args.cut.now ≡ [] = search rules in

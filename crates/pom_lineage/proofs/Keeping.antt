@@ -21,7 +21,6 @@ use Rattle.pom_lineage.specs.Stores.{IsKept, meets}
 use Rattle.pom_lineage.proofs.Naming.{text_pom}
 use Rattle.pom_lineage.specs.declared.joined.Joined.{Joined}
 use Rattle.pom_lineage.specs.declared.origin.Candidate.{Candidate}
-use Rattle.pom_lineage.specs.declared.origin.Candidate.TheVariants as candidates
 use Rattle.pom_lineage.specs.declared.origin.Origin.{Origin}
 use Rattle.pom_lineage.specs.declared.origin.Origin.TheVariants.{Beside, Elsewhere}
 

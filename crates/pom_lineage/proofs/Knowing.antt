@@ -1,5 +1,5 @@
 -- What is known of a POM is what was read of it.
-use Rattle.std.proofs.Common.{◌≡◌, ℕ, List, Option, None, Some, Result, Ok, Err, sym, ap}
+use Rattle.std.proofs.Common.{◌≡◌, ℕ, List, Option, Some, Result, Ok, Err, sym, ap}
 use Rattle.mvn_base.specs.declared.refusal.PomId.{PomId}
 use Rattle.mvn_base.specs.declared.refusal.Refusal.{Refusal}
 use Rattle.model_types.specs.declared.model.RawModel.{RawModel}

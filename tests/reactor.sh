@@ -553,6 +553,19 @@ else
   same 'a source file of several modules is opened once' $'c/src/main/resources/c.java\nshared/src/B.java\nshared/src/x/A.java' \
     "$(sed -n 's,.*"\(\./\)*\([^"]*\.java\)".* = [0-9].*,\2,p' "$work/trace" | LC_ALL=C sort)"
   cd "$work" || exit 1
+
+  # and so the file of a POM of the repository that is a parent, an import and a library
+  project 'a b'
+  stored .m2/repository x p 1 '<packaging>pom</packaging>'
+  p='<groupId>x</groupId><artifactId>p</artifactId><version>1</version>'
+  pom a "<parent>$p<relativePath/></parent>$(gav a)"
+  import="<dependency>$p<type>pom</type><scope>import</scope></dependency>"
+  alone b "<dependencyManagement><dependencies>$import</dependencies></dependencyManagement>$(lib x p 1)"
+  strace -f -o "$work/trace" -e trace=open,openat "$mvn" validate > "$work/said" 2>&1
+  same 'the projects over one POM of the repository are built' 'total 3 built 3 failed 0 skipped 0' "$(tail -n 1 "$work/said")"
+  same 'the file of a POM that is a parent, an import and a library is opened once' 1 \
+    "$(grep -c '"[^"]*/p-1\.pom".* = [0-9]' "$work/trace")"
+  cd "$work" || exit 1
 fi
 
 # --- generated projects, whose reports tests/reactor_graphs.py computes anew

@@ -1,5 +1,6 @@
 pub mod Imported
 pub mod Importing
+pub mod Knowing
 pub mod Meeting
 pub mod Presence
 pub mod Replacing

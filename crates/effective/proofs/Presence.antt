@@ -29,7 +29,7 @@ use Rattle.pom_source.specs.declared.fault.BuildFault.TheVariants.{Refused, Abse
 use Rattle.pom_source.specs.declared.found.Found.{Found}
 use Rattle.pom_source.specs.declared.found.Given.{Given}
 use Rattle.pom_lineage.specs.Beside.{at_path, at_second, found_origin, of_gav, or_at, origin_from, read_at}
-use Rattle.pom_lineage.specs.Lineage.{above, candidate, entered, first_of, found_or, gav_of, is_in, joined_from, joined_up, line, lineage, next_poms, origin_of, packed, parent_from, pom_of, put_over, text_of, unless, unmet, unstated}
+use Rattle.pom_lineage.specs.Lineage.{above, candidate, entered, first_of, found_or, gav_of, is_in, joined_from, joined_up, known, known_at, known_of, line, lineage, next_poms, origin_of, packed, parent_from, pom_of, put_over, text_of, unless, unmet, unstated}
 use Rattle.pom_lineage.specs.Reading.{elements, read, read_file, with_profiles}
 use Rattle.pom_lineage.specs.declared.joined.Joined.{Joined}
 use Rattle.pom_lineage.specs.declared.origin.Origin.{Origin}
@@ -95,7 +95,18 @@ of_unless : {A : Type 0} (child : PomId) (e : Option (Rule × List ℕ)) (furthe
 of_unless child (Some e) further rest = record {}
 of_unless child None further rest = rest
 
-of_found : (child : PomId) (gav : Gav) (found : Option Found) → Present (found_or child gav found)
+of_known : (pom : PomId) (said : Built RawModel) → Present said → Present (known pom said)
+of_known pom (Ok raw) here = record {}
+of_known pom (Err (Refused r)) here = record {}
+of_known pom (Err Absent) here = here
+of_known pom (Err Source) here = record {}
+of_known pom (Err Memory) here = record {}
+
+of_known_found : (found : Option Found) → Present (known_of found)
+of_known_found None = record {}
+of_known_found (Some found) = ends (known found.pom (read found.pom found.bytes)) (λ candidate. Some candidate) (of_known found.pom (read found.pom found.bytes) (of_read found.pom found.bytes))
+
+of_found : (child : PomId) (gav : Gav) (found : Option Candidate) → Present (found_or child gav found)
 of_found child gav None = record {}
 of_found child gav (Some found) = record {}
 
@@ -104,7 +115,7 @@ of_unmet child seen gav found = either (is_in (pom_of found) seen) (Err (gav_ref
 
 of_text : (found : Candidate) → Present (text_of found)
 of_text (candidates.Read raw) = record {}
-of_text (candidates.Unread found) = of_read found.pom found.bytes
+of_text (candidates.Refused pom refusal) = record {}
 
 of_packed : (child : PomId) (gav : Gav) (raw : RawModel) → Present (packed child gav raw)
 of_packed child gav raw = either (bytes_eq raw.coordinates.packaging (codes "pom")) (Ok raw) (Err (gav_refused child ParentPackaging gav)) (record {}) (record {})
@@ -198,7 +209,7 @@ module _ (world : World) where
 
   of_candidate : (child : PomId) (origin : Origin) → Present (candidate world child origin)
   of_candidate child (Beside path raw) = record {}
-  of_candidate child (Elsewhere gav) = of_found child gav (world.by_gav gav)
+  of_candidate child (Elsewhere gav) = on (known_at world gav) (found_or child gav) (of_known_found (world.by_gav gav)) (of_found child gav)
 
   of_parent : (child : PomId) (seen : List PomId) (origin : Origin) → Present (parent_from world child seen origin)
   of_parent child seen origin = on (candidate world child origin) (unmet child seen (gav_of origin)) (of_candidate child origin) (of_unmet child seen (gav_of origin))

@@ -5,7 +5,6 @@ use Rattle.std.proofs.lemmas.Bool.{le-leb, leb-true}
 use Rattle.std.proofs.lemmas.List.{drop_all}
 use Rattle.mvn_base.specs.declared.gav.Gav.{Gav}
 use Rattle.mvn_base.specs.declared.refusal.PomId.{PomId}
-use Rattle.mvn_base.specs.declared.rule.Rule.TheVariants.{ImportCycle}
 use Rattle.model_types.specs.declared.build.BuildBase.{BuildBase}
 use Rattle.model_types.specs.declared.dependency.Dependency.{Dependency}
 use Rattle.model_types.specs.declared.model.Model.{Model}
@@ -13,26 +12,23 @@ use Rattle.model_types.specs.declared.model.RawModel.{RawModel}
 use Rattle.managed_deps.specs.Managed.{is_import}
 use Rattle.pom_source.specs.Answers.{Built, Fails, ◌>>=◌}
 use Rattle.pom_source.specs.Chains.{ok_is, stop_fails}
-use Rattle.pom_source.specs.Refusals.{gav_refused}
 use Rattle.pom_source.specs.Worlds.{World}
 use Rattle.pom_source.specs.declared.fault.BuildFault.{BuildFault}
-use Rattle.pom_source.specs.declared.found.Found.{Found}
 use Rattle.pom_source.specs.declared.found.Given.{Given}
-use Rattle.pom_lineage.specs.Lineage.{is_in, next_poms}
-use Rattle.pom_lineage.specs.Reading.{read}
+use Rattle.pom_lineage.specs.Lineage.{is_in, known_at, next_poms}
 use Rattle.pom_lineage.specs.Stores.{meets}
-use Rattle.pom_lineage.specs.declared.origin.Candidate.TheVariants as candidates
 use Rattle.pom_lineage.proofs.Keeping.{apart_both, apart_first, apart_last, or_left, or_right}
-use Rattle.pom_lineage.proofs.Naming.{text_pom}
 use Rattle.model_steps.specs.Building.{built}
 use Rattle.model_steps.specs.Imports.{import_gav}
-use Rattle.effective.specs.Effective.{ended, entry, full, import_found, import_on, imported, imports_from, managed_of, met_import, wanted, whole}
+use Rattle.effective.specs.Effective.{ended, entry, full, imported, imports_from, managed_of, whole}
 use Rattle.effective.specs.Kept.{AreKept, IsBuilt, IsEntry, IsFound, IsImport, IsRead}
+use Rattle.effective.specs.Knowing.{import_of, raw_of}
 use Rattle.effective.specs.Serving.{serves}
 use Rattle.effective.specs.declared.below.Below.{Below}
 use Rattle.effective.specs.declared.kept.BuiltModel.{BuiltModel}
 use Rattle.effective.specs.declared.kept.Import.{Import}
 use Rattle.effective.specs.declared.kept.ImportLists.{ImportLists}
+use Rattle.effective.proofs.Knowing.{import_known, raw_again}
 
 and_left : (a b : Bool) → (a && b) ≡ true → a ≡ true
 and_left true b e = refl
@@ -76,22 +72,6 @@ shallower : (n : ℕ) (building : List PomId) (below deeper : Below) → serves 
 shallower n building below deeper e depth poms =
     let fits = low (suc n) building deeper e in
     so_serves n building below (omega (arith, fits, depth)) (ap (λ l. meets l building) (sym poms) ∙ apart_from (suc n) building deeper e)
-
--- a POM that was found and isn't being built is found by whoever asks
-met_apart : (pom other : PomId) (building seen : List PomId) (gav : Gav) (o : Option Found) (found : Found) → met_import pom building gav o ≡ Ok found → is_in found.pom seen ≡ false → met_import other seen gav o ≡ Ok found
-met_apart pom other building seen gav None found e free = cc
-met_apart pom other building seen gav (Some it) found e free = by (is_in it.pom building) e
-  where
-    by : (b : Bool) → (if b then Err (gav_refused pom ImportCycle gav) else Ok it) ≡ Ok found → (if is_in it.pom seen then Err (gav_refused other ImportCycle gav) else Ok it) ≡ Ok found
-    by true e = cc
-    by false e = ap (λ b. if b then Err (gav_refused other ImportCycle gav) else Ok it) (ap (λ (f : Found). is_in f.pom seen) (ok_is it found e) ∙ free) ∙ e
-
--- what was read of a POM is named as it
-named : (found : Found) (raw : RawModel) → read found.pom found.bytes ≡ Ok raw → raw.pom ≡ found.pom
-named found raw e = text_pom (candidates.Unread found) raw e
-
-pub apart : (found : Found) (raw : RawModel) (building : List PomId) → read found.pom found.bytes ≡ Ok raw → is_in found.pom building ≡ false → is_in raw.pom building ≡ false
-apart found raw building e free = ap (λ p. is_in p building) (named found raw e) ∙ free
 
 -- a POM that isn't being built, and what is below it, serve
 pub read_serves : (left : ℕ) (building : List PomId) (pom : PomId) (inner : Below) (below : Below) → serves left (next_poms building pom) inner ≡ true → below.depth ≡ inner.depth
@@ -195,14 +175,13 @@ module _ (world : World) (given : Given) where
       let there = so_serves left (next_poms building raw.pom) inner.below fits (apart_both inner.below.poms building raw.pom off own) in
       (or_right (meets inner.below.poms building) (is_in raw.pom building) free, ap managed_of (is left (next_poms building raw.pom) there) ∙ ap (λ l. Ok l) (sym managed))
 
-  pub is_found : (pom : PomId) (building : List PomId) (gav : Gav) (found : Found) (raw : RawModel) (import : Import) → wanted world pom building gav ≡ Ok found → read found.pom found.bytes ≡ Ok raw
+  pub is_found : (pom : PomId) (building : List PomId) (gav : Gav) (raw : RawModel) (import : Import) → (known_at world gav >>= raw_of pom building gav) ≡ Ok raw
       → IsRead world given raw import → IsFound world given gav import
   unfolding IsFound IsRead
-  is_found pom building gav found raw import first next is left other seen serving =
+  is_found pom building gav raw import first is left other seen serving =
       let read_is = is left seen serving in
-      let off : is_in found.pom seen ≡ false = ap (λ p. is_in p seen) (sym (named found raw next)) ∙ read_is.0 in
-      ap (λ s. s >>= import_on world given (imported world given left) seen) (met_apart pom other building seen gav (world.by_gav gav) found first off)
-      ∙ ap (λ s. s >>= (λ (raw : RawModel). managed_of (whole world given (imported world given left raw.pom (next_poms seen raw.pom)) raw))) next
+      import_known world given (imported world given left) other seen gav
+      ∙ ap (λ s. s >>= import_of world given (imported world given left) seen) (raw_again pom other building seen gav (known_at world gav) raw first read_is.0)
       ∙ read_is.1
 
   pub is_import_of : (gav : Gav) (import deeper : Import) → IsFound world given gav import → deeper.managed ≡ import.managed → deeper.below.depth ≡ import.below.depth + 1

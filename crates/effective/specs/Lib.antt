@@ -5,5 +5,6 @@ pub mod Absence
 pub mod Effective
 pub mod Imports
 pub mod Kept
+pub mod Knowing
 pub mod Lawful
 pub mod Serving

@@ -7,14 +7,15 @@ ghost use Rattle.pom_source.specs.declared.found.Given as givens;
 ghost use Rattle.effective.specs.Kept.{HoldsAll};
 ghost use Rattle.effective.specs.Lawful.{IsLawful};
 ghost use Rattle.effective.specs.Absence.{IsAbsentExactly, has_pom};
-ghost use Rattle.effective.specs.Effective.{asked, asked_path, effective, read_found};
+ghost use Rattle.effective.specs.Effective.{asked, asked_path, effective};
 
 use crate::imports::whole;
+use crate::looked::asked_gav;
 use crate::run_store::RunStore;
 use model_types::{Model, RawModel};
-use mvn_base::{Gav, PomId};
+use mvn_base::PomId;
 use mvn_shared::{List, Mem, Shared, Text};
-use pom_lineage::{read, read_at};
+use pom_lineage::read_at;
 use pom_source::{BuildFault, Given, PomSource};
 use std::alloc::Global;
 
@@ -48,28 +49,6 @@ fn asked_path<P: PomSource>(
     }
 }
 
-// The POM of coordinates.
-#[tactic(auto, using(pom_lineage::proofs::Telling::told_once, pom_lineage::proofs::Telling::untold))]
-fn asked_gav<P: PomSource>(
-    alloc: Global,
-    source: &mut P,
-    gav: &Gav,
-) -> Result<Shared<RawModel>, BuildFault>
-    ensures says { (world : World) → P.fits_poms source.old world
-        → Says (read_found (world.by_gav gav.now)) result }
-    ensures fit { (world : World) → P.fits_poms source.old world → P.fits_poms source.new world }
-    ensures same { TellsOn P.tells_same source.old source.new }
-    ensures cause { HasCause (P.faults source.old) (P.faults source.new) (build_failed result) }
-{
-    match source.by_gav(gav)? {
-        Some(found) => match read(alloc, &found.pom, &found.bytes) {
-            Ok(raw) => Ok(raw),
-            Err(fault) => Err(fault),
-        },
-        None => Err(BuildFault::Absent),
-    }
-}
-
 // The POM that is asked for.
 fn asked<P: PomSource>(
     alloc: Global,
@@ -90,7 +69,7 @@ fn asked<P: PomSource>(
             Ok(raw) => Ok(raw),
             Err(fault) => Err(fault),
         },
-        PomId::Gav(gav) => match asked_gav(alloc, source, gav) {
+        PomId::Gav(gav) => match asked_gav(alloc, store, source, gav) {
             Ok(raw) => Ok(raw),
             Err(fault) => Err(fault),
         },

@@ -8,46 +8,20 @@ ghost use Rattle.pom_lineage.specs.Lineage.{is_in, next_poms};
 ghost use Rattle.model_steps.specs.Folders.{filled};
 ghost use Rattle.model_steps.specs.Valid.{has_no_import};
 ghost use Rattle.effective.specs.Lawful.{IsLawful};
-ghost use Rattle.effective.specs.Effective.{ended, entry, full, import_found, imported, imports_from, managed_of, wanted, whole};
+ghost use Rattle.effective.specs.Effective.{ended, entry, full, import_found, imported, imports_from, managed_of, whole};
 ghost use Rattle.effective.specs.Kept.{AreKept, HoldsAll, IsBuilt, IsEntry, IsFound, IsImport, IsRead, OrFails};
 ghost use Rattle.effective.specs.Serving.{serves};
 
 use crate::kept::{BuiltModel, Entries, Import, ImportLists};
+use crate::looked::wanted;
 use crate::run_store::RunStore;
 use model_steps::{built, checked, filled, import_gav, is_import, model_of};
 use model_types::{BuildBase, Dependency, Model, RawModel};
 use mvn_base::{Gav, PomId, Rule};
 use mvn_shared::{List, Shared};
-use pom_lineage::{Joined, is_in, lineage, next_poms, read};
-use pom_source::{BuildFault, Found, Given, PomSource, gav_refused};
+use pom_lineage::{Joined, lineage, next_poms};
+use pom_source::{BuildFault, Given, PomSource, gav_refused};
 use std::alloc::Global;
-
-// An import's POM, if it isn't being built already.
-#[tactic(auto, using(pom_lineage::proofs::Telling::told_once, pom_lineage::proofs::Telling::untold))]
-fn wanted<P: PomSource>(
-    alloc: Global,
-    source: &mut P,
-    pom: &PomId,
-    building: &List<PomId>,
-    gav: &Gav,
-) -> Result<Found, BuildFault>
-    ensures says { (world : World) → P.fits_poms source.old world
-        → Says (wanted world pom.now building.now gav.now) result }
-    ensures fit { (world : World) → P.fits_poms source.old world → P.fits_poms source.new world }
-    ensures same { TellsOn P.tells_same source.old source.new }
-    ensures apart { IfOk result (λ found. is_in found.pom building.now ≡ false) }
-    ensures cause { HasCause (P.faults source.old) (P.faults source.new) (build_failed result) }
-{
-    match source.by_gav(gav)? {
-        None => gav_refused(alloc, pom, Rule::ImportNotFound, gav),
-        Some(found) => {
-            if is_in(&found.pom, building) {
-                return gav_refused(alloc, pom, Rule::ImportCycle, gav);
-            }
-            Ok(found)
-        }
-    }
-}
 
 // The filled model of what is joined.
 fn filled_of(alloc: Global, given: &Given, joined: &Joined) -> Result<RawModel, BuildFault>
@@ -173,7 +147,7 @@ fn fresh<P: PomSource>(
 
 // The same of an import's POM, if further POMs may be built.
 #[cycle(built)]
-#[tactic(auto, using(pom_lineage::proofs::Telling::told_both, crate::proofs::Standing::is_found, crate::proofs::Standing::apart))]
+#[tactic(auto, using(pom_lineage::proofs::Telling::told_both, crate::proofs::Standing::is_found, crate::proofs::Knowing::found_stops, crate::proofs::Knowing::found_fails))]
 fn import_found<P: PomSource>(
     alloc: Global,
     store: &mut RunStore,
@@ -196,8 +170,10 @@ fn import_found<P: PomSource>(
         → HoldsAll world given.now store.old → HoldsAll world given.now store.new }
     ensures cause { HasCause (P.faults source.old) (P.faults source.new) (build_failed result) }
 {
-    let found = wanted(alloc, source, pom, building, gav)?;
-    let raw = read(alloc, &found.pom, &found.bytes)?;
+    let raw = match wanted(alloc, store, source, pom, building, gav) {
+        Ok(raw) => raw,
+        Err(fault) => return Err(fault),
+    };
     match import_read(alloc, store, source, given, left, building, &raw) {
         Ok(import) => Ok(import),
         Err(fault) => Err(fault),

@@ -12,10 +12,11 @@ use Rattle.pom_source.specs.Worlds.{World}
 use Rattle.pom_source.specs.declared.found.Given.{Given}
 use Rattle.mvn_base.specs.Gav.{gav_eq}
 use Rattle.pom_lineage.specs.Beside.{of_gav, raw_gav, read_at}
-use Rattle.pom_lineage.specs.Lineage.{joined_from}
+use Rattle.pom_lineage.specs.Lineage.{joined_from, known_at}
 use Rattle.pom_lineage.specs.Reading.{read_file}
-use Rattle.pom_lineage.specs.Stores.{AgreesOnPaths, Holds, HoldsLines, HoldsRead, IsAt, IsKept, line_in, meets, read_in}
+use Rattle.pom_lineage.specs.Stores.{AgreesOnPaths, Holds, HoldsKnown, HoldsLines, HoldsRead, IsAt, IsKept, known_in, line_in, meets, read_in}
 use Rattle.pom_lineage.specs.declared.joined.Joined.{Joined}
+use Rattle.pom_lineage.specs.declared.origin.Candidate.{Candidate}
 use Rattle.pom_lineage.specs.declared.origin.Origin.{Origin}
 use Rattle.pom_lineage.specs.declared.origin.Origin.TheVariants.{Beside, Elsewhere}
 use Rattle.pom_lineage.specs.declared.store.Store.{Store}
@@ -54,32 +55,43 @@ unfolding HoldsLines
 lines_none world given store b e (Beside path raw) at = subst (λ o. IfSome o (λ kept. IsKept world given (Beside path raw) kept)) (sym (b path)) (record {})
 lines_none world given store b e (Elsewhere gav) at = subst (λ o. IfSome o (λ kept. IsKept world given (Elsewhere gav) kept)) (sym (e gav)) (record {})
 
+-- nothing is known of any coordinates
+known_none : (world : World) (store : Store) → ((gav : Gav) → get gav_eq store.known gav ≡ None) → HoldsKnown world store
+unfolding HoldsKnown
+known_none world store k gav = subst (λ o. IfSome o (λ found. known_at world gav ≡ Ok found)) (sym (k gav)) (record {})
+
 -- what was read in a world was read in each that has the same POMs at their paths
 read_other : (world other : World) (store : Store) → AgreesOnPaths world other → HoldsRead world store → HoldsRead other store
 unfolding HoldsRead
 read_other world other store same holds path =
     subst (λ (bytes : Option (List ℕ)). IfSome (read_in store path) (λ found. read_file (ids.Path path) bytes ≡ Ok found)) (sym (same path)) (holds path)
 
--- what was read, without the lineages
-pub read_alone : (world other : World) (given : Given) (old new : Store) → new.read ≡ old.read → ((path : List ℕ) → get bytes_eq new.beside path ≡ None) → ((gav : Gav) → get gav_eq new.elsewhere gav ≡ None)
+-- what was read by path, without the rest
+pub read_alone : (world other : World) (given : Given) (old new : Store) → new.read ≡ old.read → ((gav : Gav) → get gav_eq new.known gav ≡ None) → ((path : List ℕ) → get bytes_eq new.beside path ≡ None) → ((gav : Gav) → get gav_eq new.elsewhere gav ≡ None)
     → Holds world given old → AgreesOnPaths world other → Holds other given new
 unfolding HoldsRead
-read_alone world other given old new r b e holds same = record {
+read_alone world other given old new r k b e holds same = record {
   read = λ path. subst (λ o. IfSome o (λ found. read_at other path ≡ Ok found)) (sym (ap (λ m. get bytes_eq m path) r)) (read_other world other old same holds.read path);
+  known = known_none other new k;
   lines = lines_none other given new b e;
 }
 
 module _ (world : World) (given : Given) where
-  pub nothing_held : (store : Store) → ((path : List ℕ) → get bytes_eq store.read path ≡ None) → ((path : List ℕ) → get bytes_eq store.beside path ≡ None) → ((gav : Gav) → get gav_eq store.elsewhere gav ≡ None) → Holds world given store
+  pub nothing_held : (store : Store) → ((path : List ℕ) → get bytes_eq store.read path ≡ None) → ((gav : Gav) → get gav_eq store.known gav ≡ None) → ((path : List ℕ) → get bytes_eq store.beside path ≡ None) → ((gav : Gav) → get gav_eq store.elsewhere gav ≡ None) → Holds world given store
   unfolding HoldsRead
-  nothing_held store r b e = record {
+  nothing_held store r k b e = record {
     read = λ path. subst (λ o. IfSome o (λ found. read_at world path ≡ Ok found)) (sym (r path)) (record {});
+    known = known_none world store k;
     lines = lines_none world given store b e;
   }
 
   pub read_serves : (store : Store) (path : List ℕ) (kept : Option (Option RawModel)) → Holds world given store → kept ≡ read_in store path → IfSome kept (λ found. read_at world path ≡ Ok found)
   unfolding HoldsRead
   read_serves store path kept holds is = subst (λ o. IfSome o (λ found. read_at world path ≡ Ok found)) (sym is) (holds.read path)
+
+  pub known_serves : (store : Store) (gav : Gav) (kept : Option (Option Candidate)) → Holds world given store → kept ≡ known_in store gav → IfSome kept (λ found. known_at world gav ≡ Ok found)
+  unfolding HoldsKnown
+  known_serves store gav kept holds is = subst (λ o. IfSome o (λ found. known_at world gav ≡ Ok found)) (sym is) (holds.known gav)
 
   pub line_serves : (store : Store) (origin : Origin) (kept : Joined) (left : ℕ) (child : PomId) (seen : List PomId) → Holds world given store → IsAt world origin → line_in store origin ≡ Some kept → length kept.poms ≤ left → meets kept.poms seen ≡ false → joined_from world given left child seen origin ≡ Ok kept
   unfolding HoldsLines IsKept
@@ -98,30 +110,48 @@ module _ (world : World) (given : Given) where
   unfolding HoldsRead
   read_maps old new same holds path = subst (λ o. IfSome o (λ found. read_at world path ≡ Ok found)) (sym (same path)) (holds path)
 
+  known_maps : (old new : Store) → ((gav : Gav) → get gav_eq new.known gav ≡ get gav_eq old.known gav) → HoldsKnown world old → HoldsKnown world new
+  unfolding HoldsKnown
+  known_maps old new same holds gav = subst (λ o. IfSome o (λ found. known_at world gav ≡ Ok found)) (sym (same gav)) (holds gav)
+
   -- the same of each map is kept
-  pub holds_same : (old new : Store) → ((path : List ℕ) → get bytes_eq new.read path ≡ get bytes_eq old.read path) → ((path : List ℕ) → get bytes_eq new.beside path ≡ get bytes_eq old.beside path) → ((gav : Gav) → get gav_eq new.elsewhere gav ≡ get gav_eq old.elsewhere gav) → Holds world given old → Holds world given new
-  holds_same old new r b e holds = record {
+  pub holds_same : (old new : Store) → ((path : List ℕ) → get bytes_eq new.read path ≡ get bytes_eq old.read path) → ((gav : Gav) → get gav_eq new.known gav ≡ get gav_eq old.known gav) → ((path : List ℕ) → get bytes_eq new.beside path ≡ get bytes_eq old.beside path) → ((gav : Gav) → get gav_eq new.elsewhere gav ≡ get gav_eq old.elsewhere gav) → Holds world given old → Holds world given new
+  holds_same old new r k b e holds = record {
     read = read_maps old new r holds.read;
+    known = known_maps old new k holds.known;
     lines = lines_same old new (line_maps old new b e) holds.lines;
   }
 
   -- what was read at one path more
   pub read_more : (old new : Store) (path : List ℕ) (found : Option RawModel) → ((other : List ℕ) → get bytes_eq new.read other ≡ (if bytes_eq path other then Some found else get bytes_eq old.read other))
-      → ((other : List ℕ) → get bytes_eq new.beside other ≡ get bytes_eq old.beside other) → ((gav : Gav) → get gav_eq new.elsewhere gav ≡ get gav_eq old.elsewhere gav)
+      → ((gav : Gav) → get gav_eq new.known gav ≡ get gav_eq old.known gav) → ((other : List ℕ) → get bytes_eq new.beside other ≡ get bytes_eq old.beside other) → ((gav : Gav) → get gav_eq new.elsewhere gav ≡ get gav_eq old.elsewhere gav)
       → Holds world given old → read_at world path ≡ Ok found → Holds world given new
   unfolding HoldsRead
-  read_more old new path found r b e holds is = record {
+  read_more old new path found r k b e holds is = record {
     read = λ other. more_or_kept (λ p f. read_at world p ≡ Ok f) path other (bytes_eq path other) (get bytes_eq new.read other) (get bytes_eq old.read other) found (same_path path other) (r other) is (holds.read other);
+    known = known_maps old new k holds.known;
+    lines = lines_same old new (line_maps old new b e) holds.lines;
+  }
+
+  -- what is known of one POM by coordinates more
+  pub known_more : (old new : Store) (gav : Gav) (found : Option Candidate) → ((other : Gav) → get gav_eq new.known other ≡ (if gav_eq gav other then Some found else get gav_eq old.known other))
+      → ((path : List ℕ) → get bytes_eq new.read path ≡ get bytes_eq old.read path) → ((other : List ℕ) → get bytes_eq new.beside other ≡ get bytes_eq old.beside other) → ((other : Gav) → get gav_eq new.elsewhere other ≡ get gav_eq old.elsewhere other)
+      → Holds world given old → known_at world gav ≡ Ok found → Holds world given new
+  unfolding HoldsKnown
+  known_more old new gav found k r b e holds is = record {
+    read = read_maps old new r holds.read;
+    known = λ other. more_or_kept (λ g f. known_at world g ≡ Ok f) gav other (gav_eq gav other) (get gav_eq new.known other) (get gav_eq old.known other) found (same_gav gav other) (k other) is (holds.known other);
     lines = lines_same old new (line_maps old new b e) holds.lines;
   }
 
   -- a lineage more under a path: it serves each origin at the path, since only one POM is there
   pub beside_more : (old new : Store) (path : List ℕ) (raw : RawModel) (line : Joined) → ((other : List ℕ) → get bytes_eq new.beside other ≡ (if bytes_eq path other then Some line else get bytes_eq old.beside other))
-      → ((other : List ℕ) → get bytes_eq new.read other ≡ get bytes_eq old.read other) → ((gav : Gav) → get gav_eq new.elsewhere gav ≡ get gav_eq old.elsewhere gav)
+      → ((other : List ℕ) → get bytes_eq new.read other ≡ get bytes_eq old.read other) → ((gav : Gav) → get gav_eq new.known gav ≡ get gav_eq old.known gav) → ((gav : Gav) → get gav_eq new.elsewhere gav ≡ get gav_eq old.elsewhere gav)
       → Holds world given old → read_at world path ≡ Ok (Some raw) → IsKept world given (Beside path raw) line → Holds world given new
   unfolding HoldsLines
-  beside_more old new path raw line b r e holds is kept = record {
+  beside_more old new path raw line b r k e holds is kept = record {
     read = read_maps old new r holds.read;
+    known = known_maps old new k holds.known;
     lines = λ origin. at origin;
   }
     where
@@ -140,11 +170,12 @@ module _ (world : World) (given : Given) where
 
   -- and under coordinates
   pub elsewhere_more : (old new : Store) (gav : Gav) (line : Joined) → ((other : Gav) → get gav_eq new.elsewhere other ≡ (if gav_eq gav other then Some line else get gav_eq old.elsewhere other))
-      → ((other : List ℕ) → get bytes_eq new.read other ≡ get bytes_eq old.read other) → ((other : List ℕ) → get bytes_eq new.beside other ≡ get bytes_eq old.beside other)
+      → ((other : List ℕ) → get bytes_eq new.read other ≡ get bytes_eq old.read other) → ((other : Gav) → get gav_eq new.known other ≡ get gav_eq old.known other) → ((other : List ℕ) → get bytes_eq new.beside other ≡ get bytes_eq old.beside other)
       → Holds world given old → IsKept world given (Elsewhere gav) line → Holds world given new
   unfolding HoldsLines
-  elsewhere_more old new gav line e r b holds kept = record {
+  elsewhere_more old new gav line e r k b holds kept = record {
     read = read_maps old new r holds.read;
+    known = known_maps old new k holds.known;
     lines = λ origin. at origin;
   }
     where
@@ -160,26 +191,34 @@ module _ (world : World) (given : Given) where
   pub read_put : {T E : Type 0} (r : Result T E) (old new : Store) (path : List ℕ) (found : Option RawModel)
       → OnOk r ((other : List ℕ) → get bytes_eq new.read other ≡ (if bytes_eq path other then Some found else get bytes_eq old.read other))
       → OnErr r ((other : List ℕ) → get bytes_eq new.read other ≡ get bytes_eq old.read other)
-      → ((other : List ℕ) → get bytes_eq new.beside other ≡ get bytes_eq old.beside other) → ((gav : Gav) → get gav_eq new.elsewhere gav ≡ get gav_eq old.elsewhere gav)
+      → ((gav : Gav) → get gav_eq new.known gav ≡ get gav_eq old.known gav) → ((other : List ℕ) → get bytes_eq new.beside other ≡ get bytes_eq old.beside other) → ((gav : Gav) → get gav_eq new.elsewhere gav ≡ get gav_eq old.elsewhere gav)
       → Holds world given old → read_at world path ≡ Ok found → Holds world given new
-  read_put (Ok x) old new path found ok err b e holds is = read_more old new path found ok b e holds is
-  read_put (Err x) old new path found ok err b e holds is = holds_same old new err b e holds
+  read_put (Ok x) old new path found ok err k b e holds is = read_more old new path found ok k b e holds is
+  read_put (Err x) old new path found ok err k b e holds is = holds_same old new err k b e holds
+
+  pub known_put : {T E : Type 0} (r : Result T E) (old new : Store) (gav : Gav) (found : Option Candidate)
+      → OnOk r ((other : Gav) → get gav_eq new.known other ≡ (if gav_eq gav other then Some found else get gav_eq old.known other))
+      → OnErr r ((other : Gav) → get gav_eq new.known other ≡ get gav_eq old.known other)
+      → ((path : List ℕ) → get bytes_eq new.read path ≡ get bytes_eq old.read path) → ((other : List ℕ) → get bytes_eq new.beside other ≡ get bytes_eq old.beside other) → ((other : Gav) → get gav_eq new.elsewhere other ≡ get gav_eq old.elsewhere other)
+      → Holds world given old → known_at world gav ≡ Ok found → Holds world given new
+  known_put (Ok x) old new gav found ok err r b e holds is = known_more old new gav found ok r b e holds is
+  known_put (Err x) old new gav found ok err r b e holds is = holds_same old new r err b e holds
 
   pub beside_put : {T E : Type 0} (r : Result T E) (old new : Store) (path : List ℕ) (raw : RawModel) (line : Joined)
       → OnOk r ((other : List ℕ) → get bytes_eq new.beside other ≡ (if bytes_eq path other then Some line else get bytes_eq old.beside other))
       → OnErr r ((other : List ℕ) → get bytes_eq new.beside other ≡ get bytes_eq old.beside other)
-      → ((other : List ℕ) → get bytes_eq new.read other ≡ get bytes_eq old.read other) → ((gav : Gav) → get gav_eq new.elsewhere gav ≡ get gav_eq old.elsewhere gav)
+      → ((other : List ℕ) → get bytes_eq new.read other ≡ get bytes_eq old.read other) → ((gav : Gav) → get gav_eq new.known gav ≡ get gav_eq old.known gav) → ((gav : Gav) → get gav_eq new.elsewhere gav ≡ get gav_eq old.elsewhere gav)
       → Holds world given old → read_at world path ≡ Ok (Some raw) → IsKept world given (Beside path raw) line → Holds world given new
-  beside_put (Ok x) old new path raw line ok err r e holds is kept = beside_more old new path raw line ok r e holds is kept
-  beside_put (Err x) old new path raw line ok err r e holds is kept = holds_same old new r err e holds
+  beside_put (Ok x) old new path raw line ok err r k e holds is kept = beside_more old new path raw line ok r k e holds is kept
+  beside_put (Err x) old new path raw line ok err r k e holds is kept = holds_same old new r k err e holds
 
   pub elsewhere_put : {T E : Type 0} (r : Result T E) (old new : Store) (gav : Gav) (line : Joined)
       → OnOk r ((other : Gav) → get gav_eq new.elsewhere other ≡ (if gav_eq gav other then Some line else get gav_eq old.elsewhere other))
       → OnErr r ((other : Gav) → get gav_eq new.elsewhere other ≡ get gav_eq old.elsewhere other)
-      → ((other : List ℕ) → get bytes_eq new.read other ≡ get bytes_eq old.read other) → ((other : List ℕ) → get bytes_eq new.beside other ≡ get bytes_eq old.beside other)
+      → ((other : List ℕ) → get bytes_eq new.read other ≡ get bytes_eq old.read other) → ((other : Gav) → get gav_eq new.known other ≡ get gav_eq old.known other) → ((other : List ℕ) → get bytes_eq new.beside other ≡ get bytes_eq old.beside other)
       → Holds world given old → IsKept world given (Elsewhere gav) line → Holds world given new
-  elsewhere_put (Ok x) old new gav line ok err r b holds kept = elsewhere_more old new gav line ok r b holds kept
-  elsewhere_put (Err x) old new gav line ok err r b holds kept = holds_same old new r b err holds
+  elsewhere_put (Ok x) old new gav line ok err r k b holds kept = elsewhere_more old new gav line ok r k b holds kept
+  elsewhere_put (Err x) old new gav line ok err r k b holds kept = holds_same old new r k b err holds
 
   -- what was looked for at a path is there
   pub at_is : (gav : Gav) (path : List ℕ) (found : Option RawModel) (o : Origin) → read_at world path ≡ Ok found → o ≡ of_gav gav path found → IsAt world o

@@ -14,15 +14,13 @@ use Rattle.pom_source.specs.Answers.{Built, ◌>>=◌}
 use Rattle.pom_source.specs.Chains.{bound, ok_is}
 use Rattle.pom_source.specs.Refusals.{gav_refused}
 use Rattle.pom_source.specs.Worlds.{World}
-use Rattle.pom_source.specs.declared.found.Found.{Found}
 use Rattle.pom_source.specs.declared.found.Given.{Given}
-use Rattle.pom_lineage.specs.Lineage.{above, candidate, entered, found_or, gav_of, is_in, joined_from, joined_up, line, next_poms, origin_of, packed, parent_from, pom_eq, pom_of, put_over, text_of, unmet}
+use Rattle.pom_lineage.specs.Lineage.{above, candidate, entered, found_or, gav_of, is_in, joined_from, joined_up, known_at, line, next_poms, origin_of, packed, parent_from, pom_eq, pom_of, put_over, text_of, unmet}
 use Rattle.pom_lineage.specs.Reading.{with_profiles}
 use Rattle.pom_lineage.specs.Stores.{IsKept, meets}
 use Rattle.pom_lineage.proofs.Naming.{text_pom}
 use Rattle.pom_lineage.specs.declared.joined.Joined.{Joined}
 use Rattle.pom_lineage.specs.declared.origin.Candidate.{Candidate}
-use Rattle.pom_lineage.specs.declared.origin.Candidate.TheVariants as candidates
 use Rattle.pom_lineage.specs.declared.origin.Origin.{Origin}
 use Rattle.pom_lineage.specs.declared.origin.Origin.TheVariants.{Beside, Elsewhere}
 
@@ -81,13 +79,14 @@ there_unmet : (child : PomId) (seen : List PomId) (gav : Gav) (found : Candidate
 there_unmet child seen gav found apart = ap (λ b. if b then Err (gav_refused child ParentCycle gav) else Ok found) apart
 
 -- whoever asks finds the same
-found_same : (child other : PomId) (gav : Gav) (there : Option Found) (found : Candidate) → found_or child gav there ≡ Ok found → found_or other gav there ≡ Ok found
-found_same child other gav None found e = cc
-found_same child other gav (Some f) found e = e
+found_same : (child other : PomId) (gav : Gav) (there : Built (Option Candidate)) (found : Candidate) → (there >>= found_or child gav) ≡ Ok found → (there >>= found_or other gav) ≡ Ok found
+found_same child other gav (Ok None) found e = cc
+found_same child other gav (Ok (Some f)) found e = e
+found_same child other gav (Err fault) found e = e
 
 candidate_same : (world : World) (child other : PomId) (origin : Origin) (found : Candidate) → candidate world child origin ≡ Ok found → candidate world other origin ≡ Ok found
 candidate_same world child other (Beside path raw) found e = e
-candidate_same world child other (Elsewhere gav) found e = found_same child other gav (world.by_gav gav) found e
+candidate_same world child other (Elsewhere gav) found e = found_same child other gav (known_at world gav) found e
 
 packed_there : (child other : PomId) (gav : Gav) (raw r : RawModel) → packed child gav raw ≡ Ok r → (raw ≡ r) × (packed other gav raw ≡ Ok raw)
 packed_there child other gav raw r e = by (bytes_eq raw.coordinates.packaging (codes "pom")) e

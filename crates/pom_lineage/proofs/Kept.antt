@@ -12,8 +12,9 @@ use Rattle.pom_source.specs.Chains.{ok_is}
 use Rattle.pom_source.specs.Worlds.{World}
 use Rattle.mvn_base.specs.Gav.{gav_eq}
 use Rattle.pom_lineage.specs.Lineage.{origin_of}
-use Rattle.pom_lineage.specs.Stores.{KeepsLines, KeepsParent, KeepsRead, if_serves, line_in, read_in, serves}
+use Rattle.pom_lineage.specs.Stores.{KeepsLines, KeepsParent, KeepsRead, if_serves, known_in, line_in, read_in, serves}
 use Rattle.pom_lineage.specs.declared.joined.Joined.{Joined}
+use Rattle.pom_lineage.specs.declared.origin.Candidate.{Candidate}
 use Rattle.pom_lineage.specs.declared.origin.Origin.{Origin}
 use Rattle.pom_lineage.specs.declared.origin.Origin.TheVariants.{Beside, Elsewhere}
 use Rattle.pom_lineage.specs.declared.store.Store.{Store}
@@ -38,6 +39,10 @@ pub untouched : {A : Type 0} (o : Option (Option RawModel)) → A → OnSome o A
 untouched None so = record {}
 untouched (Some x) so = so
 
+pub untouched_known : {A : Type 0} (o : Option (Option Candidate)) → A → OnSome o A
+untouched_known None so = record {}
+untouched_known (Some x) so = so
+
 pub untouched_line : {A : Type 0} (left : ℕ) (seen : List PomId) (o : Option Joined) → A → IfSome o (λ line. serves left seen line ≡ true → A)
 untouched_line left seen None so = record {}
 untouched_line left seen (Some kept) so = λ fitting. so
@@ -60,6 +65,12 @@ pub read_kept : {T E : Type 0} (r : Result T E) (old new : Store) (path : List �
     → OnOk r ((other : List ℕ) → get bytes_eq new.read other ≡ (if bytes_eq path other then Some found else get bytes_eq old.read other)) → OnOk r (read_in new path ≡ Some found)
 read_kept (Ok x) old new path found ok = ok path ∙ ap (λ b. if b then Some found else get bytes_eq old.read path) (path_itself path)
 read_kept (Err x) old new path found ok = record {}
+
+-- and so under coordinates
+pub known_kept : {T E : Type 0} (r : Result T E) (old new : Store) (gav : Gav) (found : Option Candidate)
+    → OnOk r ((other : Gav) → get gav_eq new.known other ≡ (if gav_eq gav other then Some found else get gav_eq old.known other)) → OnOk r (known_in new gav ≡ Some found)
+known_kept (Ok x) old new gav found ok = ok gav ∙ ap (λ b. if b then Some found else get gav_eq old.known gav) (gav_itself gav)
+known_kept (Err x) old new gav found ok = record {}
 
 -- and nothing is forgotten, if nothing was there
 pub read_keeps : {T E : Type 0} (r : Result T E) (old new : Store) (path : List ℕ) (found : Option RawModel)

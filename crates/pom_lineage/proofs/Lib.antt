@@ -4,5 +4,6 @@ pub mod Holding
 pub mod Joining
 pub mod Keeping
 pub mod Kept
+pub mod Knowing
 pub mod Naming
 pub mod Telling

@@ -18,7 +18,7 @@ refused_ok : (said : Result RawModel Refusal) (r : RawModel) → refused said �
 refused_ok (Ok x) r e = ap (λ y. Ok y) (ok_is x r e)
 refused_ok (Err refusal) r e = cc
 
-read_pom : (pom : PomId) (bytes : List ℕ) (r : RawModel) → read pom bytes ≡ Ok r → r.pom ≡ pom
+pub read_pom : (pom : PomId) (bytes : List ℕ) (r : RawModel) → read pom bytes ≡ Ok r → r.pom ≡ pom
 unfolding read
 read_pom pom bytes r e =
     let one = bound (elements pom (answer bytes)) _ r e in
@@ -26,4 +26,4 @@ read_pom pom bytes r e =
 
 pub text_pom : (found : Candidate) (r : RawModel) → text_of found ≡ Ok r → r.pom ≡ pom_of found
 text_pom (candidates.Read raw) r e = sym (ap (λ (m : RawModel). m.pom) (ok_is raw r e))
-text_pom (candidates.Unread found) r e = read_pom found.pom found.bytes r e
+text_pom (candidates.Refused pom refusal) r e = cc

@@ -16,6 +16,7 @@ use Rattle.inheritance.specs.SuperPom.{super_pom}
 use Rattle.pom_source.specs.Answers.{Built, ◌>>=◌}
 use Rattle.pom_source.specs.Refusals.{gav_refused, text_refused}
 use Rattle.pom_source.specs.Worlds.{World}
+use Rattle.pom_source.specs.declared.fault.BuildFault.TheVariants as faults
 use Rattle.pom_source.specs.declared.found.Found.{Found}
 use Rattle.pom_source.specs.declared.found.Given.{Given}
 use Rattle.mvn_base.specs.Gav.{gav_eq}
@@ -77,15 +78,28 @@ gav_of (Elsewhere gav) = gav
 -- a POM that was found as a parent, and what it says
 abbrev pub pom_of : Candidate → PomId
 pom_of (candidates.Read raw) = raw.pom
-pom_of (candidates.Unread found) = found.pom
+pom_of (candidates.Refused pom refusal) = pom
 
 abbrev pub text_of : Candidate → Built RawModel
 text_of (candidates.Read raw) = Ok raw
-text_of (candidates.Unread found) = read found.pom found.bytes
+text_of (candidates.Refused pom refusal) = Err (faults.Refused refusal)
 
-abbrev pub found_or : PomId → Gav → Option Found → Built Candidate
+-- what is known of a POM by what it says
+abbrev pub known : PomId → Built RawModel → Built Candidate
+known pom (Ok raw) = Ok (candidates.Read raw)
+known pom (Err (faults.Refused refusal)) = Ok (candidates.Refused pom refusal)
+known pom (Err faults.Absent) = Err faults.Absent
+known pom (Err faults.Source) = Err faults.Source
+known pom (Err faults.Memory) = Err faults.Memory
+
+-- a POM that was looked for, and what is known of it
+abbrev pub known_of : Option Found → Built (Option Candidate)
+known_of None = Ok None
+known_of (Some found) = known found.pom (read found.pom found.bytes) >>= (λ candidate. Ok (Some candidate))
+
+abbrev pub found_or : PomId → Gav → Option Candidate → Built Candidate
 found_or child gav None = Err (gav_refused child ParentNotFound gav)
-found_or child gav (Some found) = Ok (candidates.Unread found)
+found_or child gav (Some found) = Ok found
 
 -- a parent's packaging is `pom`
 abbrev pub packed : PomId → Gav → RawModel → Built RawModel
@@ -104,9 +118,17 @@ above up None = Ok top
 above up (Some parent) = up parent
 
 module _ (world : World) where
+  -- the POM of coordinates
+  abbrev pub known_at : Gav → Built (Option Candidate)
+  known_at gav = known_of (world.by_gav gav)
+
+  -- and as a parent
+  abbrev pub parent_at : PomId → Gav → Built Candidate
+  parent_at child gav = known_at gav >>= found_or child gav
+
   abbrev pub candidate : PomId → Origin → Built Candidate
   candidate child (Beside path raw) = Ok (candidates.Read raw)
-  candidate child (Elsewhere gav) = found_or child gav (world.by_gav gav)
+  candidate child (Elsewhere gav) = parent_at child gav
 
   -- the parent that an origin leads to
   abbrev pub parent_from : PomId → List PomId → Origin → Built Candidate

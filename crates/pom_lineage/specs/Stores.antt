@@ -11,8 +11,9 @@ use Rattle.pom_source.specs.Worlds.{World}
 use Rattle.pom_source.specs.declared.found.Given.{Given}
 use Rattle.mvn_base.specs.Gav.{gav_eq}
 use Rattle.pom_lineage.specs.Beside.{read_at}
-use Rattle.pom_lineage.specs.Lineage.{is_in, joined_from, origin_of}
+use Rattle.pom_lineage.specs.Lineage.{is_in, joined_from, known_at, origin_of}
 use Rattle.pom_lineage.specs.declared.joined.Joined.{Joined}
+use Rattle.pom_lineage.specs.declared.origin.Candidate.{Candidate}
 use Rattle.pom_lineage.specs.declared.origin.Origin.{Origin}
 use Rattle.pom_lineage.specs.declared.origin.Origin.TheVariants.{Beside, Elsewhere}
 use Rattle.pom_lineage.specs.declared.store.Store.{Store}
@@ -23,6 +24,10 @@ meets poms seen = list_any (λ pom. is_in pom seen) poms
 
 abbrev pub read_in : Store → List ℕ → Option (Option RawModel)
 read_in store path = get bytes_eq store.read path
+
+-- what is known of the POM of coordinates
+abbrev pub known_in : Store → Gav → Option (Option Candidate)
+known_in store gav = get gav_eq store.known gav
 
 -- a lineage that is kept under the path or the coordinates that led to its lowest POM
 abbrev pub line_in : Store → Origin → Option Joined
@@ -66,6 +71,10 @@ module _ (world : World) where
   unfoldable pub HoldsRead : Store → Type 0
   HoldsRead store = (path : List ℕ) → IfSome (read_in store path) (λ found. read_at world path ≡ Ok found)
 
+  -- what was found for each coordinates, or that nothing was
+  unfoldable pub HoldsKnown : Store → Type 0
+  HoldsKnown store = (gav : Gav) → IfSome (known_in store gav) (λ found. known_at world gav ≡ Ok found)
+
   module _ (given : Given) where
     -- a lineage from an origin on, whoever asks, if none of its POMs was met and there may be as many
     unfoldable pub IsKept : Origin → Joined → Type 0
@@ -79,4 +88,5 @@ module _ (world : World) where
     -- all that a store keeps is so in a world
     pub record Holds (store : Store) : Type 0 where
       pub read : HoldsRead store
+      pub known : HoldsKnown store
       pub lines : HoldsLines store

@@ -1,7 +1,8 @@
-//! What a POM builds on: the POMs from its parent up. A POM of the project is read once a run, by a store of what was read.
+//! What a POM builds on: the POMs from its parent up. Each POM is read once a run, by a store of what was read.
 #![tactic(auto)]
 
 mod beside;
+mod coordinates;
 mod expression;
 mod joined;
 mod origin;
@@ -11,10 +12,11 @@ mod store;
 mod stored;
 
 pub use beside::{raw_gav, read_at, read_found};
+pub use coordinates::pom_at;
 pub use expression::has_expression;
 pub use joined::Joined;
 pub use origin::{Candidate, Origin};
-pub use parents::{is_in, next_poms};
+pub use parents::{is_in, next_poms, pom_of, text_of};
 pub use reading::{read, with_profiles};
 pub use store::{Store, meets};
 pub use stored::lineage;

@@ -1,7 +1,6 @@
 use model_types::RawModel;
-use mvn_base::Gav;
+use mvn_base::{Gav, PomId, Refusal};
 use mvn_shared::{Shared, Text};
-use pom_source::Found;
 
 /// Where a parent comes from: a POM of the project, found at its path and read, or its coordinates.
 #[derive(Drop)]
@@ -10,9 +9,9 @@ pub enum Origin {
     Elsewhere(Gav),
 }
 
-/// A POM that was found as a parent: read, or yet to be read.
+/// A POM that was found and read: its model, or which POM it is and its first refusal.
 #[derive(Drop)]
 pub enum Candidate {
     Read(Shared<RawModel>),
-    Unread(Found),
+    Refused(PomId, Refusal),
 }

@@ -5,14 +5,15 @@ ghost use Rattle.pom_source.specs.Answers.{Says, build_failed};
 ghost use Rattle.pom_source.specs.Refusals.{gav_refused};
 ghost use Rattle.pom_source.specs.Worlds.{World};
 ghost use Rattle.pom_source.specs.declared.found.Given as givens;
+ghost use Rattle.pom_lineage.specs.declared.origin.Candidate.TheVariants.{Read};
 ghost use Rattle.pom_lineage.specs.Stores.{Holds, IsAt, KeepsLines, KeepsRead};
-ghost use Rattle.pom_lineage.specs.Lineage.{candidate, first_of, gav_of, has_range, is_in, next_poms, origin_of, packed, parent_from, pom_of, put_over, text_of, top, unmet, unstated};
+ghost use Rattle.pom_lineage.specs.Lineage.{candidate, first_of, gav_of, has_range, is_in, next_poms, origin_of, packed, parent_at, parent_from, pom_of, put_over, text_of, top, unmet, unstated};
 
 use crate::beside::{found_origin, raw_gav};
+use crate::coordinates::pom_at;
 use crate::expression::has_expression;
 use crate::joined::Joined;
 use crate::origin::{Candidate, Origin};
-use crate::reading::read;
 use crate::store::Store;
 use inheritance::{inherit, super_pom};
 use model_types::{Parent, RawModel};
@@ -151,24 +152,24 @@ pub(crate) fn origin_refused<T>(
     gav_refused(alloc, pom, rule, &gav)
 }
 
-// Which POM was found.
-fn pom_of(found: &Candidate) -> &PomId
+/// Which POM was found. Constant time.
+pub fn pom_of(found: &Candidate) -> &PomId
     ensures { result.now ≡ pom_of found.now }
 {
     match found {
         Candidate::Read(raw) => raw.pom.value(),
-        Candidate::Unread(found) => &found.pom,
+        Candidate::Refused(pom, _) => pom,
     }
 }
 
-/// What a POM says that was found as a parent. Costs its bytes if it wasn't read.
-pub(crate) fn text_of(alloc: Global, found: &Candidate) -> Result<Shared<RawModel>, BuildFault>
+/// What a POM says that was found and read: its model, or its first refusal. Costs a copy of the refusal.
+pub fn text_of(found: &Candidate) -> Result<Shared<RawModel>, BuildFault>
     ensures says { Says (text_of found.now) result }
     ensures cause { build_failed result ≡ false }
 {
     match found {
         Candidate::Read(raw) => Ok(raw.share()?),
-        Candidate::Unread(found) => read(alloc, &found.pom, &found.bytes),
+        Candidate::Refused(_, refusal) => Err(BuildFault::Refused(refusal.clone()?)),
     }
 }
 
@@ -188,25 +189,65 @@ pub(crate) fn packed(
     origin_refused(alloc, child, Rule::ParentPackaging, origin)
 }
 
+// A POM of the project that was found and read.
+fn there(alloc: Global, raw: &Shared<RawModel>) -> Mem<Shared<Candidate>>
+    ensures { IfOk result (λ found. found ≡ Read raw.now) }
+{
+    let raw = raw.share()?;
+    Shared::new(alloc, Candidate::Read(raw))
+}
+
+// The POM of coordinates, which has to be there.
+#[tactic(auto, using(crate::proofs::Telling::untold))]
+fn parent_at<P: PomSource>(
+    alloc: Global,
+    store: &mut Store,
+    source: &mut P,
+    child: &PomId,
+    gav: &Gav,
+) -> Result<Shared<Candidate>, BuildFault>
+    ensures says { (world : World) (given : givens.Given) → P.fits_poms source.old world
+        → Holds world given store.old
+        → Says (parent_at world child.now gav.now) result }
+    ensures fit { (world : World) → P.fits_poms source.old world → P.fits_poms source.new world }
+    ensures same { TellsOn P.tells_same source.old source.new }
+    ensures holds { (world : World) (given : givens.Given) → P.fits_poms source.old world
+        → Holds world given store.old → Holds world given store.new }
+    ensures keeps { KeepsRead store.old store.new }
+    ensures keeps_lines { KeepsLines store.old store.new }
+    ensures cause { HasCause (P.faults source.old) (P.faults source.new) (build_failed result) }
+{
+    match pom_at(alloc, store, source, gav)? {
+        Some(found) => Ok(found),
+        None => gav_refused(alloc, child, Rule::ParentNotFound, gav),
+    }
+}
+
 // The POM that an origin leads to.
-#[tactic(auto, using(crate::proofs::Telling::told_once, crate::proofs::Telling::untold))]
+#[tactic(auto, using(crate::proofs::Telling::untold))]
 fn candidate<P: PomSource>(
     alloc: Global,
+    store: &mut Store,
     source: &mut P,
     child: &PomId,
     origin: &Origin,
-) -> Result<Candidate, BuildFault>
-    ensures says { (world : World) → P.fits_poms source.old world
+) -> Result<Shared<Candidate>, BuildFault>
+    ensures says { (world : World) (given : givens.Given) → P.fits_poms source.old world
+        → Holds world given store.old
         → Says (candidate world child.now origin.now) result }
     ensures fit { (world : World) → P.fits_poms source.old world → P.fits_poms source.new world }
     ensures same { TellsOn P.tells_same source.old source.new }
+    ensures holds { (world : World) (given : givens.Given) → P.fits_poms source.old world
+        → Holds world given store.old → Holds world given store.new }
+    ensures keeps { KeepsRead store.old store.new }
+    ensures keeps_lines { KeepsLines store.old store.new }
     ensures cause { HasCause (P.faults source.old) (P.faults source.new) (build_failed result) }
 {
     match origin {
-        Origin::Beside(_, raw) => Ok(Candidate::Read(raw.share()?)),
-        Origin::Elsewhere(gav) => match source.by_gav(gav)? {
-            Some(found) => Ok(Candidate::Unread(found)),
-            None => gav_refused(alloc, child, Rule::ParentNotFound, gav),
+        Origin::Beside(_, raw) => Ok(there(alloc, raw)?),
+        Origin::Elsewhere(gav) => match parent_at(alloc, store, source, child, gav) {
+            Ok(found) => Ok(found),
+            Err(fault) => Err(fault),
         },
     }
 }
@@ -217,8 +258,8 @@ fn unmet(
     child: &PomId,
     seen: &List<PomId>,
     origin: &Origin,
-    found: Candidate,
-) -> Result<Candidate, BuildFault>
+    found: Shared<Candidate>,
+) -> Result<Shared<Candidate>, BuildFault>
     ensures says { Says (unmet child.now seen.now (gav_of origin.now) found) result }
     ensures cause { build_failed result ≡ false }
 {
@@ -228,21 +269,28 @@ fn unmet(
     Ok(found)
 }
 
-/// The parent that an origin leads to, which wasn't met before in its lineage.
+/// The parent that an origin leads to, which wasn't met before in its lineage. Costs the POM's bytes the first time.
+#[tactic(auto, using(crate::proofs::Telling::untold))]
 pub(crate) fn parent_from<P: PomSource>(
     alloc: Global,
+    store: &mut Store,
     source: &mut P,
     child: &PomId,
     seen: &List<PomId>,
     origin: &Origin,
-) -> Result<Candidate, BuildFault>
-    ensures says { (world : World) → P.fits_poms source.old world
+) -> Result<Shared<Candidate>, BuildFault>
+    ensures says { (world : World) (given : givens.Given) → P.fits_poms source.old world
+        → Holds world given store.old
         → Says (parent_from world child.now seen.now origin.now) result }
     ensures fit { (world : World) → P.fits_poms source.old world → P.fits_poms source.new world }
     ensures same { TellsOn P.tells_same source.old source.new }
+    ensures holds { (world : World) (given : givens.Given) → P.fits_poms source.old world
+        → Holds world given store.old → Holds world given store.new }
+    ensures keeps { KeepsRead store.old store.new }
+    ensures keeps_lines { KeepsLines store.old store.new }
     ensures cause { HasCause (P.faults source.old) (P.faults source.new) (build_failed result) }
 {
-    let found = candidate(alloc, source, child, origin)?;
+    let found = candidate(alloc, store, source, child, origin)?;
     match unmet(alloc, child, seen, origin, found) {
         Ok(found) => Ok(found),
         Err(fault) => Err(fault),

@@ -7,11 +7,11 @@ ghost use Rattle.pom_source.specs.Worlds.{World};
 ghost use Rattle.pom_source.specs.declared.found.Given as givens;
 ghost use Rattle.mvn_base.specs.Gav.{gav_eq};
 ghost use Rattle.pom_lineage.specs.Beside.{read_at};
-ghost use Rattle.pom_lineage.specs.Lineage.{joined_from};
-ghost use Rattle.pom_lineage.specs.Stores.{AgreesOnPaths, Holds, IsAt, IsKept, KeepsLines, KeepsRead, if_serves, line_in, meets, read_in, serves};
+ghost use Rattle.pom_lineage.specs.Lineage.{joined_from, known_at};
+ghost use Rattle.pom_lineage.specs.Stores.{AgreesOnPaths, Holds, IsAt, IsKept, KeepsLines, KeepsRead, if_serves, known_in, line_in, meets, read_in, serves};
 
 use crate::joined::Joined;
-use crate::origin::Origin;
+use crate::origin::{Candidate, Origin};
 use crate::parents::is_in;
 use model_types::RawModel;
 use mvn_base::{Gav, PomId};
@@ -19,12 +19,14 @@ use mvn_shared::{List, Mem, Shared, Text};
 use std::alloc::Global;
 use std::collections::HashMap;
 
-/// What was read in a run: the POM at each path that was asked for, and what parents build on, by the path or the coordinates
-/// that led to them. So a parent that a thousand modules share is read, activated and joined once, if it has one way to it. A store
-/// serves one `Given` and one project. Nothing in it is forgotten, and refusals aren't kept. Project rule.
+/// What was read in a run: the POM at each path and of each coordinates that was asked for, and what parents build on, by the path or
+/// the coordinates that led to them. So a parent that a thousand modules share is read, activated and joined once, if it has one way to
+/// it. A store serves one `Given` and one project. Nothing in it is forgotten. That coordinates lead to no POM is kept, and the refusal
+/// of the POM that they lead to; other refusals aren't. Project rule.
 #[derive(Drop)]
 pub struct Store {
     read: HashMap<Text, Option<Shared<RawModel>>>,
+    known: HashMap<Gav, Option<Shared<Candidate>>>,
     beside: HashMap<Text, Shared<Joined>>,
     elsewhere: HashMap<Gav, Shared<Joined>>,
 }
@@ -50,6 +52,28 @@ fn same_found(found: &Option<Shared<RawModel>>) -> Mem<Option<Shared<RawModel>>>
     ensures { IfOk result (λ same. same ≡ found.now) }
 {
     Ok(found.clone()?)
+}
+
+// A copy of what is known.
+fn same_known(found: &Option<Shared<Candidate>>) -> Mem<Option<Shared<Candidate>>>
+    ensures { IfOk result (λ same. same ≡ found.now) }
+{
+    Ok(found.clone()?)
+}
+
+// Puts what is known under coordinates.
+fn set_known(
+    map: &mut HashMap<Gav, Option<Shared<Candidate>>>,
+    gav: &Gav,
+    found: &Option<Shared<Candidate>>,
+) -> Mem<()>
+    ensures ok { OnOk result ((other : gavs.Gav) → get gav_eq map.new other
+        ≡ (if gav_eq gav.now other then Some found.now else get gav_eq map.old other)) }
+    ensures err { OnErr result ((other : gavs.Gav) → get gav_eq map.new other
+        ≡ get gav_eq map.old other) }
+{
+    map.insert(gav.clone()?, same_known(found)?)?;
+    Ok(())
 }
 
 // Puts a lineage under a path.
@@ -105,12 +129,13 @@ impl Store {
     {
         Store {
             read: HashMap::new(alloc),
+            known: HashMap::new(alloc),
             beside: HashMap::new(alloc),
             elsewhere: HashMap::new(alloc),
         }
     }
 
-    /// What was read, without the lineages: for a source that finds the same POMs by path, and others by coordinates. Takes no memory.
+    /// What was read by path, without the rest: for a source that finds the same POMs by path, and others by coordinates. Takes no memory.
     /// Project rule.
     pub fn only_read(self, alloc: Global) -> Store
         ensures { (world other : World) (given : givens.Given) → Holds world given self
@@ -119,6 +144,7 @@ impl Store {
         let Store { read, .. } = self;
         Store {
             read,
+            known: HashMap::new(alloc),
             beside: HashMap::new(alloc),
             elsewhere: HashMap::new(alloc),
         }
@@ -155,6 +181,38 @@ impl Store {
             → read_at world path.now ≡ Ok found.now → Holds world given self.new }
     {
         set_read(&mut self.read, path, found)
+    }
+
+    // What is known of the POM of coordinates, if that was asked for.
+    fn known_there(&self, gav: &Gav) -> Mem<Option<Option<Shared<Candidate>>>>
+        ensures { IfOk result (λ found. found ≡ known_in self.now gav.now) }
+    {
+        match self.known.get(gav) {
+            Some(found) => Ok(Some(same_known(found)?)),
+            None => Ok(None),
+        }
+    }
+
+    /// What is known of the POM of coordinates. Costs the coordinates.
+    #[tactic(auto, using(crate::proofs::Holding::known_serves))]
+    pub(crate) fn find_known(&self, gav: &Gav) -> Mem<Option<Option<Shared<Candidate>>>>
+        ensures value { IfOk result (λ found. found ≡ known_in self.now gav.now) }
+        ensures told { (world : World) (given : givens.Given) → Holds world given self.now
+            → IfOk result (λ kept. IfSome kept (λ found. known_at world gav.now ≡ Ok found)) }
+    {
+        let kept = self.known_there(gav)?;
+        Ok(kept)
+    }
+
+    /// Keeps what is known of the POM of coordinates. Costs the coordinates.
+    pub(crate) fn keep_known(&mut self, gav: &Gav, found: &Option<Shared<Candidate>>) -> Mem<()>
+        ensures kept { OnOk result (known_in self.new gav.now ≡ Some found.now) }
+        ensures keeps { KeepsRead self.old self.new }
+        ensures keeps_lines { KeepsLines self.old self.new }
+        ensures holds { (world : World) (given : givens.Given) → Holds world given self.old
+            → known_at world gav.now ≡ Ok found.now → Holds world given self.new }
+    {
+        set_known(&mut self.known, gav, found)
     }
 
     // The lineage that is kept under a path or coordinates.

@@ -80,7 +80,7 @@ fn fresh<P: PomSource>(
     ensures keeps_lines { KeepsLines store.old store.new }
     ensures cause { HasCause (P.faults source.old) (P.faults source.new) (build_failed result) }
 {
-    let found = match parent_from(alloc, source, child, seen, origin) {
+    let found = match parent_from(alloc, store, source, child, seen, origin) {
         Ok(found) => found,
         Err(fault) => return Err(fault),
     };
@@ -125,7 +125,7 @@ fn entered<P: PomSource>(
     ensures keeps_lines { KeepsLines store.old store.new }
     ensures cause { HasCause (P.faults source.old) (P.faults source.new) (build_failed result) }
 {
-    let raw = text_of(alloc, found)?;
+    let raw = text_of(found)?;
     let raw = packed(alloc, child, origin, raw)?;
     match line(alloc, store, source, given, left, seen, &raw) {
         Ok(line) => Ok(line),
@@ -214,8 +214,7 @@ fn above<P: PomSource>(
 /// first refusal, from the POM up: an expression or a range in a parent's coordinates; a POM at its path that has no model; a
 /// parent that isn't found; one that was met before; the 33rd POM, which names the first; what the parent's text breaks; and a
 /// parent whose packaging isn't `pom`. `Source` comes only if the source's count of faults rose. Costs the models that are joined, and
-/// the bytes of each POM on the way: of one at a path of the project the first time, of one by coordinates unless what it builds on is
-/// kept and serves. POM Reference, "Inheritance"; limits are project rules.
+/// the bytes of each POM on the way the first time. POM Reference, "Inheritance"; limits are project rules.
 pub fn lineage<P: PomSource>(
     alloc: Global,
     store: &mut Store,

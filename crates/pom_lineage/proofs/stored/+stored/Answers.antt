@@ -12,3 +12,6 @@ pub joined_from-returns-in-Some-clause-says : goal.joined_from-returns-in-Some-c
 joined_from-returns-in-Some-clause-says g t c = λ world fits holds at.
     subst (λ o. IfSome o (λ kept. joined_from world c.args.given.now c.args.left c.args.child.now c.args.seen.now c.args.origin.now ≡ Ok kept)) c.in-Some.is
     (c.in_ok-kept.ensures.told world c.args.given.now c.args.child.now holds at)
+
+pub fresh-returns-clause-keeps : goal.fresh-returns-clause-keeps
+fresh-returns-clause-keeps g t c = λ path found there. c.entered.ensures.keeps path found (c.parent_from.ensures.keeps path found there)

@@ -7,4 +7,4 @@ use Rattle.pom_lineage.proofs.store.Store.only_read.Goals as goal
 
 pub returns : goal.returns
 returns c = λ world other given holds same.
-    read_alone world other given c.args.self _ refl (λ path. ap (lookup (bytes_eq path)) c.new.ensures.empty) (λ gav. ap (lookup (gav_eq gav)) c.new-2.ensures.empty) holds same
+    read_alone world other given c.args.self _ refl (λ gav. ap (lookup (gav_eq gav)) c.new.ensures.empty) (λ path. ap (lookup (bytes_eq path)) c.new-2.ensures.empty) (λ gav. ap (lookup (gav_eq gav)) c.new-3.ensures.empty) holds same

@@ -1,3 +1,4 @@
+pub mod Asking
 pub mod Imported
 pub mod Importing
 pub mod Knowing

@@ -10,6 +10,7 @@ ghost use Rattle.effective.specs.Absence.{IsAbsentExactly, has_pom};
 ghost use Rattle.effective.specs.Effective.{asked, asked_path, effective};
 
 use crate::imports::whole;
+use crate::lineages::lineage_of;
 use crate::looked::asked_gav;
 use crate::run_store::RunStore;
 use model_types::{Model, RawModel};
@@ -77,7 +78,7 @@ fn asked<P: PomSource>(
 }
 
 // The POM that is asked for, in all steps.
-#[tactic(auto, using(pom_lineage::proofs::Telling::told_both, crate::proofs::Standing::built_gives))]
+#[tactic(auto, using(pom_lineage::proofs::Telling::told_both, crate::proofs::Standing::built_gives, crate::proofs::Asking::whole_stops))]
 fn modelled<P: PomSource>(
     alloc: Global,
     store: &mut RunStore,
@@ -95,8 +96,9 @@ fn modelled<P: PomSource>(
     ensures cause { HasCause (P.faults source.old) (P.faults source.new) (build_failed result) }
 {
     let raw = asked(alloc, store, source, pom)?;
+    let joined = lineage_of(alloc, store, source, given, pom, &raw)?;
     let building = only(alloc, &raw.pom)?;
-    match whole(alloc, store, source, given, 31, &building, &raw) {
+    match whole(alloc, store, source, given, 31, &building, &raw, &joined) {
         Ok(built) => Ok(built.model),
         Err(fault) => Err(fault),
     }

@@ -1,11 +1,11 @@
-ghost use Rattle.std.specs.Prelude.{◌≡◌, [], false, true, IfOk};
+ghost use Rattle.std.specs.Prelude.{◌≡◌, [], false, true, Ok, IfOk};
 ghost use Rattle.std.specs.List.{list_all};
 ghost use Rattle.mvn_shared.specs.Cause.{HasCause};
 ghost use Rattle.profile_activation.specs.Judging.{TellsOn};
 ghost use Rattle.pom_source.specs.Answers.{Says, build_failed};
 ghost use Rattle.pom_source.specs.Worlds.{World};
-ghost use Rattle.pom_lineage.specs.Lineage.{is_in, next_poms};
-ghost use Rattle.model_steps.specs.Folders.{filled};
+ghost use Rattle.model_types.specs.declared.model.RawModel as models;
+ghost use Rattle.pom_lineage.specs.Lineage.{is_in, lineage, next_poms};
 ghost use Rattle.model_steps.specs.Valid.{has_no_import};
 ghost use Rattle.effective.specs.Lawful.{IsLawful};
 ghost use Rattle.effective.specs.Effective.{ended, entry, full, import_found, imported, imports_from, managed_of, whole};
@@ -13,45 +13,25 @@ ghost use Rattle.effective.specs.Kept.{AreKept, HoldsAll, IsBuilt, IsEntry, IsFo
 ghost use Rattle.effective.specs.Serving.{serves};
 
 use crate::kept::{BuiltModel, Entries, Import, ImportLists};
+use crate::lineages::lineage_with;
 use crate::looked::wanted;
 use crate::run_store::RunStore;
 use model_steps::{built, checked, filled, import_gav, is_import, model_of};
 use model_types::{BuildBase, Dependency, Model, RawModel};
 use mvn_base::{Gav, PomId, Rule};
 use mvn_shared::{List, Shared};
-use pom_lineage::{Joined, lineage, next_poms};
+use pom_lineage::{Joined, next_poms};
 use pom_source::{BuildFault, Given, PomSource, gav_refused};
 use std::alloc::Global;
 
-// The filled model of what is joined.
-fn filled_of(alloc: Global, given: &Given, joined: &Joined) -> Result<RawModel, BuildFault>
-    ensures says { Says (filled given.now joined.now.model) result }
+// A POM with all that it builds on, filled: what was joined for it.
+#[tactic(auto, using(crate::proofs::Asking::full_says))]
+fn full(alloc: Global, given: &Given, joined: &Joined) -> Result<RawModel, BuildFault>
+    ensures says { (world : World) (raw : models.RawModel)
+        → lineage world given.now raw ≡ Ok joined.now → Says (full world given.now raw) result }
     ensures cause { build_failed result ≡ false }
 {
     match filled(alloc, given, &joined.model) {
-        Ok(model) => Ok(model),
-        Err(fault) => Err(fault),
-    }
-}
-
-// A POM with all that it builds on, filled.
-fn full<P: PomSource>(
-    alloc: Global,
-    store: &mut RunStore,
-    source: &mut P,
-    given: &Given,
-    raw: &Shared<RawModel>,
-) -> Result<RawModel, BuildFault>
-    ensures says { (world : World) → P.fits_poms source.old world → HoldsAll world given.now store.old
-        → Says (full world given.now raw.now) result }
-    ensures fit { (world : World) → P.fits_poms source.old world → P.fits_poms source.new world }
-    ensures same { TellsOn P.tells_same source.old source.new }
-    ensures holds { (world : World) → P.fits_poms source.old world → HoldsAll world given.now store.old
-        → HoldsAll world given.now store.new }
-    ensures cause { HasCause (P.faults source.old) (P.faults source.new) (build_failed result) }
-{
-    let joined = lineage(alloc, &mut store.lineages, source, given, raw)?;
-    match filled_of(alloc, given, &joined) {
         Ok(full) => Ok(full),
         Err(fault) => Err(fault),
     }
@@ -182,7 +162,7 @@ fn import_found<P: PomSource>(
 
 // The same of an imported POM that was read.
 #[cycle(built)]
-#[tactic(auto, using(pom_lineage::proofs::Telling::untold, crate::proofs::Standing::is_read, crate::proofs::Standing::read_serves))]
+#[tactic(auto, using(pom_lineage::proofs::Telling::untold, pom_lineage::proofs::Telling::told_both, crate::proofs::Standing::is_read, crate::proofs::Standing::read_serves, crate::proofs::Asking::managed_stops))]
 fn import_read<P: PomSource>(
     alloc: Global,
     store: &mut RunStore,
@@ -205,14 +185,15 @@ fn import_read<P: PomSource>(
         → HoldsAll world given.now store.old → HoldsAll world given.now store.new }
     ensures cause { HasCause (P.faults source.old) (P.faults source.new) (build_failed result) }
 {
+    let joined = lineage_with(alloc, store, source, given, raw)?;
     let building = next_poms(building, &raw.pom)?;
-    let model = whole(alloc, store, source, given, left, &building, raw)?;
+    let model = whole(alloc, store, source, given, left, &building, raw, &joined)?;
     Ok(Import::of_model(&raw.pom, model)?)
 }
 
-/// A POM that was read, in all steps; `left` POMs more may be built.
+/// A POM that was read, and what it builds on, in all further steps; `left` POMs more may be built.
 #[cycle(built)]
-#[tactic(auto, using(pom_lineage::proofs::Telling::told_both, crate::proofs::Standing::is_built, crate::proofs::Standing::built_fails))]
+#[tactic(auto, using(pom_lineage::proofs::Telling::told_both, pom_lineage::proofs::Telling::untold, crate::proofs::Standing::is_built, crate::proofs::Standing::built_fails))]
 pub(crate) fn whole<P: PomSource>(
     alloc: Global,
     store: &mut RunStore,
@@ -221,9 +202,10 @@ pub(crate) fn whole<P: PomSource>(
     left: u32,
     building: &List<PomId>,
     raw: &Shared<RawModel>,
+    joined: &Joined,
 ) -> Result<BuiltModel, BuildFault>
     ensures says { (world : World) → P.fits_poms source.old world
-        → HoldsAll world given.now store.old
+        → HoldsAll world given.now store.old → lineage world given.now raw.now ≡ Ok joined.now
         → OrFails (IsBuilt world given.now raw.now)
         (whole world given.now (imported world given.now left raw.now.pom building.now) raw.now)
         result }
@@ -235,7 +217,7 @@ pub(crate) fn whole<P: PomSource>(
         → HoldsAll world given.now store.old → HoldsAll world given.now store.new }
     ensures cause { HasCause (P.faults source.old) (P.faults source.new) (build_failed result) }
 {
-    let full = full(alloc, store, source, given, raw)?;
+    let full = full(alloc, given, joined)?;
     let base = built(alloc, &full)?;
     let imports = imports(alloc, store, source, given, left, &raw.pom, building, &full)?;
     match ended(alloc, &full, &base, &imports.lists) {

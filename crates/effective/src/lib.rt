@@ -7,6 +7,7 @@ mod below;
 mod imports;
 mod kept;
 pub mod law;
+mod lineages;
 mod looked;
 mod run_store;
 

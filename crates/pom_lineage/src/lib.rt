@@ -19,4 +19,4 @@ pub use origin::{Candidate, Origin};
 pub use parents::{is_in, next_poms, pom_of, text_of};
 pub use reading::{read, with_profiles};
 pub use store::{Store, meets};
-pub use stored::lineage;
+pub use stored::{lineage, module_lineage};

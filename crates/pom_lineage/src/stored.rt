@@ -1,8 +1,11 @@
-ghost use Rattle.std.specs.Prelude.{◌≡◌, true, is_some, IfSome, OnOk};
+ghost use Rattle.std.specs.Prelude.{◌≡◌, [], true, Ok, Some, codes, is_some, IfOk, IfSome, OnOk};
+ghost use Rattle.std.specs.Str.{bytes_eq};
 ghost use Rattle.mvn_shared.specs.Cause.{HasCause};
 ghost use Rattle.profile_activation.specs.Judging.{TellsOn};
 ghost use Rattle.pom_source.specs.Answers.{Says, build_failed};
 ghost use Rattle.pom_source.specs.Worlds.{World};
+ghost use Rattle.pom_lineage.specs.declared.origin.Origin.TheVariants.{Beside};
+ghost use Rattle.pom_lineage.specs.Beside.{read_at};
 ghost use Rattle.pom_lineage.specs.Lineage.{above, entered, gav_of, joined_from, joined_up, line, lineage, next_poms};
 ghost use Rattle.pom_lineage.specs.Stores.{Holds, IsAt, KeepsLines, KeepsParent, KeepsRead, line_in, serves};
 
@@ -15,7 +18,7 @@ use crate::reading::with_profiles;
 use crate::store::Store;
 use model_types::{Parent, RawModel};
 use mvn_base::{PomId, Rule};
-use mvn_shared::{List, Shared};
+use mvn_shared::{List, Mem, Shared, Text};
 use pom_source::{BuildFault, Given, PomSource};
 use std::alloc::Global;
 
@@ -238,5 +241,87 @@ pub fn lineage<P: PomSource>(
     match line(alloc, store, source, given, 31, &none, raw) {
         Ok(line) => Ok(line),
         Err(fault) => Err(fault),
+    }
+}
+
+// Whether a POM may be a parent.
+fn is_parent(raw: &RawModel) -> bool
+    ensures { result ≡ bytes_eq raw.now.coordinates.packaging (codes "pom") }
+{
+    raw.coordinates.packaging.as_str() == "pom"
+}
+
+// The POM at a path of the project, as a parent is found there.
+fn beside(path: &Text, raw: &Shared<RawModel>) -> Mem<Origin>
+    ensures { IfOk result (λ origin. origin ≡ Beside path.now raw.now) }
+{
+    let path = path.clone()?;
+    Ok(Origin::Beside(path, raw.share()?))
+}
+
+// What a POM at a path comes to as a parent: kept, or built and then kept.
+#[tactic(auto, using(crate::proofs::Joining::at_path, crate::proofs::Joining::as_parent, crate::proofs::Telling::untold))]
+fn as_parent<P: PomSource>(
+    alloc: Global,
+    store: &mut Store,
+    source: &mut P,
+    given: &Given,
+    path: &Text,
+    raw: &Shared<RawModel>,
+) -> Result<Shared<Joined>, BuildFault>
+    requires parent { bytes_eq raw.now.coordinates.packaging (codes "pom") ≡ true }
+    ensures says { (world : World) → P.fits_poms source.old world → Holds world given.now store.old
+        → read_at world path.now ≡ Ok (Some raw.now)
+        → Says (lineage world given.now raw.now) result }
+    ensures fit { (world : World) → P.fits_poms source.old world → P.fits_poms source.new world }
+    ensures same { TellsOn P.tells_same source.old source.new }
+    ensures holds { (world : World) → P.fits_poms source.old world → Holds world given.now store.old
+        → read_at world path.now ≡ Ok (Some raw.now) → Holds world given.now store.new }
+    ensures kept { OnOk result (is_some (line_in store.new (Beside path.now raw.now)) ≡ true) }
+    ensures unasked { IfSome (line_in store.old (Beside path.now raw.now)) (λ line.
+        serves 32 [] line ≡ true → source.new ≡ source.old) }
+    ensures keeps { KeepsRead store.old store.new }
+    ensures keeps_lines { KeepsLines store.old store.new }
+    ensures cause { HasCause (P.faults source.old) (P.faults source.new) (build_failed result) }
+{
+    let origin = beside(path, raw)?;
+    let none = List::new(alloc);
+    match joined_from(alloc, store, source, given, 32, &raw.pom, &none, &origin) {
+        Ok(line) => Ok(line),
+        Err(fault) => Err(fault),
+    }
+}
+
+/// What `lineage` answers of the POM at a path of the project, where `raw` is what was read at this path. What a POM of packaging `pom`
+/// comes to stays in the store as that of a parent, and is taken from there, so that a module that is a parent, too, is joined once in a
+/// run, with its profiles. Costs what `lineage` does, or a comparison of 32 POMs at most where it was joined before. Project rule.
+pub fn module_lineage<P: PomSource>(
+    alloc: Global,
+    store: &mut Store,
+    source: &mut P,
+    given: &Given,
+    path: &Text,
+    raw: &Shared<RawModel>,
+) -> Result<Shared<Joined>, BuildFault>
+    ensures says { (world : World) → P.fits_poms source.old world → Holds world given.now store.old
+        → read_at world path.now ≡ Ok (Some raw.now)
+        → Says (lineage world given.now raw.now) result }
+    ensures fit { (world : World) → P.fits_poms source.old world → P.fits_poms source.new world }
+    ensures same { TellsOn P.tells_same source.old source.new }
+    ensures holds { (world : World) → P.fits_poms source.old world → Holds world given.now store.old
+        → read_at world path.now ≡ Ok (Some raw.now) → Holds world given.now store.new }
+    ensures kept { bytes_eq raw.now.coordinates.packaging (codes "pom") ≡ true
+        → OnOk result (is_some (line_in store.new (Beside path.now raw.now)) ≡ true) }
+    ensures unasked { bytes_eq raw.now.coordinates.packaging (codes "pom") ≡ true
+        → IfSome (line_in store.old (Beside path.now raw.now)) (λ line.
+        serves 32 [] line ≡ true → source.new ≡ source.old) }
+    ensures keeps { KeepsRead store.old store.new }
+    ensures keeps_lines { KeepsLines store.old store.new }
+    ensures cause { HasCause (P.faults source.old) (P.faults source.new) (build_failed result) }
+{
+    if is_parent(raw) {
+        as_parent(alloc, store, source, given, path, raw)
+    } else {
+        lineage(alloc, store, source, given, raw)
     }
 }

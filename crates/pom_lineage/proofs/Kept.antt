@@ -29,7 +29,7 @@ none_some x e = cc
 path_itself : (path : List ℕ) → bytes_eq path path ≡ true
 path_itself path = (bytes_eq-Decides path path).1 refl
 
-gav_itself : (gav : Gav) → gav_eq gav gav ≡ true
+pub gav_itself : (gav : Gav) → gav_eq gav gav ≡ true
 gav_itself gav =
     ap (λ b. b && (bytes_eq gav.artifact gav.artifact && bytes_eq gav.version gav.version)) (path_itself gav.group)
     ∙ ap (λ b. b && bytes_eq gav.version gav.version) (path_itself gav.artifact) ∙ path_itself gav.version
@@ -71,6 +71,13 @@ pub known_kept : {T E : Type 0} (r : Result T E) (old new : Store) (gav : Gav) (
     → OnOk r ((other : Gav) → get gav_eq new.known other ≡ (if gav_eq gav other then Some found else get gav_eq old.known other)) → OnOk r (known_in new gav ≡ Some found)
 known_kept (Ok x) old new gav found ok = ok gav ∙ ap (λ b. if b then Some found else get gav_eq old.known gav) (gav_itself gav)
 known_kept (Err x) old new gav found ok = record {}
+
+-- and what is known of others is as it was
+pub known_apart : {T E : Type 0} (r : Result T E) (old new : Store) (gav : Gav) (found : Option Candidate)
+    → OnOk r ((other : Gav) → get gav_eq new.known other ≡ (if gav_eq gav other then Some found else get gav_eq old.known other))
+    → OnErr r ((other : Gav) → get gav_eq new.known other ≡ get gav_eq old.known other) → (other : Gav) → gav_eq gav other ≡ false → known_in new other ≡ known_in old other
+known_apart (Ok x) old new gav found ok err other apart = ok other ∙ ap (λ b. if b then Some found else get gav_eq old.known other) apart
+known_apart (Err x) old new gav found ok err other apart = err other
 
 -- and nothing is forgotten, if nothing was there
 pub read_keeps : {T E : Type 0} (r : Result T E) (old new : Store) (path : List ℕ) (found : Option RawModel)

@@ -7,3 +7,4 @@ pub mod Kept
 pub mod Knowing
 pub mod Naming
 pub mod Telling
+pub mod Twice

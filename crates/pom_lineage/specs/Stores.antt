@@ -14,6 +14,7 @@ use Rattle.pom_lineage.specs.Beside.{read_at}
 use Rattle.pom_lineage.specs.Lineage.{is_in, joined_from, known_at, origin_of}
 use Rattle.pom_lineage.specs.declared.joined.Joined.{Joined}
 use Rattle.pom_lineage.specs.declared.origin.Candidate.{Candidate}
+use Rattle.pom_lineage.specs.declared.origin.Candidate.TheVariants as candidates
 use Rattle.pom_lineage.specs.declared.origin.Origin.{Origin}
 use Rattle.pom_lineage.specs.declared.origin.Origin.TheVariants.{Beside, Elsewhere}
 use Rattle.pom_lineage.specs.declared.store.Store.{Store}
@@ -28,6 +29,12 @@ read_in store path = get bytes_eq store.read path
 -- what is known of the POM of coordinates
 abbrev pub known_in : Store → Gav → Option (Option Candidate)
 known_in store gav = get gav_eq store.known gav
+
+-- the POM that was read at a path, as one that coordinates lead to
+abbrev pub known_as : Option (Option RawModel) → Option (Option Candidate)
+known_as None = None
+known_as (Some None) = None
+known_as (Some (Some raw)) = Some (Some (candidates.Read raw))
 
 -- a lineage that is kept under the path or the coordinates that led to its lowest POM
 abbrev pub line_in : Store → Origin → Option Joined

@@ -1,14 +1,17 @@
 ghost use Rattle.std.specs.Prelude.{◌≡◌, ◌≤◌, ℕ, List as Items, Ok, None, Some, length, is_some, IfOk, IfSome, OnOk, OnErr, true, false, if◌then◌else◌};
 ghost use Rattle.std.specs.HashMap.{get};
+ghost use Rattle.std.specs.Option.{option_or};
 ghost use Rattle.std.specs.Str.{bytes_eq};
 ghost use Rattle.mvn_base.specs.declared.gav.Gav as gavs;
 ghost use Rattle.mvn_base.specs.declared.refusal.PomId as poms;
+ghost use Rattle.model_types.specs.declared.model.RawModel as raws;
 ghost use Rattle.pom_source.specs.Worlds.{World};
 ghost use Rattle.pom_source.specs.declared.found.Given as givens;
 ghost use Rattle.mvn_base.specs.Gav.{gav_eq};
 ghost use Rattle.pom_lineage.specs.Beside.{read_at};
 ghost use Rattle.pom_lineage.specs.Lineage.{joined_from, known_at};
-ghost use Rattle.pom_lineage.specs.Stores.{AgreesOnPaths, Holds, IsAt, IsKept, KeepsLines, KeepsRead, if_serves, known_in, line_in, meets, read_in, serves};
+ghost use Rattle.pom_lineage.specs.declared.origin.Candidate.TheVariants as candidates;
+ghost use Rattle.pom_lineage.specs.Stores.{AgreesOnPaths, Holds, IsAt, IsKept, KeepsLines, KeepsRead, if_serves, known_as, known_in, line_in, meets, read_in, serves};
 
 use crate::joined::Joined;
 use crate::origin::{Candidate, Origin};
@@ -59,6 +62,22 @@ fn same_known(found: &Option<Shared<Candidate>>) -> Mem<Option<Shared<Candidate>
     ensures { IfOk result (λ same. same ≡ found.now) }
 {
     Ok(found.clone()?)
+}
+
+// A POM that was read at a path, as one that coordinates lead to.
+fn as_known(
+    alloc: Global,
+    found: &Option<Shared<RawModel>>,
+) -> Mem<Option<Option<Shared<Candidate>>>>
+    ensures { IfOk result (λ known. known ≡ known_as (Some found.now)) }
+{
+    match found {
+        Some(raw) => {
+            let known = Shared::new(alloc, Candidate::Read(raw.share()?))?;
+            Ok(Some(Some(known)))
+        }
+        None => Ok(None),
+    }
 }
 
 // Puts what is known under coordinates.
@@ -207,12 +226,59 @@ impl Store {
     /// Keeps what is known of the POM of coordinates. Costs the coordinates.
     pub(crate) fn keep_known(&mut self, gav: &Gav, found: &Option<Shared<Candidate>>) -> Mem<()>
         ensures kept { OnOk result (known_in self.new gav.now ≡ Some found.now) }
+        ensures others { (other : gavs.Gav) → gav_eq gav.now other ≡ false
+            → known_in self.new other ≡ known_in self.old other }
         ensures keeps { KeepsRead self.old self.new }
         ensures keeps_lines { KeepsLines self.old self.new }
         ensures holds { (world : World) (given : givens.Given) → Holds world given self.old
             → known_at world gav.now ≡ Ok found.now → Holds world given self.new }
     {
         set_known(&mut self.known, gav, found)
+    }
+
+    // Whether something is known of the POM of coordinates.
+    fn is_known(&self, gav: &Gav) -> bool
+        ensures { result ≡ is_some (known_in self.now gav.now) }
+    {
+        self.known.get(gav).is_some()
+    }
+
+    // The POM that was read at a path, as one that coordinates lead to.
+    fn read_as(&self, alloc: Global, path: &Text) -> Mem<Option<Option<Shared<Candidate>>>>
+        ensures { IfOk result (λ known. known ≡ known_as (read_in self.now path.now)) }
+    {
+        match self.read.get(path) {
+            Some(found) => as_known(alloc, found),
+            None => Ok(None),
+        }
+    }
+
+    /// Keeps the POM that was read at a path under coordinates too, if nothing is known of these and a POM was read there: for a
+    /// source in which the coordinates lead to the POM at this path. Whether something is known of them now. Its model is shared. Costs
+    /// the path and the coordinates. Project rule.
+    #[tactic(auto, using(crate::proofs::Twice::stays_known, crate::proofs::Twice::now_known, crate::proofs::Twice::not_read, crate::proofs::Twice::is_known, crate::proofs::Twice::leads))]
+    pub fn keep_as(&mut self, alloc: Global, gav: &Gav, path: &Text) -> Mem<bool>
+        ensures value { IfOk result (λ known. known ≡ is_some (known_in self.new gav.now)) }
+        ensures kept { OnOk result (known_in self.new gav.now
+            ≡ option_or (known_in self.old gav.now) (known_as (read_in self.old path.now))) }
+        ensures others { (other : gavs.Gav) → gav_eq gav.now other ≡ false
+            → known_in self.new other ≡ known_in self.old other }
+        ensures keeps { KeepsRead self.old self.new }
+        ensures keeps_lines { KeepsLines self.old self.new }
+        ensures holds { (world : World) (given : givens.Given) → Holds world given self.old
+            → (known_in self.old gav.now ≡ None → (raw : raws.RawModel)
+            → read_at world path.now ≡ Ok (Some raw)
+            → known_at world gav.now ≡ Ok (Some (candidates.Read raw)))
+            → Holds world given self.new }
+    {
+        if self.is_known(gav) {
+            return Ok(true);
+        }
+        let Some(found) = self.read_as(alloc, path)? else {
+            return Ok(false);
+        };
+        self.keep_known(gav, &found)?;
+        Ok(true)
     }
 
     // The lineage that is kept under a path or coordinates.

@@ -58,6 +58,20 @@ module _ (world : World) where
   own_texts (m ∷ found) all =
       ap (λ o. with_text m (unwrap_or o []) ∷ map with_own_text found) (sym all.0) ∙ ap (λ l. found_pom world m ∷ l) (own_texts found all.1)
 
+-- the texts of the project's POMs are those of the files at their paths
+abbrev pub HasText : World → ProjectPom → Type 0
+HasText world p = world.by_path p.path ≡ Some p.bytes
+
+texts : (world : World) (found : List ModulePom) → AllByRecursion (IsThere world) found → AllByRecursion (HasText world) (map (found_pom world) found)
+texts world [] all = tt
+texts world (m ∷ found) all = (all.0 ∙ ap (λ o. Some (unwrap_or o [])) (sym all.0), texts world found all.1)
+
+pub have_texts : (world : World) (given : Given) (poms : List ProjectPom) → project_poms world given ≡ Ok poms → AllByRecursion (HasText world) poms
+have_texts world given poms said =
+    let b = bound (discovered world given) (λ found. Ok (map (found_pom world) found)) poms said in
+    subst (λ (l : List ProjectPom). AllByRecursion (HasText world) l) (ok_is (map (found_pom world) b.0) poms b.2)
+    (texts world b.0 (project_there world given b.0 (is_project world given b.0 b.1)))
+
 -- so the project's POMs are those that were discovered, with their own bytes
 pub poms_found : (world : World) (given : Given) (found : List ModulePom) (poms : List ProjectPom) → discovered world given ≡ Ok found → poms ≡ map with_own_text found → project_poms world given ≡ Ok poms
 poms_found world given found poms said own =

@@ -4,6 +4,7 @@
 mod doubles;
 mod law;
 mod models;
+mod own;
 mod poms;
 mod project;
 mod whole;

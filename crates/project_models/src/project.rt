@@ -1,12 +1,12 @@
 // From a project's devices to its modules.
-ghost use Rattle.std.specs.Prelude.{◌≡◌, ◌≤◌, [], false, length, IfOk};
+ghost use Rattle.std.specs.Prelude.{◌≡◌, ◌≤◌, [], Ok, false, length, IfOk};
 ghost use Rattle.std.specs.List.{AllByRecursion};
 ghost use Rattle.mvn_shared.specs.Cause.{HasCause};
 ghost use Rattle.effective.specs.Kept.{HoldsAll};
 ghost use Rattle.effective.specs.Lawful.{IsLawful};
 ghost use Rattle.model_resolver.specs.Devices.{Counted, IsCounted};
 ghost use Rattle.model_resolver.specs.Finding.{world_of};
-ghost use Rattle.pom_lineage.specs.Stores.{AgreesOnPaths, Holds};
+ghost use Rattle.pom_lineage.specs.Stores.{Holds};
 ghost use Rattle.pom_source.specs.Answers.{Says, build_failed};
 ghost use Rattle.pom_source.specs.Worlds.{World};
 ghost use Rattle.project_models.specs.Models.{AreModules, Gives, models_of, modules_of, project_models, project_poms, single};
@@ -14,6 +14,7 @@ ghost use Rattle.project_models.specs.Telling.{IfTold};
 
 use crate::doubles::{first_double, refuse};
 use crate::models::models_of;
+use crate::own::own_store;
 use crate::poms::project_poms;
 use crate::whole::Whole;
 use effective::RunStore;
@@ -186,7 +187,44 @@ fn single(
     }
 }
 
-// The modules of a project whose POMs were found, with a store of what was read of them.
+// The modules of a project whose POMs were found, over what is kept of them.
+fn over_store<T: Tree, S: Shelf, R: Remote>(
+    alloc: Global,
+    store: RunStore,
+    tree: &mut T,
+    shelf: &mut S,
+    remote: &mut R,
+    failures: &mut Failures,
+    given: &Given,
+    poms: List<ProjectPom>,
+) -> Result<ProjectModels, BuildFault>
+    requires any { 1 ≤ length poms }
+    requires few { length poms ≤ 1024 }
+    ensures says { IfTold (T.files tree.old) (S.told shelf.old) (R.files remote.old)
+        (λ files local there. HoldsAll (world_of poms files local there) given.now store
+        → Gives (modules_of files local there given.now poms) result) }
+    ensures modules { IfOk result (λ found. AreModules found.poms found.models) }
+    ensures holds { IfTold (T.files tree.old) (S.told shelf.old) (R.files remote.old)
+        (λ files local there. HoldsAll (world_of poms files local there) given.now store
+        → IfOk result (λ found. HoldsAll (world_of found.poms files local there) given.now found.store)) }
+    ensures tree { T.files tree.new ≡ T.files tree.old }
+    ensures shelf { S.told shelf.new ≡ S.told shelf.old }
+    ensures remote { R.files remote.new ≡ R.files remote.old }
+    ensures counted { Counted failures.old.first failures.new.first
+        (record { tree = T.faults tree.old; shelf = S.faults shelf.old; remote = R.faults remote.old })
+        (record { tree = T.faults tree.new; shelf = S.faults shelf.new; remote = R.faults remote.new }) }
+    ensures noted { IsCounted failures.old → IsCounted failures.new }
+    ensures cause { HasCause failures.old.count failures.new.count (build_failed result) }
+{
+    let mut run = store;
+    match find_models(alloc, &mut run, tree, shelf, remote, failures, given, &poms) {
+        Ok(models) => single(alloc, poms, models, run),
+        Err(fault) => Err(fault),
+    }
+}
+
+// The same, with a store of what was read of the POMs.
+#[tactic(auto, using(model_resolver::proofs::Counting::counted_none))]
 fn with_poms<T: Tree, S: Shelf, R: Remote>(
     alloc: Global,
     store: Store,
@@ -201,12 +239,12 @@ fn with_poms<T: Tree, S: Shelf, R: Remote>(
     requires few { length poms ≤ 1024 }
     ensures says { IfTold (T.files tree.old) (S.told shelf.old) (R.files remote.old)
         (λ files local there. Holds (world_of [] files local there) given.now store
-        → AgreesOnPaths (world_of [] files local there) (world_of poms files local there)
+        → project_poms (world_of [] files local there) given.now ≡ Ok poms
         → Gives (modules_of files local there given.now poms) result) }
     ensures modules { IfOk result (λ found. AreModules found.poms found.models) }
     ensures holds { IfTold (T.files tree.old) (S.told shelf.old) (R.files remote.old)
         (λ files local there. Holds (world_of [] files local there) given.now store
-        → AgreesOnPaths (world_of [] files local there) (world_of poms files local there)
+        → project_poms (world_of [] files local there) given.now ≡ Ok poms
         → IfOk result (λ found. HoldsAll (world_of found.poms files local there) given.now found.store)) }
     ensures tree { T.files tree.new ≡ T.files tree.old }
     ensures shelf { S.told shelf.new ≡ S.told shelf.old }
@@ -217,10 +255,9 @@ fn with_poms<T: Tree, S: Shelf, R: Remote>(
     ensures noted { IsCounted failures.old → IsCounted failures.new }
     ensures cause { HasCause failures.old.count failures.new.count (build_failed result) }
 {
-    let mut run = RunStore::over(alloc, store.only_read(alloc));
-    match find_models(alloc, &mut run, tree, shelf, remote, failures, given, &poms) {
-        Ok(models) => single(alloc, poms, models, run),
-        Err(fault) => Err(fault),
+    match own_store(alloc, store, &poms) {
+        Ok(run) => over_store(alloc, run, tree, shelf, remote, failures, given, poms),
+        Err(_) => Err(BuildFault::Memory),
     }
 }
 

@@ -2,7 +2,6 @@ use Rattle.std.proofs.Common.{◌≡◌, ℕ, [], Ok, Err, IfOk}
 use Rattle.pom_source.specs.Answers.{Says}
 use Rattle.pom_source.specs.Chains.{stop_fails}
 use Rattle.pom_lineage.specs.Stores.{Holds}
-use Rattle.pom_lineage.specs.Stores.{AgreesOnPaths}
 use Rattle.effective.specs.Kept.{HoldsAll}
 use Rattle.model_resolver.specs.Devices.{Counts}
 use Rattle.model_resolver.specs.Finding.{world_of}
@@ -10,7 +9,6 @@ use Rattle.model_resolver.proofs.Counting.{counted_twice}
 use Rattle.project_models.specs.Models.{Gives, modules_of, project_models, project_poms}
 use Rattle.project_models.specs.declared.project.ProjectModels.{ProjectModels}
 use Rattle.project_models.proofs.Giving.{gives_on}
-use Rattle.project_models.proofs.Paths.{agrees}
 use Rattle.project_models.proofs.Told.{told_any, told_one, told_same, told_two}
 use Rattle.project_models.proofs.project.project_models.Goals as goal
 
@@ -25,9 +23,9 @@ returns-in-Ok-clause-says g c =
     let store = c.find_poms.new.store in
     told_two a b d
     (λ x y z. (project_poms (world_of [] x y z) given ≡ Ok poms) × Holds (world_of [] x y z) given store)
-    (λ x y z. Holds (world_of [] x y z) given store → AgreesOnPaths (world_of [] x y z) (world_of poms x y z) → Gives (modules_of x y z given poms) c.with_poms.result)
+    (λ x y z. Holds (world_of [] x y z) given store → project_poms (world_of [] x y z) given ≡ Ok poms → Gives (modules_of x y z given poms) c.with_poms.result)
     (λ x y z. Gives (project_models x y z given) c.with_poms.result)
-    (λ x y z first next. gives_on (project_poms (world_of [] x y z) given) (modules_of x y z given) poms c.with_poms.result first.0 (next first.1 (agrees x y z given poms first.0)))
+    (λ x y z first next. gives_on (project_poms (world_of [] x y z) given) (modules_of x y z given) poms c.with_poms.result first.0 (next first.1 first.0))
     (told_two a b d
     (λ x y z. Holds (world_of [] x y z) given c.new-store.result → Says (project_poms (world_of [] x y z) given) (Ok poms))
     (λ x y z. Holds (world_of [] x y z) given c.new-store.result → Holds (world_of [] x y z) given store)
@@ -35,7 +33,7 @@ returns-in-Ok-clause-says g c =
     (λ x y z said kept. (said (c.new-store.ensures (world_of [] x y z) given), kept (c.new-store.ensures (world_of [] x y z) given)))
     c.in-Ok.ensures.says c.in-Ok.ensures.holds)
     (told_same a (g.T.Tree.files c.find_poms.new.tree) b (g.S.Shelf.told c.find_poms.new.shelf) d (g.R.Remote.files c.find_poms.new.remote)
-    (λ x y z. Holds (world_of [] x y z) given store → AgreesOnPaths (world_of [] x y z) (world_of poms x y z) → Gives (modules_of x y z given poms) c.with_poms.result)
+    (λ x y z. Holds (world_of [] x y z) given store → project_poms (world_of [] x y z) given ≡ Ok poms → Gives (modules_of x y z given poms) c.with_poms.result)
     c.in-Ok.ensures.tree c.in-Ok.ensures.shelf c.in-Ok.ensures.remote c.with_poms.ensures.says)
 
 pub returns-in-Err-clause-says : goal.returns-in-Err-clause-says
@@ -58,10 +56,10 @@ returns-in-Ok-clause-holds g c =
     let store = c.find_poms.new.store in
     told_two a b d
     (λ x y z. (project_poms (world_of [] x y z) given ≡ Ok poms) × Holds (world_of [] x y z) given store)
-    (λ x y z. Holds (world_of [] x y z) given store → AgreesOnPaths (world_of [] x y z) (world_of poms x y z)
+    (λ x y z. Holds (world_of [] x y z) given store → project_poms (world_of [] x y z) given ≡ Ok poms
     → IfOk c.with_poms.result (λ (found : ProjectModels). HoldsAll (world_of found.poms x y z) given found.store))
     (λ x y z. IfOk c.with_poms.result (λ (found : ProjectModels). HoldsAll (world_of found.poms x y z) given found.store))
-    (λ x y z first next. next first.1 (agrees x y z given poms first.0))
+    (λ x y z first next. next first.1 first.0)
     (told_two a b d
     (λ x y z. Holds (world_of [] x y z) given c.new-store.result → Says (project_poms (world_of [] x y z) given) (Ok poms))
     (λ x y z. Holds (world_of [] x y z) given c.new-store.result → Holds (world_of [] x y z) given store)
@@ -69,7 +67,7 @@ returns-in-Ok-clause-holds g c =
     (λ x y z said kept. (said (c.new-store.ensures (world_of [] x y z) given), kept (c.new-store.ensures (world_of [] x y z) given)))
     c.in-Ok.ensures.says c.in-Ok.ensures.holds)
     (told_same a (g.T.Tree.files c.find_poms.new.tree) b (g.S.Shelf.told c.find_poms.new.shelf) d (g.R.Remote.files c.find_poms.new.remote)
-    (λ x y z. Holds (world_of [] x y z) given store → AgreesOnPaths (world_of [] x y z) (world_of poms x y z)
+    (λ x y z. Holds (world_of [] x y z) given store → project_poms (world_of [] x y z) given ≡ Ok poms
     → IfOk c.with_poms.result (λ (found : ProjectModels). HoldsAll (world_of found.poms x y z) given found.store))
     c.in-Ok.ensures.tree c.in-Ok.ensures.shelf c.in-Ok.ensures.remote c.with_poms.ensures.holds)
 

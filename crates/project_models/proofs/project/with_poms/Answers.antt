@@ -1,57 +1,33 @@
-use Rattle.std.proofs.Common.{[], Ok, Err, IfOk}
-use Rattle.pom_source.specs.Answers.{Says}
-use Rattle.pom_source.specs.Chains.{stop_fails}
+use Rattle.std.proofs.Common.{◌≡◌, [], Ok, Err, IfOk}
+use Rattle.pom_source.specs.declared.fault.BuildFault.TheVariants.{Memory}
 use Rattle.pom_lineage.specs.Stores.{Holds}
-use Rattle.pom_lineage.specs.Stores.{AgreesOnPaths}
 use Rattle.effective.specs.Kept.{HoldsAll}
+use Rattle.model_resolver.specs.Devices.{Counts}
 use Rattle.model_resolver.specs.Finding.{world_of}
-use Rattle.project_models.specs.Models.{Gives, models_of, modules_of, single}
+use Rattle.model_resolver.proofs.Counting.{counted_none}
+use Rattle.project_models.specs.Models.{Gives, modules_of, project_poms}
 use Rattle.project_models.specs.declared.project.ProjectModels.{ProjectModels}
-use Rattle.project_models.proofs.Giving.{gives_on, holds_on}
-use Rattle.project_models.proofs.Told.{told_any, told_one}
+use Rattle.project_models.proofs.Told.{told_any}
 use Rattle.project_models.proofs.project.with_poms.Goals as goal
-
-pub returns-in-Ok-clause-says : goal.returns-in-Ok-clause-says
-returns-in-Ok-clause-says g c =
-    let poms = c.args.poms in
-    let given = c.args.given.now in
-    told_one (g.T.Tree.files c.args.tree.now) (g.S.Shelf.told c.args.shelf.now) (g.R.Remote.files c.args.remote.now)
-    (λ x y z. HoldsAll (world_of poms x y z) given c.over-run.result → Says (models_of (world_of poms x y z) given poms) (Ok c.in-Ok.models))
-    (λ x y z. Holds (world_of [] x y z) given c.args.store → AgreesOnPaths (world_of [] x y z) (world_of poms x y z) → Gives (modules_of x y z given poms) c.single.result)
-    (λ x y z said holds agrees.
-    gives_on (models_of (world_of poms x y z) given poms) (single poms) c.in-Ok.models c.single.result
-    (said (c.over-run.ensures (world_of poms x y z) given (c.only_read.ensures (world_of [] x y z) (world_of poms x y z) given holds agrees))) c.single.ensures.says)
-    c.in-Ok.ensures.says
 
 pub returns-in-Err-clause-says : goal.returns-in-Err-clause-says
 returns-in-Err-clause-says g c =
     let poms = c.args.poms in
     let given = c.args.given.now in
-    told_one (g.T.Tree.files c.args.tree.now) (g.S.Shelf.told c.args.shelf.now) (g.R.Remote.files c.args.remote.now)
-    (λ x y z. HoldsAll (world_of poms x y z) given c.over-run.result → Says (models_of (world_of poms x y z) given poms) (Err c.in-Err.fault))
-    (λ x y z. Holds (world_of [] x y z) given c.args.store → AgreesOnPaths (world_of [] x y z) (world_of poms x y z) → Gives (modules_of x y z given poms) (Err c.in-Err.fault))
-    (λ x y z said holds agrees.
-    stop_fails (models_of (world_of poms x y z) given poms) (single poms) c.in-Err.fault
-    (said (c.over-run.ensures (world_of poms x y z) given (c.only_read.ensures (world_of [] x y z) (world_of poms x y z) given holds agrees))))
-    c.in-Err.ensures.says
-
-pub returns-in-Ok-clause-holds : goal.returns-in-Ok-clause-holds
-returns-in-Ok-clause-holds g c =
-    let poms = c.args.poms in
-    let given = c.args.given.now in
-    told_one (g.T.Tree.files c.args.tree.now) (g.S.Shelf.told c.args.shelf.now) (g.R.Remote.files c.args.remote.now)
-    (λ x y z. HoldsAll (world_of poms x y z) given c.over-run.result → HoldsAll (world_of poms x y z) given c.find_models.new.store)
-    (λ x y z. Holds (world_of [] x y z) given c.args.store → AgreesOnPaths (world_of [] x y z) (world_of poms x y z)
-    → IfOk c.single.result (λ (found : ProjectModels). HoldsAll (world_of found.poms x y z) given found.store))
-    (λ x y z kept holds agrees.
-    holds_on c.single.result poms c.find_models.new.store (λ l. world_of l x y z) given c.single.ensures.poms c.single.ensures.store
-    (kept (c.over-run.ensures (world_of poms x y z) given (c.only_read.ensures (world_of [] x y z) (world_of poms x y z) given holds agrees))))
-    c.in-Ok.ensures.holds
+    told_any (g.T.Tree.files c.args.tree.now) (g.S.Shelf.told c.args.shelf.now) (g.R.Remote.files c.args.remote.now)
+    (λ x y z. Holds (world_of [] x y z) given c.args.store → project_poms (world_of [] x y z) given ≡ Ok poms → Gives (modules_of x y z given poms) (Err Memory))
+    (λ x y z holds said. record {})
 
 pub returns-in-Err-clause-holds : goal.returns-in-Err-clause-holds
 returns-in-Err-clause-holds g c =
     let poms = c.args.poms in
+    let given = c.args.given.now in
     told_any (g.T.Tree.files c.args.tree.now) (g.S.Shelf.told c.args.shelf.now) (g.R.Remote.files c.args.remote.now)
-    (λ x y z. Holds (world_of [] x y z) c.args.given.now c.args.store → AgreesOnPaths (world_of [] x y z) (world_of poms x y z)
-    → IfOk (Err c.in-Err.fault) (λ (found : ProjectModels). HoldsAll (world_of found.poms x y z) c.args.given.now found.store))
-    (λ x y z holds agrees. tt)
+    (λ x y z. Holds (world_of [] x y z) given c.args.store → project_poms (world_of [] x y z) given ≡ Ok poms
+    → IfOk (Err Memory) (λ (found : ProjectModels). HoldsAll (world_of found.poms x y z) given found.store))
+    (λ x y z holds said. tt)
+
+pub returns-in-Err-clause-counted : goal.returns-in-Err-clause-counted
+returns-in-Err-clause-counted g c =
+    let counts : Counts = record { tree = g.T.Files.faults c.args.tree.now; shelf = g.S.Shelf.faults c.args.shelf.now; remote = g.R.Remote.faults c.args.remote.now } in
+    counted_none c.args.failures.now.first counts

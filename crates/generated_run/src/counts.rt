@@ -1,30 +1,29 @@
 // How many entries the classpaths of a build have.
-ghost use Rattle.std.specs.Prelude.{◌≡◌, IfOk};
+ghost use Rattle.std.specs.Prelude.{◌≡◌, ◌+◌, length, IfOk, OnOk};
 ghost use Rattle.generated_run.specs.Generated.{entries, entries_of};
 
 use classpaths::{Kind, Resolution};
-use mvn_shared::{Mem, OutOfMemory};
+use mvn_shared::Mem;
 use std::alloc::Global;
 
-// The entries of a module's classpath for tests.
-fn entries(alloc: Global, resolution: &Resolution) -> Mem<usize>
-    ensures { IfOk result (λ count. count ≡ entries resolution.now) }
+// The entries of a module's classpath for tests, behind those of others.
+fn add_entries(alloc: Global, places: &mut Vec<usize>, resolution: &Resolution) -> Mem<()>
+    ensures { OnOk result (length places.new.items
+        ≡ length places.old.items + entries resolution.now) }
 {
-    Ok(resolution.classpath(alloc, Kind::Test)?.len())
+    let more = resolution.classpath(alloc, Kind::Test)?;
+    places.extend_from_slice(more.as_slice())?;
+    Ok(())
 }
 
-/// The entries of all modules' classpaths for tests together. Costs the types of what they are built with. Introduction to the Dependency
-/// Mechanism, "Dependency Scope".
+/// The entries of all modules' classpaths for tests together. Costs the types of what they are built with, and memory for the entries'
+/// places. Introduction to the Dependency Mechanism, "Dependency Scope".
 pub(crate) fn entries_of(alloc: Global, resolutions: &[Resolution]) -> Mem<u64>
     ensures { IfOk result (λ count. count ≡ entries_of resolutions.now) }
 {
-    let mut count: u64 = 0;
+    let mut places = Vec::new(alloc);
     for resolution in resolutions {
-        let more = entries(alloc, resolution)? as u64;
-        match count.checked_add(more) {
-            Some(sum) => count = sum,
-            None => return Err(OutOfMemory),
-        }
+        add_entries(alloc, &mut places, resolution)?;
     }
-    Ok(count)
+    Ok(places.len() as u64)
 }

@@ -4,14 +4,17 @@ ghost use Rattle.std.specs.String.{string_bytes};
 ghost use Rattle.mvn_shared.specs.Held.{held_bytes};
 
 use crate::memory::Mem;
+use crate::part::Part;
 use crate::shared::Shared;
 use std::alloc::{AllocError, Global};
 
-/// The bytes of a text: it alone has them, and may add to them, or it shares them with its copies.
+/// The bytes of a text: it alone has them, and may add to them, or it shares them with its copies, or they are a part of a text that others
+/// share too.
 #[derive(Drop)]
 pub enum Held {
     Own(String),
     Common(Shared<String>),
+    Within(Part),
 }
 
 impl Held {
@@ -28,14 +31,27 @@ impl Held {
                 }
             }
             Held::Common(text) => Ok(Held::Common(text)),
+            Held::Within(part) => Ok(Held::Within(part)),
         }
     }
 
-    /// The bytes with further ones behind them, which the result alone has.
+    // The allocator that the bytes come from.
+    fn allocator(&self) -> Global {
+        match self {
+            Held::Own(text) => *text.allocator(),
+            Held::Common(text) => *text.value().allocator(),
+            Held::Within(part) => part.allocator(),
+        }
+    }
+
+    /// The bytes with further ones behind them, which the result alone has, and room for as many again.
     pub(crate) fn with(&self, more: &str) -> Mem<Held>
         ensures { IfOk result (λ longer. held_bytes longer ≡ held_bytes self.now ++ more.now) }
     {
-        let mut text = self.string().clone()?;
+        let front = self.as_str();
+        let room = front.len().wrapping_add(more.len()).wrapping_mul(2);
+        let mut text = String::with_capacity(self.allocator(), room)?;
+        text.push_str(front)?;
         text.push_str(more)?;
         Ok(Held::Own(text))
     }
@@ -47,16 +63,7 @@ impl Held {
         match self {
             Held::Own(text) => Ok(Held::Own(text.clone()?)),
             Held::Common(text) => Ok(Held::Common(text.clone()?)),
-        }
-    }
-
-    // The string that holds the bytes.
-    fn string(&self) -> &String
-        ensures { string_bytes result.now ≡ held_bytes self.now }
-    {
-        match self {
-            Held::Own(text) => text,
-            Held::Common(text) => text.value(),
+            Held::Within(part) => Ok(Held::Within(part.copy()?)),
         }
     }
 
@@ -64,6 +71,10 @@ impl Held {
     pub(crate) fn as_str(&self) -> &str
         ensures { result.now ≡ held_bytes self.now }
     {
-        self.string().as_str()
+        match self {
+            Held::Own(text) => text.as_str(),
+            Held::Common(text) => text.value().as_str(),
+            Held::Within(part) => part.as_str(),
+        }
     }
 }

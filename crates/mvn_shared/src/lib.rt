@@ -7,6 +7,7 @@ pub mod file_map;
 mod held;
 pub mod list;
 pub mod memory;
+mod part;
 pub mod shared;
 pub mod text;
 

@@ -32,6 +32,14 @@ impl<T> List<T> {
         }
     }
 
+    /// An empty list, with room for so many items.
+    pub fn with_capacity(alloc: Global, room: usize) -> Mem<List<T>>
+        ensures { IfOk result (λ list. list ≡ []) }
+    {
+        let items = Vec::with_capacity(alloc, room)?;
+        Ok(List { items })
+    }
+
     /// The items of a `Vec`. Takes no memory.
     pub fn of(items: Vec<T>) -> List<T>
         ensures { result ≡ items.items }

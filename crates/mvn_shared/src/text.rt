@@ -4,6 +4,8 @@ ghost use Rattle.std.specs.String.{string_bytes};
 
 use crate::held::Held;
 use crate::memory::{Mem, OutOfMemory};
+use crate::part::Part;
+use crate::shared::Shared;
 use std::alloc::{AllocError, Global};
 use std::cmp::Ordering;
 use std::error::Error;
@@ -84,6 +86,20 @@ impl Text {
     {
         let held = Held::Own(text);
         Text { held }
+    }
+
+    /// A copy of a text that stands in another one at a byte, which it and its copies share: they take no memory. Where it doesn't stand there
+    /// it is a copy of its own. Costs comparing them.
+    pub fn within(alloc: Global, whole: &Shared<String>, at: usize, text: &str) -> Mem<Text>
+        ensures { IfOk result (λ copy. copy ≡ text.now) }
+    {
+        if let Some(part) = Part::of(whole, at, at.wrapping_add(text.len()))? {
+            if part.as_str() == text {
+                let held = Held::Within(part);
+                return Ok(Text { held });
+            }
+        }
+        Text::from_str(alloc, text)
     }
 
     /// The same text, which its copies share: they take no memory. Costs one allocation, and none where it is empty or its

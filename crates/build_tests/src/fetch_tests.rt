@@ -77,7 +77,7 @@ fn a_library_is_fetched(rt: HostRuntime) -> Mem<()> {
 #[test]
 fn a_project_or_an_output_that_fails_beside_a_library(rt: HostRuntime) -> Mem<()> {
     check_library(&rt, rt.alloc(), WHOLE, 't', (0, 5), (3, 0), "fault tree\n")?;
-    check_library(&rt, rt.alloc(), WHOLE, 't', (6, 7), (0, 4), BUILT)?;
+    check_library(&rt, rt.alloc(), WHOLE, 't', (5, 7), (0, 4), BUILT)?;
     check_library(&rt, rt.alloc(), WHOLE, 'o', (0, 1), (3, 4), "")?;
     Ok(())
 }

@@ -137,7 +137,8 @@ fn make_parts(alloc: Global, plan: &Plan) -> Mem<(Core, AnswerTable, Vec<bool>, 
     ensures small { IfOk result (λ r. (plan.now.events < 2 ^ 62)
         × (length plan.now.modules < 2 ^ 32)) }
 {
-    if plan.events >= 1 << 62 || plan.modules.len() >= 1 << 32 {
+    let most = 1 << 32;
+    if plan.events >= 1 << 62 || plan.modules.len() >= most || plan.names.len() >= most {
         return Err(OutOfMemory);
     }
     let answers = AnswerTable::new(alloc, plan)?;

@@ -43,6 +43,9 @@ impl<'a, S: Shelf + Drop> Site<'a, S> {
         requires present { IfSome (S.told shelf) (λ told. IsPresent plan.now (files_now told)) }
     {
         runs_fit_in();
+        if plan.modules.len() >= 1 << 32 || plan.names.len() >= 1 << 32 {
+            return Err(OutOfMemory);
+        }
         let core = Core::new(alloc, plan)?;
         match Board::new(alloc, plan, shelf) {
             Ok(board) => Ok(Site { board, core }),

@@ -7,6 +7,9 @@ use std::test::Fail;
 
 // Whether a plan that has room is complete before any event.
 fn is_complete(alloc: Global, plan: &Plan) -> Result<bool, Fail> {
+    if plan.modules.len() >= 1 << 32 || plan.names.len() >= 1 << 32 {
+        return Err(Fail::new("too many modules or names"));
+    }
     if !Outline::of(alloc, plan)?.has_room() {
         return Err(Fail::new("no room"));
     }

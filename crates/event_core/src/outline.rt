@@ -5,7 +5,7 @@ ghost use Rattle.std.specs.HashSet.{contains};
 ghost use Rattle.event_core.specs.Outlines.{file_of, files_of, is_listed, module_outline, once_more, outline_of};
 
 use build_core::{Entry, Origin, OwnFile, Plan, PlanModule};
-use mvn_shared::{List, Mem, OutOfMemory};
+use mvn_shared::{List, Mem};
 use std::alloc::Global;
 use std::collections::HashSet;
 
@@ -132,26 +132,25 @@ fn modules_of(alloc: Global, modules: &[PlanModule]) -> Mem<List<ModuleOutline>>
     Ok(outlines)
 }
 
-// A length as a number of 32 bits.
-fn small(length: usize) -> Mem<u32>
-    ensures { IfOk result (λ number. number ≡ length) }
+// A number of fewer than 2^32 as one of 32 bits.
+fn small(count: usize) -> u32
+    requires { count < 2 ^ 32 }
+    ensures { result ≡ count }
 {
-    match u32::try_from(length) {
-        Ok(number) => Ok(number),
-        Err(_) => Err(OutOfMemory),
-    }
+    count as u32
 }
 
 impl Outline {
-    /// What a core keeps of a plan. Costs the plan's lists. More than 2^32 modules or names are answered as want of memory.
+    /// What a core keeps of a plan of fewer than 2^32 modules and names. Costs the plan's lists. Project rule.
     pub fn of(alloc: Global, plan: &Plan) -> Mem<Outline>
+        requires few { length plan.now.modules < 2 ^ 32 }
+        requires names { length plan.now.names < 2 ^ 32 }
         ensures outline { IfOk result (λ outline. outline ≡ outline_of plan.now) }
         ensures few { IfOk result (λ outline. length outline.modules < 2 ^ 32) }
     {
         let modules = modules_of(alloc, plan.modules.as_slice())?;
-        let _count = small(modules.len())?;
         let present = plan.present.clone()?;
-        let names = small(plan.names.len())?;
+        let names = small(plan.names.len());
         Ok(Outline {
             modules,
             names,

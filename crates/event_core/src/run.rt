@@ -49,10 +49,12 @@ impl Model for Core {
 }
 
 impl Core {
-    /// No event of the plan has come. Reserves for the plan's greatest number of events; costs the plan's lists, and its names times
-    /// its workers.
+    /// No event of a plan that has room, and fewer than 2^32 modules and names, has come. Reserves for the plan's greatest number of
+    /// events; costs the plan's lists, and its names times its workers. Project rule.
     pub fn new(alloc: Global, plan: &Plan) -> Mem<Core>
-        requires { most_events (outline_of plan.now) ≤ plan.now.events }
+        requires room { most_events (outline_of plan.now) ≤ plan.now.events }
+        requires few { length plan.now.modules < 2 ^ 32 }
+        requires names { length plan.now.names < 2 ^ 32 }
         ensures { IfOk result (λ core. core ≡ (outline_of plan.now, [])) }
     {
         Core::over(alloc, Outline::of(alloc, plan)?)

@@ -7,6 +7,7 @@ mod character;
 mod cuts;
 mod declaration;
 mod decoded;
+mod document;
 mod encoding;
 mod fault;
 mod front;

@@ -8,6 +8,7 @@ ghost use Rattle.pom_text.specs.Spells.{is_done, is_doctype};
 ghost use Rattle.pom_text.specs.Tree.{nothing_yet};
 
 use crate::cuts::{after, is_over, run_of, skip_space};
+use crate::document::Document;
 use crate::node::Node;
 use crate::part::Part;
 use crate::piece::piece_of;
@@ -71,16 +72,19 @@ fn is_deep(tree: &Tree, part: &Part) -> bool
     tree.path.len() == DEPTH && part.begins_element()
 }
 
-/// Reads a text in which each character may stand; `whole` says that nothing follows it. Costs one pass.
+/// Reads a text in which each character may stand; `whole` says that nothing follows it. Costs one pass, and one copy of the text, which
+/// the elements' texts share, if an element has a text.
 pub(crate) fn read_pieces(alloc: Global, text: &str, whole: bool) -> Mem<Reading<'_>>
     requires { length (chars text.now) < 4294967295 }
     ensures { IfOk result (λ reading. outcome_of reading ≡ run whole nothing_yet (chars text.now)) }
 {
     let mut tree = Tree::new(alloc);
+    let mut document = Document::new(text);
     let mut rest = text;
     'pieces: loop {
         let (run, marked) = run_of(rest);
-        if !tree.take_run(run)? {
+        let end = text.len().wrapping_sub(marked.len());
+        if !tree.take_run(alloc, run, &mut document, end)? {
             return Ok(Reading::Halted(Rule::NotPomText, skip_space(rest)));
         }
         let Some((part, behind)) = piece_of(marked) else {

@@ -8,6 +8,7 @@ ghost use Rattle.pom_text.specs.Tree.{add_child, add_text, closes, ended, innerm
 
 use crate::attribute::names_in;
 use crate::cuts::{is_over, skip_space};
+use crate::document::Document;
 use crate::names::{SLOTS, key_of, new_name, slot_of};
 use crate::node::Node;
 use crate::part::{Part, Tag};
@@ -33,6 +34,23 @@ fn push_section(node: &mut Node, more: &str) -> Mem<()>
     ensures { OnOk result (node.new ≡ add_text (line_bytes more.now) node.old) }
 {
     push_lines(&mut node.text, more)
+}
+
+// A run more in an element's text, which ends at a byte of a document. The first of an element is a part of the document.
+fn push_run(
+    alloc: Global,
+    node: &mut Node,
+    run: &str,
+    document: &mut Document<'_>,
+    end: usize,
+) -> Mem<()>
+    ensures { OnOk result (node.new ≡ add_text run.now node.old) }
+{
+    if node.text.is_empty() {
+        node.text = document.part(alloc, end, run)?;
+        return Ok(());
+    }
+    node.text.push_str(run)
 }
 
 // Shares an element's text with the copies that are made of it, unless others stand in it.
@@ -97,6 +115,24 @@ impl Tree {
         Ok(())
     }
 
+    // An element's text grows by a run that ends at a byte of a document.
+    fn add_run(
+        &mut self,
+        alloc: Global,
+        at: u32,
+        run: &str,
+        document: &mut Document<'_>,
+        end: usize,
+    ) -> Mem<()>
+        ensures nodes { HasChanged result (add_text run.now) at self.old self.new }
+        ensures path { self.new.path.items ≡ self.old.path.items }
+    {
+        if (at as usize) < self.nodes.len() {
+            push_run(alloc, &mut self.nodes[at as usize], run, document, end)?;
+        }
+        Ok(())
+    }
+
     // An element's text grows by lines.
     fn add_lines(&mut self, at: u32, more: &str) -> Mem<()>
         ensures nodes { HasChanged result (add_text (line_bytes more.now)) at self.old self.new }
@@ -126,8 +162,15 @@ impl Tree {
         self.returned = false;
     }
 
-    /// Characters that stand for themselves, none of which is a carriage return: whether they may stand. Costs one copy.
-    pub(crate) fn take_run(&mut self, run: &str) -> Mem<bool>
+    /// Characters that stand for themselves, none of which is a carriage return, and which end at a byte of a document: whether they may
+    /// stand. The first of an element are a part of the document, and more are copied.
+    pub(crate) fn take_run(
+        &mut self,
+        alloc: Global,
+        run: &str,
+        document: &mut Document<'_>,
+        end: usize,
+    ) -> Mem<bool>
         requires { list_all is_run (chars run.now) ≡ true }
         ensures { TakesRun result self.old self.new run.now }
     {
@@ -138,7 +181,8 @@ impl Tree {
             self.returned = false;
             return Ok(is_over(skip_space(run)));
         };
-        self.add_text(at, behind_feed(self.returned, run))?;
+        let fed = behind_feed(self.returned, run);
+        self.add_run(alloc, at, fed, document, end)?;
         self.returned = false;
         Ok(true)
     }

@@ -15,9 +15,9 @@ returns-in_default c =
 
 pub returns : goal.returns
 returns c =
-    let feed = c.behind_feed.result.now in
-    let fed = whole_again feed c.behind_feed.utf8 ∙ ap encode_utf8_all c.behind_feed.ensures in
-    sym (grown_inside (standing_of c.args.self.now) c.in-Some.at (chars c.args.run.now) c.add_text.new.self.nodes.items c.add_text.new.self.path.items (sym c.innermost.ensures ∙ c.in-Some.is) c.requires
+    let feed = c.behind_feed-fed.result.now in
+    let fed = whole_again feed c.behind_feed-fed.utf8 ∙ ap encode_utf8_all c.behind_feed-fed.ensures in
+    sym (grown_inside (standing_of c.args.self.now) c.in-Some.at (chars c.args.run.now) c.add_run.new.self.nodes.items c.add_run.new.self.path.items (sym c.innermost.ensures ∙ c.in-Some.is) c.requires
     (some_run (chars c.args.run.now) (sym c.is_over.ensures ∙ c.if-is_over.false))
-    (c.in_ok-add_text.ensures.nodes ∙ ap (λ l. changed (add_text l) c.in-Some.at c.args.self.now.nodes.items) fed)
-    c.add_text.ensures.path)
+    (c.in_ok-add_run.ensures.nodes ∙ ap (λ l. changed (add_text l) c.in-Some.at c.args.self.now.nodes.items) fed)
+    c.add_run.ensures.path)

@@ -5,8 +5,10 @@ use Rattle.std.proofs.lemmas.Bool.Decides.{nat_tests}
 use Rattle.std.specs.List.{list_all, prefix_len}
 use Rattle.std.specs.Str.{encode_utf8_all}
 use Rattle.pom_text.specs.Characters.{is_space, is_name_start, is_name_char}
+use Rattle.pom_text.specs.Encodings.{begins_space}
 use Rattle.pom_text.specs.Grammar.{Attribute, is_attribute, is_filled, is_name, is_quote, written}
 use Rattle.pom_text.specs.Reads.{after, attribute_of, attributes_of, attributes_within, begins, gathered, is_value, name_of, quoted, names_of, skip_space, with_equals, with_name, with_value}
+use Rattle.pom_text.proofs.Firsts.{no_space}
 use Rattle.pom_text.proofs.Fronts.{after_reads, after_splits, and_first, and_second, both, name_reads, name_splits, none_some, quoted_reads, quoted_splits, run_len, same_some, space_all, space_of, space_reads, space_splits, unbound}
 
 -- the text of an attribute, with its parts to the right
@@ -198,6 +200,17 @@ pub attributes_end : (text : List ℕ) → attribute_of text ≡ None → attrib
 unfolding attributes_of
 attributes_end [] none = refl
 attributes_end (c ∷ text) none = ap (gathered (attributes_within (length text)) (c ∷ text)) none
+
+-- no attribute stands where no white space does
+none_left : (text : List ℕ) → begins_space text ≡ false → attribute_of text ≡ None
+unfolding attribute_of
+none_left text none = ap (λ b. if b then None else option_and_then with_name (name_of (skip_space text))) (no_space text none)
+
+pub all_left : (text : List ℕ) → begins_space text ≡ false → text ≡ (attributes_of text).1
+all_left text none = ap (λ r. r.1) (sym (attributes_end text (none_left text none)))
+
+pub no_names : (text : List ℕ) → begins_space text ≡ false → [] ≡ names_of (attributes_of text).0
+no_names text none = ap (λ r. names_of r.0) (sym (attributes_end text (none_left text none)))
 
 -- the names and values of attributes
 unfoldable pub pairs : List Attribute → List (List ℕ × List ℕ)

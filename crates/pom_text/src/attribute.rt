@@ -34,7 +34,8 @@ pub(crate) fn attribute_of(text: &str) -> Option<((&str, &str), &str)>
     named_value(text)
 }
 
-// What follows all attributes that stand next.
+// What follows all attributes that stand next. A call of its own, since most tags have no attribute.
+#[inline(never)]
 pub(crate) fn skip_attributes(text: &str) -> &str
     ensures { chars result.now ≡ (attributes_of (chars text.now)).1 }
 {
@@ -43,6 +44,17 @@ pub(crate) fn skip_attributes(text: &str) -> &str
         rest = behind;
     }
     rest
+}
+
+// So of a tag, where mostly none stands.
+#[tactic(auto, using(crate::proofs::Attributes::all_left))]
+pub(crate) fn behind_attributes(text: &str) -> &str
+    ensures { chars result.now ≡ (attributes_of (chars text.now)).1 }
+{
+    if begins_space(text) {
+        return skip_attributes(text);
+    }
+    text
 }
 
 // The name of an element's attribute, by its place.
@@ -63,8 +75,10 @@ fn room_like(alloc: Global, like: Option<&Node>) -> Mem<List<Text>>
     }
 }
 
-// The names of all attributes that stand next. Those that an element has at the same places are shared with it.
-pub(crate) fn names_in(alloc: Global, like: Option<&Node>, text: &str) -> Mem<List<Text>>
+// The names of all attributes that stand next. Those that an element has at the same places are shared with it. A call of its own
+// as well.
+#[inline(never)]
+fn names_in(alloc: Global, like: Option<&Node>, text: &str) -> Mem<List<Text>>
     ensures { IfOk result (λ names. names ≡ names_of (attributes_of (chars text.now)).0) }
 {
     let mut names = room_like(alloc, like)?;
@@ -75,4 +89,15 @@ pub(crate) fn names_in(alloc: Global, like: Option<&Node>, text: &str) -> Mem<Li
         rest = behind;
     }
     Ok(names)
+}
+
+// So of a tag, where mostly none stands.
+#[tactic(auto, using(crate::proofs::Attributes::no_names))]
+pub(crate) fn tag_names(alloc: Global, like: Option<&Node>, text: &str) -> Mem<List<Text>>
+    ensures { IfOk result (λ names. names ≡ names_of (attributes_of (chars text.now)).0) }
+{
+    if begins_space(text) {
+        return names_in(alloc, like, text);
+    }
+    Ok(List::new(alloc))
 }

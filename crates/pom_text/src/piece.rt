@@ -3,7 +3,7 @@ ghost use Rattle.std.specs.Str.{chars};
 ghost use Rattle.pom_text.specs.Reads.{begins, end_of, marked_of, passed_of, piece_of, section_of, tag_end, tag_of};
 ghost use Rattle.pom_text.specs.Runs.{is_run, said_next, said_tag};
 
-use crate::attribute::skip_attributes;
+use crate::attribute::behind_attributes;
 use crate::cuts::{after, begins_name, name_of, skip_space, up_to};
 use crate::part::{Part, Tag};
 use crate::reference::reference_of;
@@ -20,7 +20,8 @@ fn tag_end<'a>(tag: Tag<'a>, text: &'a str) -> Option<(Part<'a>, &'a str)>
     Some((Part::Empty(tag), rest))
 }
 
-// A start tag or an empty tag behind its `<`.
+// A start tag or an empty tag behind its `<`. It stands in its caller, since what it answers is large.
+#[inline(always)]
 #[tactic(auto, unfolding(crate::specs::Reads::tag_of))]
 fn tag_of(text: &str) -> Option<(Part<'_>, &str)>
     ensures { option_map said_next result ≡ tag_of (chars text.now) }
@@ -28,7 +29,7 @@ fn tag_of(text: &str) -> Option<(Part<'_>, &str)>
     let (name, attributes) = name_of(text)?;
     tag_end(
         Tag { name, attributes },
-        skip_space(skip_attributes(attributes)),
+        skip_space(behind_attributes(attributes)),
     )
 }
 

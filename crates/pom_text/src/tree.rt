@@ -6,7 +6,7 @@ ghost use Rattle.pom_text.specs.Parts.{Character, Section, Reference};
 ghost use Rattle.pom_text.specs.Runs.{TakesRun, begun_by, is_run, line_bytes, said};
 ghost use Rattle.pom_text.specs.Tree.{add_child, add_text, closes, ended, innermost, may_begin, nothing_yet, passed};
 
-use crate::attribute::names_in;
+use crate::attribute::tag_names;
 use crate::cuts::{is_over, skip_space};
 use crate::document::Document;
 use crate::names::{SLOTS, key_of, new_name, slot_of};
@@ -262,7 +262,8 @@ impl Tree {
         Some(node)
     }
 
-    // An element begins, by its name and a text that begins with its attributes.
+    // An element begins, by its name and a text that begins with its attributes. It stands in its caller, which has them at hand.
+    #[inline(always)]
     #[tactic(auto, unfolding(crate::specs::Tree::begun))]
     fn begin(&mut self, alloc: Global, tag: Tag<'_>) -> Mem<()>
         requires { length self.old.nodes.items < 4294967295 }
@@ -273,7 +274,7 @@ impl Tree {
         let slot = slot_of(key);
         let like = self.remembered(slot, key, tag.name);
         let name = name_like(alloc, like, tag.name)?;
-        let attributes = names_in(alloc, like, tag.attributes)?;
+        let attributes = tag_names(alloc, like, tag.attributes)?;
         self.add_to_innermost(number)?;
         self.nodes.push(Node {
             name,

@@ -2,9 +2,10 @@
 # How fast texts are read, in MB/s of the built program `bench_elements`, each of 1 MiB or just below: a POM like those that
 # people write, elements in 63 others, one long text, white space, references alone, empty elements of three attributes,
 # properties that each have a name of their own, and one comment that doesn't end. A tenth of each is measured beside it: ten times its time is what linear costs. Where xmllint
-# is installed, its SAX reader runs beside it on the same bytes, and the ratio is told, in which 0.5 is half of its speed; and
-# where GNU time is, the most memory that was resident. The last lines tell what the model of a POM costs beside its text: the same
-# program reads both of a POM of dependencies, and the time of the text alone is taken off.
+# is installed, its SAX reader runs beside it on the same bytes, and the ratio is told, in which 0.5 is half of its speed. On Linux the
+# memory of a run is told, above that of the start and the text itself: the most that was resident, what still is when the program
+# tells its answer and has freed no element yet, and how many times that the most is. The last lines tell what the model of a POM costs
+# beside its text: the same program reads both of a POM of dependencies, and the time of the text alone is taken off.
 . "$(dirname "$0")/common.sh"
 want crates/bench_elements/out/bench_elements '(cd crates/bench_elements && rt run)'
 once() {
@@ -51,12 +52,43 @@ modelled() {
     print "    </dependencies>\n    </profile>\n  </profiles>\n</project>" }'
 }
 
-# The kilobytes that were resident at most, or nothing where it can't be told
-resident() { [ -x /usr/bin/time ] || return 0; /usr/bin/time -f '%M KiB' "$program" < in 2>&1 > out | tail -n 1; }
+# The kilobytes that were resident at most, and those that are when the program tells its answer, at which it waits since the pipe is full;
+# nothing where the system doesn't tell them
+memory() {
+  local pid
+  [ -r /proc/self/smaps_rollup ] || return 0
+  rm -f full
+  mkfifo full
+  exec 3<> full
+  dd if=/dev/zero of=full bs=4096 count=4096 oflag=nonblock 2> /dev/null || true
+  "$program" < in >&3 &
+  pid=$!
+  for _ in $(seq 1000); do
+    if [ "/proc/$pid/exe" -ef "$program" ] && grep -q '^State:[[:space:]]*S' "/proc/$pid/status"; then
+      awk '/^VmHWM:|^Rss:/ { print $2 }' "/proc/$pid/status" "/proc/$pid/smaps_rollup" | tr '\n' ' '
+      break
+    fi
+    sleep 0.01
+  done
+  kill "$pid" 2> /dev/null || true
+  wait "$pid" 2> /dev/null || true
+  exec 3>&-
+}
+
+# ALL, START: the same above the start and the text
+above_start() {
+  [ -n "$1" ] || return 0
+  echo "$1 $2 $(wc -c < in)" | awk '{
+    most = $1 - $3 - $5 / 1024; kept = $2 - $4 - $5 / 1024
+    printf "%d KiB at most, %d kept", most, kept
+    if (kept > 0) printf ", %.2f times", most / kept
+  }'
+}
 
 printf '<r/>' > in
 reader=own
 base=$(least 15)
+memory_base=$(memory)
 reader=sax
 if command -v xmllint > xmllint.path; then sax_base=$(least 15); else sax_base=; fi
 for kind in dependencies nested long white references attributes properties unfinished; do
@@ -70,7 +102,7 @@ for kind in dependencies nested long white references attributes properties unfi
       sax=$(($(least 15) - sax_base))
       ratio=$(awk -v own="$spent" -v sax="$sax" 'BEGIN { printf "%5.2f of SAX", sax / own }')
     fi
-    awk -v kind="$kind" -v bytes="$(wc -c < in)" -v spent="$spent" -v ratio="$ratio" -v most="$(resident)" -v told="$(cat out)" \
+    awk -v kind="$kind" -v bytes="$(wc -c < in)" -v spent="$spent" -v ratio="$ratio" -v most="$(above_start "$(memory)" "$memory_base")" -v told="$(cat out)" \
       'BEGIN { printf "%-12s %7d bytes  %8.2f ms  %7.1f MB/s  %s  %s  %s\n", kind, bytes, spent / 1e6, bytes * 1e3 / spent, ratio, most, told }'
   done
 done

@@ -17,6 +17,9 @@ use mvn_shared::{List, Mem, Shared, Text};
 use std::alloc::Global;
 use std::mem::replace;
 
+// How many children there is room for at first: the memory for fewer would not be less.
+const CHILDREN: usize = 6;
+
 /// The elements that have begun, the numbers of those that have not ended, outermost first, and whether a carriage return in
 /// text stands directly before. Of the elements whose names have one slot it remembers the last, by the key of its name and its
 /// number, so that the next of that name shares it, and the names of its attributes.
@@ -51,6 +54,19 @@ fn push_run(
         return Ok(());
     }
     node.text.push_str(run)
+}
+
+// A child more of an element, whose first one makes room for the next.
+fn push_child(alloc: Global, node: &mut Node, child: u32) -> Mem<()>
+    ensures { OnOk result (node.new ≡ add_child child node.old) }
+{
+    if node.children.is_empty() {
+        let mut children = List::with_capacity(alloc, CHILDREN)?;
+        children.push(child)?;
+        node.children = children;
+        return Ok(());
+    }
+    node.children.push(child)
 }
 
 // Shares an element's text with the copies that are made of it, unless others stand in it.
@@ -145,12 +161,12 @@ impl Tree {
     }
 
     // An element gets a child.
-    fn add_child(&mut self, at: u32, child: u32) -> Mem<()>
+    fn add_child(&mut self, alloc: Global, at: u32, child: u32) -> Mem<()>
         ensures nodes { HasChanged result (add_child child) at self.old self.new }
         ensures path { self.new.path.items ≡ self.old.path.items }
     {
         if (at as usize) < self.nodes.len() {
-            self.nodes[at as usize].children.push(child)?;
+            push_child(alloc, &mut self.nodes[at as usize], child)?;
         }
         Ok(())
     }
@@ -236,12 +252,12 @@ impl Tree {
     }
 
     // The innermost open element, if there is one, gets a child.
-    fn add_to_innermost(&mut self, child: u32) -> Mem<()>
+    fn add_to_innermost(&mut self, alloc: Global, child: u32) -> Mem<()>
         ensures nodes { HasGotChild result child self.old self.new }
         ensures path { self.new.path.items ≡ self.old.path.items }
     {
         match self.innermost() {
-            Some(at) => self.add_child(at, child),
+            Some(at) => self.add_child(alloc, at, child),
             None => Ok(()),
         }
     }
@@ -275,7 +291,7 @@ impl Tree {
         let like = self.remembered(slot, key, tag.name);
         let name = name_like(alloc, like, tag.name)?;
         let attributes = tag_names(alloc, like, tag.attributes)?;
-        self.add_to_innermost(number)?;
+        self.add_to_innermost(alloc, number)?;
         self.nodes.push(Node {
             name,
             attributes,

@@ -1,5 +1,5 @@
 // Builds of a plan, each over an empty repository.
-ghost use Rattle.std.specs.Prelude.{[]};
+ghost use Rattle.std.specs.Prelude.{◌<◌, ◌^◌, [], length};
 ghost use Rattle.event_core.specs.SoundPlans.{IsSoundPlan};
 ghost use Rattle.run_law.specs.Given.{IsPresent};
 ghost use Rattle.outside_mem.specs.FilesNamed.{files_named};
@@ -35,6 +35,8 @@ fn workers(alloc: Global, count: u32) -> Mem<Vec<Worker>> {
 #[tactic(auto, using(mem_plans::proofs::Planned::starts))]
 fn build<W: Threads + Wait + Sync>(rt: &W, alloc: Global, plan: &Plan) -> Mem<u64>
     requires sound { IsSoundPlan plan.now }
+    requires few { plan.now.events < 2 ^ 32 }
+    requires names { length plan.now.names < 2 ^ 32 }
     requires present { IsPresent plan.now (files_named []) }
 {
     let shelf = MemShelf::<NoFailures>::without_failures(alloc, List::new(alloc))?;
@@ -56,6 +58,8 @@ pub(crate) fn events<W: Threads + Wait + Sync>(
     times: u32,
 ) -> Mem<u64>
     requires sound { IsSoundPlan plan.now }
+    requires few { plan.now.events < 2 ^ 32 }
+    requires names { length plan.now.names < 2 ^ 32 }
     requires present { IsPresent plan.now (files_named []) }
 {
     let mut count = 0u64;

@@ -3,6 +3,7 @@ mod Boards
 mod Busy
 mod Carries
 mod DueReads
+pub mod Few
 mod Logs
 mod Shelves
 mod StateLists

@@ -27,7 +27,7 @@ use build_core::{Answered, Ending, Event, Plan, State};
 use event_core::{Core, NotEnabled};
 use goal_answers::AnswerTable;
 use mvn_outside::Shelf;
-use mvn_shared::{List, Mem, OutOfMemory};
+use mvn_shared::{List, Mem};
 use name_locks::{Mode, Tried};
 use run_law::bound::runs_fit_in;
 use std::alloc::Global;
@@ -127,20 +127,17 @@ pub(crate) fn set_mark(marks: &mut Vec<bool>, worker: u32, mark: bool)
 
 // What a board is made of: a core without events, and room for answers, marks and states.
 fn make_parts(alloc: Global, plan: &Plan) -> Mem<(Core, AnswerTable, Vec<bool>, StateRoom)>
-    requires { most_events (outline_of plan.now) ≤ plan.now.events }
+    requires room { most_events (outline_of plan.now) ≤ plan.now.events }
+    requires short { plan.now.events < 2 ^ 32 }
+    requires few { length plan.now.modules < 2 ^ 32 }
+    requires names { length plan.now.names < 2 ^ 32 }
     ensures core { IfOk result (λ r. r.0 ≡ (outline_of plan.now, [])) }
     ensures answers { IfOk result (λ r. (r.1.kept ≡ [])
         × (r.1.goals ≡ goal_counts plan.now.modules)
         × (plan.now.events ≤ r.1.room)) }
     ensures marks { IfOk result (λ r. r.2.items ≡ replicate plan.now.workers false) }
     ensures states { IfOk result (λ r. length plan.now.modules ≤ r.3) }
-    ensures small { IfOk result (λ r. (plan.now.events < 2 ^ 62)
-        × (length plan.now.modules < 2 ^ 32)) }
 {
-    let most = 1 << 32;
-    if plan.events >= 1 << 62 || plan.modules.len() >= most || plan.names.len() >= most {
-        return Err(OutOfMemory);
-    }
     let answers = AnswerTable::new(alloc, plan)?;
     let marks = vec![in alloc; false; plan.workers as usize]?;
     let states = StateRoom::new(alloc, plan.modules.len())?;
@@ -149,10 +146,12 @@ fn make_parts(alloc: Global, plan: &Plan) -> Mem<(Core, AnswerTable, Vec<bool>, 
 }
 
 impl<'a, S: Shelf> Board<'a, S> {
-    /// The board of a build that hasn't begun, over a repository. Reserves for the plan's events first; costs the plan's lists. Where
-    /// memory is missing the repository comes back. Project rule.
+    /// The board of a build that hasn't begun, over a repository, for a plan of fewer than 2^32 events and names. Reserves for the plan's
+    /// events first; costs the plan's lists. Where memory is missing the repository comes back. Project rule.
     pub fn new(alloc: Global, plan: &'a Plan, shelf: S) -> Result<Board<'a, S>, BoardError<S>>
         requires sound { IsSoundPlan plan.now }
+        requires few { plan.now.events < 2 ^ 32 }
+        requires names { length plan.now.names < 2 ^ 32 }
         requires present { IfSome (S.told shelf) (λ told. IsPresent plan.now (files_now told)) }
         ensures ok { IfOk result (λ board. board ≡ opened plan.now shelf) }
         ensures err { IfErr result (λ error. error ≡ Memory shelf) }

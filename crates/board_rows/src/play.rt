@@ -1,4 +1,5 @@
 // A whole build by one thread that plays all workers, in an order that is drawn.
+ghost use Rattle.std.specs.Prelude.{◌<◌, ◌^◌, length};
 ghost use Rattle.event_core.specs.SoundPlans.{IsSoundPlan};
 ghost use Rattle.outside_mem.specs.FilesNamed.{files_named};
 ghost use Rattle.run_law.specs.Given.{IsPresent};
@@ -117,6 +118,8 @@ fn drawn(draws: &mut Draws, count: u32) -> u32 {
 /// The build of a plan by its workers, in turns that are drawn.
 pub(crate) fn build(alloc: Global, project: &Project, plan: &Plan, world: &World) -> Mem<Left>
     requires sound { IsSoundPlan plan.now }
+    requires few { plan.now.events < 2 ^ 32 }
+    requires names { length plan.now.names < 2 ^ 32 }
     requires present { IsPresent plan.now (files_named project.now.local) }
 {
     let mut hands = hands(alloc, project, world, plan.workers)?;
@@ -129,6 +132,8 @@ pub(crate) fn build(alloc: Global, project: &Project, plan: &Plan, world: &World
 #[tactic(auto, using(mem_plans::proofs::Planned::starts))]
 fn site<'a>(alloc: Global, project: &Project, plan: &'a Plan, world: &World) -> Mem<Table<'a>>
     requires sound { IsSoundPlan plan.now }
+    requires few { plan.now.events < 2 ^ 32 }
+    requires names { length plan.now.names < 2 ^ 32 }
     requires present { IsPresent plan.now (files_named project.now.local) }
 {
     let failing = world.failing(alloc, Device::Shelf)?;

@@ -1,5 +1,5 @@
 // A board, and beside it a core with the same events, which says what may come next.
-ghost use Rattle.std.specs.Prelude.{◌≡◌, ◌∷◌, ◌++◌, [], true, IfSome};
+ghost use Rattle.std.specs.Prelude.{◌≡◌, ◌<◌, ◌^◌, ◌∷◌, ◌++◌, [], length, true, IfSome};
 ghost use Rattle.event_core.specs.Outlines.{outline_of};
 ghost use Rattle.event_core.specs.Runs.{events_of};
 ghost use Rattle.event_core.specs.SoundPlans.{IsSoundPlan};
@@ -38,14 +38,14 @@ pub(crate) fn follow<S: Shelf>(board: &Board<S>, core: &mut Core, event: Event)
 
 impl<'a, S: Shelf + Drop> Site<'a, S> {
     /// The site of a build that hasn't begun.
+    #[tactic(auto, using(board::proofs::Few::few_modules))]
     pub(crate) fn new(alloc: Global, plan: &'a Plan, shelf: S) -> Mem<Site<'a, S>>
         requires sound { IsSoundPlan plan.now }
+        requires few { plan.now.events < 2 ^ 32 }
+        requires names { length plan.now.names < 2 ^ 32 }
         requires present { IfSome (S.told shelf) (λ told. IsPresent plan.now (files_now told)) }
     {
         runs_fit_in();
-        if plan.modules.len() >= 1 << 32 || plan.names.len() >= 1 << 32 {
-            return Err(OutOfMemory);
-        }
         let core = Core::new(alloc, plan)?;
         match Board::new(alloc, plan, shelf) {
             Ok(board) => Ok(Site { board, core }),

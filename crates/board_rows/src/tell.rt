@@ -1,5 +1,5 @@
 // What is told of the build of a number.
-ghost use Rattle.std.specs.Prelude.{IfOk};
+ghost use Rattle.std.specs.Prelude.{◌<◌, ◌^◌, length, IfOk};
 ghost use Rattle.event_core.specs.SoundPlans.{IsSoundPlan};
 ghost use Rattle.outside_mem.specs.FilesNamed.{files_named};
 ghost use Rattle.run_law.specs.Given.{IsPresent};
@@ -57,6 +57,8 @@ impl Counts {
 // The plan of a project by 1 to 4 workers.
 fn planned(alloc: Global, project: &Project, seed: u32) -> Mem<Plan>
     ensures sound { IfOk result IsSoundPlan }
+    ensures few { IfOk result (λ plan. plan.events < 2 ^ 32) }
+    ensures names { IfOk result (λ plan. length plan.names < 2 ^ 32) }
     ensures present { IfOk result (λ plan. IsPresent plan (files_named project.now.local)) }
 {
     let workers = 1 + seed % 4;

@@ -1,4 +1,5 @@
 pub mod Failing
+pub mod Few
 pub mod Known
 pub mod Lists
 pub mod Made

@@ -68,7 +68,7 @@ module _ (opened : Opened) (lock : TableId) (first : ℕ) (pass : Told) (is : Is
         heavy = follows.weight ∙ is.rest.heavy;
         among = again.among;
       };
-      over = record { fixed = follows.fixed ∙ is.over.fixed; sound = is.over.sound; run = again.run };
+      over = record { fixed = follows.fixed ∙ is.over.fixed; sound = is.over.sound; few = is.over.few; run = again.run };
       complete = complete;
     }
 
@@ -109,7 +109,7 @@ module _ (opened : Opened) (lock : TableId) (first left right : ℕ) (pass : Tol
           heavy = let h = half_is in let weight = is.rest.heavy in omega (arith, h, weight);
           among = is.rest.among;
         };
-        over = record { fixed = is.over.fixed; sound = is.over.sound; run = is.over.run };
+        over = record { fixed = is.over.fixed; sound = is.over.sound; few = is.over.few; run = is.over.run };
         fresh = λ k from to. is.fresh k from (omega (arith, to));
       }
       )
@@ -132,6 +132,7 @@ module _ (opened : Opened) (lock : TableId) (first left right : ℕ) (pass : Tol
         over = record {
           fixed = ap (λ v. v.fixed) cut ∙ is.over.fixed;
           sound = is.over.sound;
+          few = is.over.few;
           run = subst (IsRunOf opened.plan) (sym seen) is.over.run;
         };
         fresh = λ k from to. ap (entries_of role k) seen ∙ is.fresh k (omega (arith, from)) (omega (arith, to));
@@ -159,7 +160,7 @@ made_one opened lock first left right pass other new one two is = subst (IsDone 
         heavy = let a = one.rest.heavy in let b = two.rest.heavy in omega (arith, a, b);
         among = one.rest.among;
       };
-      over = record { fixed = one.over.fixed; sound = one.over.sound; run = of_longer (IsRunOf opened.plan) (seen_by pass) (seen_by other) one.over.run two.over.run };
+      over = record { fixed = one.over.fixed; sound = one.over.sound; few = one.over.few; run = of_longer (IsRunOf opened.plan) (seen_by pass) (seen_by other) one.over.run two.over.run };
       complete = of_longer (IsComplete opened.plan) (seen_by pass) (seen_by other) one.complete two.complete;
     }
     )
@@ -167,8 +168,8 @@ made_one opened lock first left right pass other new one two is = subst (IsDone 
 -- ---- the first pass
 
 -- over a board on which nothing has happened
-pub ready_first : (opened : Opened) (lock : TableId) (count : ℕ) (pass : Told) → IsSoundPlan opened.plan → lock_of pass ≡ lock → view pass ≡ first_view [] opened opened.plan.workers → count ≡ opened.plan.workers → IsReady opened lock 0 count pass
-ready_first opened lock count pass sound own is all =
+pub ready_first : (opened : Opened) (lock : TableId) (count : ℕ) (pass : Told) → IsSoundPlan opened.plan → opened.plan.events < 4294967296 → lock_of pass ≡ lock → view pass ≡ first_view [] opened opened.plan.workers → count ≡ opened.plan.workers → IsReady opened lock 0 count pass
+ready_first opened lock count pass sound few own is all =
     let seen = ap (λ v. v.seen) is in
     let reach = ap (λ v. v.reach) is in
     let weight = ap (λ v. v.weight) is in
@@ -182,7 +183,7 @@ ready_first opened lock count pass sound own is all =
         heavy = weight ∙ sym all;
         among = ap (λ v. v.workers) is;
       };
-      over = record { fixed = ap (λ v. v.fixed) is; sound = sound; run = subst (IsRunOf opened.plan) (sym seen) tt };
+      over = record { fixed = ap (λ v. v.fixed) is; sound = sound; few = few; run = subst (IsRunOf opened.plan) (sym seen) tt };
       fresh = λ k from to. ap (entries_of role k) seen;
     }
 

@@ -1,5 +1,5 @@
 -- What holds of the passes of a crew before and after the work. Project rule.
-use Rattle.std.specs.Prelude.{◌≡◌, ℕ, ◌+◌, ◌<◌, ◌≤◌, List, [], Option, Some, option_map}
+use Rattle.std.specs.Prelude.{◌≡◌, ℕ, ◌+◌, ◌<◌, ◌≤◌, ◌^◌, List, [], Option, Some, option_map}
 use Rattle.mvn_shared.specs.Files.{Files}
 use Rattle.mvn_outside.specs.Shelf.{files_now}
 use Rattle.mvn_outside.specs.declared.shelf.ShelfTold.{ShelfTold}
@@ -24,10 +24,11 @@ start_of opened = option_map files_now opened.told
 abbrev pub opened_by : {S : Type 0} → (S → Option ShelfTold) → (S → ℕ) → Plan → S → Opened
 opened_by told faults plan shelf = record { plan = plan; told = told shelf; faults = faults shelf }
 
--- a pass is of a board that was opened so, over a sound plan, and what it has seen is a run
+-- a pass is of a board that was opened so, over a sound plan of fewer than 2^32 events, and what it has seen is a run
 pub record IsOver (opened : Opened) (pass : Told) : Type 0 where
   pub fixed : (view pass).fixed ≡ Some opened
   pub sound : IsSoundPlan opened.plan
+  pub few : opened.plan.events < 2 ^ 32
   pub run : IsRunOf opened.plan (seen_by pass)
 
 -- before the work: the pass is at rest and acts for so many workers from a first one on, of which none has an entry yet

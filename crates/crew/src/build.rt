@@ -1,5 +1,5 @@
 // A whole build: a board is made, the crew works, and the board is finished.
-ghost use Rattle.std.specs.Prelude.{◌≡◌, ◌<◌, ℕ, [], length, slice_index_or, IfErr, IfOk, IfSome, List, OnErr};
+ghost use Rattle.std.specs.Prelude.{◌≡◌, ◌<◌, ◌^◌, ℕ, [], length, slice_index_or, IfErr, IfOk, IfSome, List, OnErr};
 ghost use Rattle.mvn_outside.specs.Shelf.{files_now};
 ghost use Rattle.mvn_outside.specs.declared.hand.Hand.{Hand};
 ghost use Rattle.event_core.specs.Runs.{IsRunOf};
@@ -37,6 +37,8 @@ fn lock_board<'a, S: Shelf>(
     shelf: S,
 ) -> Result<(TurnLock<Board<'a, S>>, Pass<Board<'a, S>>), BuildError<S>>
     requires sound { IsSoundPlan plan.now }
+    requires few { plan.now.events < 2 ^ 32 }
+    requires names { length plan.now.names < 2 ^ 32 }
     requires present { IfSome (S.told shelf) (λ told. IsPresent plan.now (files_now told)) }
     ensures own { IfOk result (λ r. lock_of r.1 ≡ r.0) }
     ensures first { IfOk result (λ r. view r.1
@@ -83,6 +85,8 @@ pub fn build_all<W: Threads + Wait + Sync, S: Shelf + Send, R: Remote + Send, G:
 where
     S::Area: Send,
     requires sound { IsSoundPlan plan.now }
+    requires few { plan.now.events < 2 ^ 32 }
+    requires names { length plan.now.names < 2 ^ 32 }
     requires hands { length hands.old ≡ plan.now.workers }
     requires present { IfSome (S.told shelf) (λ told. IsPresent plan.now (files_now told)) }
     ensures built { IfOk result (λ end. (run : List RunEntry)

@@ -1,5 +1,5 @@
 // One worker's work.
-ghost use Rattle.std.specs.Prelude.{◌≡◌, None, true};
+ghost use Rattle.std.specs.Prelude.{◌≡◌, ◌<◌, ◌^◌, None, true};
 ghost use Rattle.event_core.specs.Runs.{IsComplete, module_by};
 ghost use Rattle.crew_stages.specs.Hands.{HandState, IsWorked, state_by};
 ghost use Rattle.crew_stages.specs.Endings.{endings_since};
@@ -25,6 +25,7 @@ fn go_on<'b, W: Wait, S: Shelf, R: Remote, G: Gate>(
     worker: u32,
     pass: &mut Pass<Board<'b, S>>,
 ) -> bool
+    requires few { plan.now.events < 2 ^ 32 }
     requires of { IsOf plan.now lock.now worker pass.old }
     requires idle { module_by plan.now (seen_by pass.old) worker ≡ None }
     ensures between { (start : Told) (first : HandState)
@@ -64,6 +65,7 @@ pub fn work_on<'b, W: Wait, S: Shelf, R: Remote, G: Gate>(
     worker: u32,
     pass: &mut Pass<Board<'b, S>>,
 )
+    requires few { plan.now.events < 2 ^ 32 }
     requires of { IsOf plan.now lock.now worker pass.old }
     requires clear { (view pass.old).owed ≡ None }
     requires own { FitsHand plan.now worker

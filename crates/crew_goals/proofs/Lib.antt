@@ -1,4 +1,5 @@
 mod Answered
+mod Few
 mod Outcomes
 mod Places
 mod Rounds

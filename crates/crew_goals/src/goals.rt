@@ -1,5 +1,5 @@
 // A module's goals, asked in order outside turns; each answer is kept in a turn. Introduction to the Build Lifecycle.
-ghost use Rattle.std.specs.Prelude.{◌≡◌, ◌+◌, ◌<◌, ℕ, Bool, true, [], Option, None, length, IfErr, IfOk, IfSome, OnOk};
+ghost use Rattle.std.specs.Prelude.{◌≡◌, ◌+◌, ◌<◌, ◌^◌, ℕ, Bool, true, [], Option, None, length, IfErr, IfOk, IfSome, OnOk};
 ghost use Rattle.mvn_shared.specs.Cause.{HasCause};
 ghost use Rattle.mvn_shared.specs.Files.{Files};
 ghost use Rattle.goal_types.specs.Goals.{HasOwnSlots};
@@ -7,6 +7,7 @@ ghost use Rattle.goal_types.specs.declared.goal.GoalAnswer.TheVariants.{Produced
 ghost use Rattle.build_core.specs.Slots.{kept_of};
 ghost use Rattle.build_core.specs.declared.ending.Device.TheVariants as device;
 ghost use Rattle.build_core.specs.declared.event.Event.TheVariants as event;
+ghost use Rattle.event_core.specs.SoundPlans.{IsSoundPlan};
 ghost use Rattle.event_core.specs.Worlds.{FitsAnswer, HandTold};
 ghost use Rattle.event_core.specs.declared.entry.Carried.TheVariants as carried;
 ghost use Rattle.board.specs.Builds.{answer_kept};
@@ -212,6 +213,24 @@ fn answer_goal<'b, W: Wait, S: Shelf, G: Gate>(
     )
 }
 
+// A number of fewer than 2^32 as one of 32 bits.
+fn small(count: usize) -> u32
+    requires { count < 2 ^ 32 }
+    ensures { result ≡ count }
+{
+    count as u32
+}
+
+// How many goals the module has: no more than its plan has events.
+fn goal_count(task: &Task) -> u32
+    requires sound { IsSoundPlan task.now.plan }
+    requires few { task.now.plan.events < 2 ^ 32 }
+    ensures { result ≡ length task.now.unit.goals }
+{
+    let count = task.unit.goals.len();
+    small(count)
+}
+
 // Asks all goals in order until one stops them, from a request of the module without outputs.
 fn answer_all<'b, W: Wait, S: Shelf, G: Gate>(
     alloc: Global,
@@ -223,6 +242,7 @@ fn answer_all<'b, W: Wait, S: Shelf, G: Gate>(
     paths: &[PathEntry],
     request: GoalRequest,
 ) -> Result<List<OwnBytes>, Ending>
+    requires few { task.now.plan.events < 2 ^ 32 }
     requires beside { length paths.now ≡ length task.now.unit.entries }
     requires stands { IsAnswering task.now lock.now paths.now 0 request pass.old }
     ensures done { IsDone task.now lock.now result pass.new }
@@ -230,12 +250,9 @@ fn answer_all<'b, W: Wait, S: Shelf, G: Gate>(
     ensures same { G.answers gate.new ≡ G.answers gate.old }
     ensures cause { HasCause (G.faults gate.old) (G.faults gate.new) (fails_by device.Gate result) }
 {
-    let count = task.unit.goals.len();
-    if count >= 1 << 32 {
-        return Err(Ending::Memory);
-    }
+    let count = goal_count(task);
     let mut request = request;
-    for goal in 0..count as u32 {
+    for goal in 0..count {
         match answer_goal(alloc, rt, lock, pass, task, gate, paths, &mut request, goal) {
             None => {}
             Some(ending) => return Err(ending),
@@ -254,6 +271,7 @@ fn ask_goals<'b, W: Wait, S: Shelf, G: Gate>(
     gate: &mut G,
     paths: &[PathEntry],
 ) -> Result<List<OwnBytes>, Ending>
+    requires few { task.now.plan.events < 2 ^ 32 }
     requires of { IsOf task.now.plan lock.now task.now.worker pass.old }
     requires good { HasAnswered task.now 0 None pass.old }
     requires path { IsPath task.now paths.now pass.old }
@@ -274,10 +292,10 @@ fn ask_goals<'b, W: Wait, S: Shelf, G: Gate>(
 }
 
 /// Asks the module's goals in order until one stops them: the outputs that are kept then, or how the module ends. A goal that failed or
-/// whose output is too large stops them, and so does a gate that failed. A module of 2^32 goals or more ends for want of memory. Each
-/// goal is asked outside turns, and its answer kept in one, also where memory for the module's copy of its output is missing. May wait
-/// for the turns. Costs the sources once, and for each goal the bytes of its classpath, and once more those of an output that has a
-/// slot. Introduction to the Build Lifecycle, for the order; project rule for the rest.
+/// whose output is too large stops them, and so does a gate that failed. Each goal is asked outside turns, and its answer kept in one,
+/// also where memory for the module's copy of its output is missing. May wait for the turns. Costs the sources once, and for each goal the
+/// bytes of its classpath, and once more those of an output that has a slot. Introduction to the Build Lifecycle, for the order; project
+/// rule for the rest.
 pub fn answer_goals<'b, W: Wait, S: Shelf, G: Gate>(
     alloc: Global,
     rt: &W,
@@ -287,6 +305,7 @@ pub fn answer_goals<'b, W: Wait, S: Shelf, G: Gate>(
     gate: &mut G,
     paths: &[PathEntry],
 ) -> Result<List<OwnBytes>, Ending>
+    requires few { task.now.plan.events < 2 ^ 32 }
     requires of { IsOf task.now.plan lock.now task.now.worker pass.old }
     requires good { HasAnswered task.now 0 None pass.old }
     requires path { IsPath task.now paths.now pass.old }

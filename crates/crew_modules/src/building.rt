@@ -1,5 +1,5 @@
 // A module from its start to its end.
-ghost use Rattle.std.specs.Prelude.{◌≡◌, [], ◌∷◌, None, length};
+ghost use Rattle.std.specs.Prelude.{◌≡◌, ◌<◌, ◌^◌, [], ◌∷◌, None, length};
 ghost use Rattle.crew_stages.specs.Hands.{IsWorked, state_by};
 ghost use Rattle.crew_stages.specs.Paths.{IsPath};
 ghost use Rattle.crew_stages.specs.Stages.{HasAnswered, IsReading};
@@ -31,6 +31,7 @@ fn build_gathered<'b, W: Wait, S: Shelf, R: Remote, G: Gate>(
     hand: &mut Hand<R, S::Area, G>,
     paths: &[PathEntry],
 ) -> Ending
+    requires few { task.now.plan.events < 2 ^ 32 }
     requires of { IsOf task.now.plan lock.now task.now.worker pass.old }
     requires good { HasAnswered task.now 0 None pass.old }
     requires path { IsPath task.now paths.now pass.old }
@@ -61,6 +62,7 @@ fn build_ready<'b, W: Wait, S: Shelf, R: Remote, G: Gate>(
     task: &Task,
     hand: &mut Hand<R, S::Area, G>,
 ) -> Ending
+    requires few { task.now.plan.events < 2 ^ 32 }
     requires of { IsOf task.now.plan lock.now task.now.worker pass.old }
     requires at { IsReading task.now 0 pass.old }
     ensures ended { HasEnded task.now lock.now result pass.old pass.new }
@@ -95,6 +97,7 @@ pub fn build_module<'b, W: Wait, S: Shelf, R: Remote, G: Gate>(
     task: &Task,
     hand: &mut Hand<R, S::Area, G>,
 ) -> Ending
+    requires few { task.now.plan.events < 2 ^ 32 }
     requires of { IsOf task.now.plan lock.now task.now.worker pass.old }
     requires begun { HasBegun task.now pass.old }
     ensures ended { HasEnded task.now lock.now result pass.old pass.new }

@@ -1,5 +1,5 @@
 // From a plan to what is answered: the areas are swept, the modules are built, the repository is settled, and the report is made.
-ghost use Rattle.std.specs.Prelude.{◌≡◌, [], length, map, IfOk, IfSome, List};
+ghost use Rattle.std.specs.Prelude.{◌≡◌, ◌<◌, ◌^◌, [], length, map, IfOk, IfSome, List};
 ghost use Rattle.mvn_outside.specs.Shelf.{files_now};
 ghost use Rattle.build_report.specs.Rows.{NamesFiles};
 ghost use Rattle.event_core.specs.SoundPlans.{IsSoundPlan};
@@ -120,6 +120,8 @@ fn build_swept<W: Threads + Wait + Sync, S: Shelf + Send, R: Remote + Send, G: G
 where
     S::Area: Send,
     requires sound { IsSoundPlan plan.now }
+    requires few { plan.now.events < 2 ^ 32 }
+    requires names { length plan.now.names < 2 ^ 32 }
     requires hands { length hands.old ≡ plan.now.workers }
     requires present { IfSome (S.told shelf) (λ told. IsPresent plan.now (files_now told)) }
     ensures { (before : List HandState) → AreSwept before
@@ -152,6 +154,8 @@ pub fn run_and_report<W: Threads + Wait + Sync, S: Shelf + Send, R: Remote + Sen
 where
     S::Area: Send,
     requires sound { IsSoundPlan plan.now }
+    requires few { plan.now.events < 2 ^ 32 }
+    requires names { length plan.now.names < 2 ^ 32 }
     requires hands { length hands.old ≡ plan.now.workers }
     requires present { IfSome (S.told shelf) (λ told. IsPresent plan.now (files_now told)) }
     ensures reports { Reports plan.now details

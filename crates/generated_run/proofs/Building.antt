@@ -12,6 +12,7 @@ use Rattle.build_core.specs.OneThread.{one_thread}
 use Rattle.build_core.specs.declared.event.Answered.{Answered}
 use Rattle.build_core.specs.declared.event.Event.{Event}
 use Rattle.build_plan.specs.Planning.{IsPlan, KnowsFiles, Plans}
+use Rattle.build_plan.proofs.Few.{few_events, few_names}
 use Rattle.build_report.specs.Rows.{rows}
 use Rattle.run_report.specs.Report.{total_text}
 use Rattle.cli_words.specs.declared.command_line.CommandLine.{CommandLine}
@@ -72,6 +73,8 @@ some_told told = Some told
 -- a plan of the line that can be built over an empty repository
 pub record IsReady (line : CommandLine) (p : Planned) : Type 0 where
   pub sound : IsSoundPlan p.plan
+  pub few : p.plan.events < 4294967296
+  pub names : length p.plan.names < 4294967296
   pub workers : p.plan.workers ≡ line.workers
   pub present : IsPresent p.plan (files_now empty_shelf)
 
@@ -122,6 +125,8 @@ module _ (poms : ℕ) (line : CommandLine) (given : Given) (machine : Machine) (
       let plan : IsPlan line p = plan_found so.said p (IsPlan line) so.finds so.made in
       record {
         sound = plan.sound;
+        few = few_events line p plan;
+        names = few_names line p plan;
         workers = line_workers line p plan;
         present = is_present_told (Some empty_shelf) p (plan_found so.said p (KnowsFiles (Some empty_shelf)) so.finds so.present);
       }

@@ -1,5 +1,5 @@
 // From a line to what is answered of the generated project.
-ghost use Rattle.std.specs.Prelude.{◌≡◌, ◌≤◌, [], length, map, replicate, IfOk};
+ghost use Rattle.std.specs.Prelude.{◌≡◌, ◌<◌, ◌≤◌, ◌^◌, [], length, map, replicate, IfOk};
 ghost use Rattle.event_core.specs.SoundPlans.{IsSoundPlan};
 ghost use Rattle.mvn_outside.specs.Shelf.{files_now};
 ghost use Rattle.mvn_call.specs.Found.{given_of};
@@ -76,6 +76,8 @@ fn build_summed<W: Threads + Wait + Sync>(
     hands: &mut [MemHand],
 ) -> GeneratedCall
     requires sound { IsSoundPlan planned.now.plan }
+    requires few { planned.now.plan.events < 2 ^ 32 }
+    requires names { length planned.now.plan.names < 2 ^ 32 }
     requires enough { planned.now.plan.workers ≤ length hands.old }
     requires present { IsPresent planned.now.plan (files_now (shelf_told shelf)) }
     ensures sums { SumsUp poms planned.now (outside shelf hands.old) result.trace result.answers

@@ -1,5 +1,5 @@
 // The plan of a project over repositories in memory.
-ghost use Rattle.std.specs.Prelude.{Some, IfOk};
+ghost use Rattle.std.specs.Prelude.{◌<◌, ◌^◌, length, Some, IfOk};
 ghost use Rattle.event_core.specs.SoundPlans.{IsSoundPlan};
 ghost use Rattle.run_law.specs.Given.{IsPresent};
 ghost use Rattle.outside_mem.specs.FilesNamed.{files_named};
@@ -91,7 +91,7 @@ fn planned(
 }
 
 // The plan of a project for a command line.
-#[tactic(auto, using(crate::proofs::Planned::is_sound, crate::proofs::Planned::knows))]
+#[tactic(auto, using(crate::proofs::Planned::is_sound, build_plan::proofs::Few::few_events, build_plan::proofs::Few::few_names, crate::proofs::Planned::knows))]
 fn plan_of(
     alloc: Global,
     tree: &mut MemTree<NoFailures>,
@@ -101,6 +101,8 @@ fn plan_of(
     line: &CommandLine,
 ) -> Mem<Plan>
     ensures sound { IfOk result IsSoundPlan }
+    ensures few { IfOk result (λ plan. plan.events < 2 ^ 32) }
+    ensures names { IfOk result (λ plan. length plan.names < 2 ^ 32) }
     ensures present { IfOk result (λ plan. IsPresent plan (files_named local)) }
 {
     let mut shelf = MemShelf::<NoFailures>::without_failures(alloc, local)?;
@@ -118,6 +120,8 @@ pub fn plan(
     workers: &str,
 ) -> Mem<Plan>
     ensures sound { IfOk result IsSoundPlan }
+    ensures few { IfOk result (λ plan. plan.events < 2 ^ 32) }
+    ensures names { IfOk result (λ plan. length plan.names < 2 ^ 32) }
     ensures present { IfOk result (λ plan. IsPresent plan (files_named local)) }
 {
     let line = line(alloc, workers)?;

@@ -1,5 +1,5 @@
 -- What a call of a line answers and leaves, by what planning gave.
-use Rattle.std.proofs.Common.{◌≡◌, ◌≤◌, ℕ, List, [], length, drop, Option, Some, None, Result, Ok, Err, IfOk, IfSome, refl, sym, ap, subst, ◌∙◌, arith}
+use Rattle.std.proofs.Common.{◌≡◌, ◌<◌, ◌≤◌, ℕ, List, [], length, drop, Option, Some, None, Result, Ok, Err, IfOk, IfSome, refl, sym, ap, subst, ◌∙◌, arith}
 use Rattle.mvn_shared.specs.declared.memory.OutOfMemory.{OutOfMemory}
 use Rattle.mvn_outside.specs.Shelf.{files_now}
 use Rattle.mvn_outside.specs.declared.shelf.ShelfTold.{ShelfTold}
@@ -13,6 +13,7 @@ use Rattle.model_resolver.specs.Devices.{Counted}
 use Rattle.model_resolver.specs.declared.failures.PomDevice.{PomDevice}
 use Rattle.plan_numbers.specs.declared.selected.Planned.{Planned}
 use Rattle.build_plan.specs.Planning.{IsPlan, KnowsFiles}
+use Rattle.build_plan.proofs.Few.{few_events, few_names}
 use Rattle.crew_stages.specs.Hands.{HandState}
 use Rattle.crew_outcome.specs.declared.outcome.Outcome.{Outcome}
 use Rattle.crew_outcome.specs.Left.{Outside, outside_by}
@@ -74,6 +75,12 @@ module _ (line : CommandLine) (given : Given) (seen : Seen) (low : 1 ≤ line.wo
 
     pub built_sound : IsSoundPlan p.plan
     built_sound = plan.sound
+
+    pub built_few : p.plan.events < 4294967296
+    built_few = few_events line p plan
+
+    pub built_names : length p.plan.names < 4294967296
+    built_names = few_names line p plan
 
     pub built_workers : p.plan.workers ≡ line.workers
     built_workers = line_workers line p plan

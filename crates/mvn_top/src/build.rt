@@ -1,5 +1,5 @@
 // From what a line asks for to what is answered, before it is written.
-ghost use Rattle.std.specs.Prelude.{◌≡◌, ◌≤◌, drop, length, Ok, IfSome};
+ghost use Rattle.std.specs.Prelude.{◌≡◌, ◌<◌, ◌≤◌, ◌^◌, drop, length, Ok, IfSome};
 ghost use Rattle.mvn_outside.specs.Shelf.{files_now};
 ghost use Rattle.event_core.specs.SoundPlans.{IsSoundPlan};
 ghost use Rattle.run_law.specs.Given.{IsPresent};
@@ -39,6 +39,8 @@ fn build_planned<W: Threads + Wait + Sync, R: Remote + Send, S: Shelf + Send, G:
 where
     S::Area: Send,
     requires sound { IsSoundPlan planned.now.plan }
+    requires few { planned.now.plan.events < 2 ^ 32 }
+    requires names { length planned.now.plan.names < 2 ^ 32 }
     requires hands { length hands.old ≡ planned.now.plan.workers }
     requires present { IfSome (S.told shelf) (λ told.
         IsPresent planned.now.plan (files_now told)) }
@@ -70,6 +72,8 @@ pub fn build_by_first<W: Threads + Wait + Sync, R: Remote + Send, S: Shelf + Sen
 where
     S::Area: Send,
     requires sound { IsSoundPlan planned.now.plan }
+    requires few { planned.now.plan.events < 2 ^ 32 }
+    requires names { length planned.now.plan.names < 2 ^ 32 }
     requires enough { planned.now.plan.workers ≤ length hands.old }
     requires present { IfSome (S.told shelf) (λ told.
         IsPresent planned.now.plan (files_now told)) }

@@ -16,7 +16,7 @@ run_crew-pass-requires-clause-few g c κs within = few_hands c.args.plan.now (le
 pub run_crew-pass-requires-clause-ready : goal.run_crew-pass-requires-clause-ready
 run_crew-pass-requires-clause-ready g c κs within =
     subst (λ s. IsReady (opened_by g.S.Shelf.told g.S.Shelf.faults c.args.plan.now s) c.in-Ok.lock 0 (length c.args.hands.now) c.in-Ok.pass) (sym c.of.ensures)
-    (ready_first (opened_by g.S.Shelf.told g.S.Shelf.faults c.args.plan.now c.args.shelf) c.in-Ok.lock (length c.args.hands.now) c.in-Ok.pass c.requires.sound c.in-Ok.ensures.own c.in-Ok.ensures.first c.requires.hands)
+    (ready_first (opened_by g.S.Shelf.told g.S.Shelf.faults c.args.plan.now c.args.shelf) c.in-Ok.lock (length c.args.hands.now) c.in-Ok.pass c.requires.sound c.requires.few c.in-Ok.ensures.own c.in-Ok.ensures.first c.requires.hands)
 
 pub returns-in-Ok-clause-built : goal.returns-in-Ok-clause-built
 returns-in-Ok-clause-built g c =

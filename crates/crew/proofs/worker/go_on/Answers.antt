@@ -1,4 +1,5 @@
-use Rattle.std.proofs.Common.{sym, subst}
+use Rattle.std.proofs.Common.{◌<◌, sym, subst}
+use Rattle.build_core.specs.declared.plan.Plan.{Plan}
 use Rattle.crew_stages.specs.Hands.{state_by}
 use Rattle.crew_turns.specs.Seen.{IsOf}
 use Rattle.crew.specs.Between.{IsBetween}
@@ -9,6 +10,7 @@ pub build_module-requires : goal.build_module-requires
 build_module-requires g c =
     let began = c.in-Task.ensures.turn in
     record {
+      few = subst (λ (p : Plan). p.events < 4294967296) (sym began.plan_is) c.requires.few;
       of = subst (λ p. IsOf p c.args.lock.now c.in-Task.task.worker c.next_task.new.pass) (sym began.plan_is) (subst (λ w. IsOf c.args.plan.now c.args.lock.now w c.next_task.new.pass) (sym began.worker_is) began.step.of);
       begun = began.begun;
     }

@@ -27,6 +27,7 @@ build_gathered-requires g c =
     let task = subst IsTask c.task.view_is c.task.invariant in
     let batch = c.as_slice-batch.ensures ∙ ap (λ v. v.unit.batch) c.task.view_is in
     record {
+      few = c.requires.few;
       of = c.free_all.ensures.of;
       good =
           freed t c.args.lock.now mid pass task c.in-Ok.ensures.of c.free_all.ensures.of c.free_all.ensures.follows (length (files_read t.unit)) c.in-Ok.ensures.all refl c.in-Ok.ensures.within c.free_all.ensures.none

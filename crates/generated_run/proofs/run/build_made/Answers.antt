@@ -39,6 +39,38 @@ build_summed-requires-clause-sound g c κs within =
     let is : IsReady line p = ready c.args.poms line given given.machine c.requires.workers.0 c.requires.given planning.result.failed p middle (faultless planning.new.shelf planning.new.hands) counted gives in
     is.sound
 
+pub build_summed-requires-clause-few : goal.build_summed-requires-clause-few
+build_summed-requires-clause-few g c κs within =
+    let planning = c.plan_by_first-planning in
+    let line = c.args.line.now in
+    let given = c.args.given.now in
+    let middle = outside planning.new.shelf planning.new.hands in
+    let counted : Counted None planning.result.failed (counts_of 0 (made line.workers)) (counts_of 0 middle) =
+    subst (λ (o : Outside). Counted None planning.result.failed (counts_of 0 o) (counts_of 0 middle)) (given_made line.workers c.args.shelf c.args.hands.now c.requires.shelf c.requires.hands) planning.ensures.counted in
+    let p = c.in-Ok-Ok.planned in
+    let e : planning.result.answer ≡ Ok (Ok p) = c.in-Ok-Ok.is ∙ ap (λ (r : Result Planned Outcome). Ok r) c.in-Ok-Ok.field-0-is in
+    let gives : Gives c.args.poms line given given.machine c.requires.workers.0 c.requires.given planning.result.failed (Ok p) =
+    gives_made c.args.poms line given given.machine c.requires.workers.0 c.requires.given (tree_files c.args.tree.now) (shelf_told c.args.shelf) (map state c.args.hands.now) planning.result.failed (Ok p) c.requires.tree c.requires.shelf c.requires.hands
+    (subst (λ (r : Result (Result Planned Outcome) OutOfMemory). IfOk r (GivesPlan (Some (tree_files c.args.tree.now)) (Some (shelf_told c.args.shelf)) (first_remote (outside c.args.shelf c.args.hands.now)) given line planning.result.failed)) e planning.ensures.gives) in
+    let is : IsReady line p = ready c.args.poms line given given.machine c.requires.workers.0 c.requires.given planning.result.failed p middle (faultless planning.new.shelf planning.new.hands) counted gives in
+    is.few
+
+pub build_summed-requires-clause-names : goal.build_summed-requires-clause-names
+build_summed-requires-clause-names g c κs within =
+    let planning = c.plan_by_first-planning in
+    let line = c.args.line.now in
+    let given = c.args.given.now in
+    let middle = outside planning.new.shelf planning.new.hands in
+    let counted : Counted None planning.result.failed (counts_of 0 (made line.workers)) (counts_of 0 middle) =
+    subst (λ (o : Outside). Counted None planning.result.failed (counts_of 0 o) (counts_of 0 middle)) (given_made line.workers c.args.shelf c.args.hands.now c.requires.shelf c.requires.hands) planning.ensures.counted in
+    let p = c.in-Ok-Ok.planned in
+    let e : planning.result.answer ≡ Ok (Ok p) = c.in-Ok-Ok.is ∙ ap (λ (r : Result Planned Outcome). Ok r) c.in-Ok-Ok.field-0-is in
+    let gives : Gives c.args.poms line given given.machine c.requires.workers.0 c.requires.given planning.result.failed (Ok p) =
+    gives_made c.args.poms line given given.machine c.requires.workers.0 c.requires.given (tree_files c.args.tree.now) (shelf_told c.args.shelf) (map state c.args.hands.now) planning.result.failed (Ok p) c.requires.tree c.requires.shelf c.requires.hands
+    (subst (λ (r : Result (Result Planned Outcome) OutOfMemory). IfOk r (GivesPlan (Some (tree_files c.args.tree.now)) (Some (shelf_told c.args.shelf)) (first_remote (outside c.args.shelf c.args.hands.now)) given line planning.result.failed)) e planning.ensures.gives) in
+    let is : IsReady line p = ready c.args.poms line given given.machine c.requires.workers.0 c.requires.given planning.result.failed p middle (faultless planning.new.shelf planning.new.hands) counted gives in
+    is.names
+
 pub build_summed-requires-clause-enough : goal.build_summed-requires-clause-enough
 build_summed-requires-clause-enough g c =
     let planning = c.plan_by_first-planning in

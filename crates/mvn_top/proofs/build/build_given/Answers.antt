@@ -7,7 +7,7 @@ use Rattle.crew_outcome.specs.declared.outcome.Outcome.{Outcome}
 use Rattle.crew_outcome.specs.Left.{Outside, outside_by}
 use Rattle.mvn_top.specs.Project.{GivesPlan}
 use Rattle.mvn_call.specs.Seen.{After, Seen, first_remote}
-use Rattle.mvn_top.proofs.Building.{at_least, built_present, built_sound, built_workers, calls_built, calls_unbuilt, counted_left, others_built, others_planned}
+use Rattle.mvn_top.proofs.Building.{at_least, built_few, built_names, built_present, built_sound, built_workers, calls_built, calls_unbuilt, counted_left, others_built, others_planned}
 use Rattle.mvn_top.proofs.Calling.{calls_none}
 use Rattle.mvn_top.proofs.First.{asked_tells, drop_images}
 use Rattle.mvn_top.proofs.build.build_given.Goals as goal
@@ -27,6 +27,26 @@ build_by_first-requires-clause-sound g c κs within =
     let gives : GivesPlan seen.tree seen.outside.shelf (first_remote seen.outside) c.args.given.now line planning.result.failed (Ok c.in-Ok-Ok.planned) =
     subst (λ (r : Result (Result Planned Outcome) OutOfMemory). IfOk r (GivesPlan seen.tree seen.outside.shelf (first_remote seen.outside) c.args.given.now line planning.result.failed)) e planning.ensures.gives in
     built_sound line c.args.given.now seen c.requires.workers.0 (subst (λ (n : ℕ). 1 ≤ n) (sym (length-map c.args.hands.now (state_by g.R.Remote.files g.R.Remote.faults g.S.Area.Area.contents g.S.Area.Area.faults g.S.Area.Area.pieces g.G.Gate.answers g.G.Gate.faults))) (at_least line.workers (length c.args.hands.now) c.requires.workers.0 c.requires.workers.1)) c.requires.given c.in-Ok-Ok.planned planning.result.failed gives
+
+pub build_by_first-requires-clause-few : goal.build_by_first-requires-clause-few
+build_by_first-requires-clause-few g c κs within =
+    let seen : Seen = record { tree = g.T.Tree.files c.args.tree.now; faults = g.T.Files.faults c.args.tree.now; machine = c.args.given.now.machine; outside = outside_by g.S.Shelf.told g.S.Shelf.faults (state_by g.R.Remote.files g.R.Remote.faults g.S.Area.Area.contents g.S.Area.Area.faults g.S.Area.Area.pieces g.G.Gate.answers g.G.Gate.faults) c.args.shelf c.args.hands.now } in
+    let planning = c.plan_by_first-planning in
+    let line = c.args.line.now in
+    let e : planning.result.answer ≡ Ok (Ok c.in-Ok-Ok.planned) = c.in-Ok-Ok.is ∙ ap (λ (r : Result Planned Outcome). Ok r) c.in-Ok-Ok.field-0-is in
+    let gives : GivesPlan seen.tree seen.outside.shelf (first_remote seen.outside) c.args.given.now line planning.result.failed (Ok c.in-Ok-Ok.planned) =
+    subst (λ (r : Result (Result Planned Outcome) OutOfMemory). IfOk r (GivesPlan seen.tree seen.outside.shelf (first_remote seen.outside) c.args.given.now line planning.result.failed)) e planning.ensures.gives in
+    built_few line c.args.given.now seen c.requires.workers.0 (subst (λ (n : ℕ). 1 ≤ n) (sym (length-map c.args.hands.now (state_by g.R.Remote.files g.R.Remote.faults g.S.Area.Area.contents g.S.Area.Area.faults g.S.Area.Area.pieces g.G.Gate.answers g.G.Gate.faults))) (at_least line.workers (length c.args.hands.now) c.requires.workers.0 c.requires.workers.1)) c.requires.given c.in-Ok-Ok.planned planning.result.failed gives
+
+pub build_by_first-requires-clause-names : goal.build_by_first-requires-clause-names
+build_by_first-requires-clause-names g c κs within =
+    let seen : Seen = record { tree = g.T.Tree.files c.args.tree.now; faults = g.T.Files.faults c.args.tree.now; machine = c.args.given.now.machine; outside = outside_by g.S.Shelf.told g.S.Shelf.faults (state_by g.R.Remote.files g.R.Remote.faults g.S.Area.Area.contents g.S.Area.Area.faults g.S.Area.Area.pieces g.G.Gate.answers g.G.Gate.faults) c.args.shelf c.args.hands.now } in
+    let planning = c.plan_by_first-planning in
+    let line = c.args.line.now in
+    let e : planning.result.answer ≡ Ok (Ok c.in-Ok-Ok.planned) = c.in-Ok-Ok.is ∙ ap (λ (r : Result Planned Outcome). Ok r) c.in-Ok-Ok.field-0-is in
+    let gives : GivesPlan seen.tree seen.outside.shelf (first_remote seen.outside) c.args.given.now line planning.result.failed (Ok c.in-Ok-Ok.planned) =
+    subst (λ (r : Result (Result Planned Outcome) OutOfMemory). IfOk r (GivesPlan seen.tree seen.outside.shelf (first_remote seen.outside) c.args.given.now line planning.result.failed)) e planning.ensures.gives in
+    built_names line c.args.given.now seen c.requires.workers.0 (subst (λ (n : ℕ). 1 ≤ n) (sym (length-map c.args.hands.now (state_by g.R.Remote.files g.R.Remote.faults g.S.Area.Area.contents g.S.Area.Area.faults g.S.Area.Area.pieces g.G.Gate.answers g.G.Gate.faults))) (at_least line.workers (length c.args.hands.now) c.requires.workers.0 c.requires.workers.1)) c.requires.given c.in-Ok-Ok.planned planning.result.failed gives
 
 pub build_by_first-requires-clause-enough : goal.build_by_first-requires-clause-enough
 build_by_first-requires-clause-enough g c =

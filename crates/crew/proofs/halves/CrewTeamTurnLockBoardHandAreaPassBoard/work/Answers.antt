@@ -8,6 +8,7 @@ work_on-requires g c =
     let opened = opened_by g.S.Shelf.told g.S.Shelf.faults c.args.self.now.plan.now c.args.self.now.opening.value in
     let hand = state_by g.R.Remote.files g.R.Remote.faults g.S.Area.Area.contents g.S.Area.Area.faults g.S.Area.Area.pieces g.G.Gate.answers g.G.Gate.faults c.args.hand.now in
     record {
+      few = c.requires.over.few;
       of = of opened c.args.lock.now c.args.first c.args.pass.now c.requires;
       clear = c.requires.rest.clear;
       own = fits opened c.args.lock.now c.args.first c.args.pass.now c.requires hand.told;

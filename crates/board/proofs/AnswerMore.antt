@@ -132,6 +132,7 @@ module _ {S : Type 0} (told : S → Option ShelfTold) (faults : S → ℕ) (plan
       caused = subst (λ l. AreCaused (told opening) (faults opening) (faults shelf) l marks) (sym answer_log)
           (caused_less (told opening) (faults opening) (faults shelf) log (log ++ entry (event.Answer w g) (carried.Answered answer) ∷ []) marks marks (omega (arith, endings_one log (event.Answer w g) (carried.Answered answer))) board.caused);
       calm = subst (λ l. IsCalm (faults opening) (faults shelf) l marks) (sym answer_log) (calm_more (faults opening) (faults shelf) log (entry (event.Answer w g) (carried.Answered answer)) marks marks (λ quiet none. none) board.calm);
+      no_fall = board.no_fall;
       busy = busy_more core.0 core.1 (event.Answer w g) marks refl board.busy;
       untouched = λ none. absurd (not_empty core.1 (event.Answer w g) none);
     }

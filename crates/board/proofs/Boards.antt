@@ -85,6 +85,7 @@ module _ {S : Type 0} (told : S → Option ShelfTold) (faults : S → ℕ) (plan
     caused = subst (λ t. AreCaused (told opening) (faults opening) (faults shelf) t then_marks) (sym log_more)
         (caused_less (told opening) (faults opening) (faults shelf) log (log ++ entry e carried.Nothing ∷ []) marks then_marks (omega (arith, endings_one log e carried.Nothing, less)) board.caused);
     calm = subst (λ t. IsCalm (faults opening) (faults shelf) t then_marks) (sym log_more) (calm_more (faults opening) (faults shelf) log (entry e carried.Nothing) marks then_marks fewer board.calm);
+    no_fall = board.no_fall;
     busy = busy;
     untouched = λ none. absurd (not_empty core.1 e none);
   }

@@ -1,5 +1,5 @@
 -- A board whose repository was asked.
-use Rattle.std.proofs.Common.{◌≡◌, ℕ, suc, ◌+◌, ◌<◌, ◌⊎◌, inl, inr, Bool, true, false, List, [], ◌∷◌, ◌++◌, length, drop, set, Option, Some, None, IfSome, is_some, Ok, Err, refl, arith, sym, ap, subst, ◌∙◌}
+use Rattle.std.proofs.Common.{◌≡◌, ℕ, suc, ◌+◌, ◌<◌, ◌≤◌, ◌⊎◌, inl, inr, Bool, true, false, List, [], ◌∷◌, ◌++◌, length, drop, set, Option, Some, None, IfSome, is_some, Ok, Err, refl, arith, sym, ap, subst, ◌∙◌}
 use Rattle.std.proofs.lemmas.Bool.{false≢true}
 use Rattle.std.proofs.lemmas.List.{append-nil, append_assoc, length-append, length-set}
 use Rattle.mvn_shared.specs.Cause.{HasCause, HasRisen}
@@ -43,6 +43,15 @@ pub drop_front : {A : Type 0} (xs ys : List A) → drop (length xs) (xs ++ ys) �
 drop_front [] ys = refl
 drop_front (x ∷ xs) ys = drop_front xs ys
 
+-- ---- counts
+
+-- a count that didn't fall, and then didn't again
+not_less : (before now later : ℕ) → before ≤ now → now ≤ later → before ≤ later
+not_less before now later low high = omega (arith, low, high)
+
+still_low : (now later : ℕ) → later ≡ now → now ≤ later
+still_low now later still = omega (arith, still)
+
 -- one fault more, and one mark
 pub caused_more : (told : Option ShelfTold) (before now later w : ℕ) (log : List RunEntry) (marks : List Bool) → AreCaused told before now log marks → HasRisen now later → AreCaused told before later log (set marks w true)
 caused_more None before now later w log marks caused risen = tt
@@ -54,10 +63,10 @@ module _ {S : Type 0} (told : S → Option ShelfTold) (faults : S → ℕ) (plan
   abbrev log : List RunEntry
   log = log_by (told opening) (told shelf) answers core.1
 
-  -- the repository was asked, and tells the same
-  pub asked_board : (later : S) (then_marks : List Bool) → told later ≡ told shelf → (core.1 ≡ [] → ⊥) → length then_marks ≡ length marks → AreCaused (told opening) (faults opening) (faults later) (log_by (told opening) (told shelf) answers core.1) then_marks
+  -- the repository was asked, and tells the same; its count didn't fall
+  pub asked_board : (later : S) (then_marks : List Bool) → told later ≡ told shelf → (core.1 ≡ [] → ⊥) → length then_marks ≡ length marks → faults shelf ≤ faults later → AreCaused (told opening) (faults opening) (faults later) (log_by (told opening) (told shelf) answers core.1) then_marks
       → IsCalm (faults opening) (faults later) (log_by (told opening) (told shelf) answers core.1) then_marks → AreBusy (standing_of core.0 core.1) then_marks → IsBoard told faults plan core opening later answers then_marks room
-  asked_board later then_marks same begun long caused calm busy = record {
+  asked_board later then_marks same begun long low caused calm busy = record {
     outline = board.outline;
     sound = board.sound;
     short = board.short;
@@ -73,6 +82,7 @@ module _ {S : Type 0} (told : S → Option ShelfTold) (faults : S → ℕ) (plan
     present = board.present;
     caused = subst (λ t. AreCaused (told opening) (faults opening) (faults later) (log_by (told opening) t answers core.1) then_marks) (sym same) caused;
     calm = subst (λ t. IsCalm (faults opening) (faults later) (log_by (told opening) t answers core.1) then_marks) (sym same) calm;
+    no_fall = not_less (faults opening) (faults shelf) (faults later) board.no_fall low;
     busy = busy;
     untouched = λ none. absurd (begun none);
   }
@@ -165,6 +175,7 @@ module _ {S : Type 0} (told : S → Option ShelfTold) (faults : S → ℕ) (plan
       calm = subst (λ l. IsCalm (faults opening) (faults later) l marks) (sym grown.log_is)
           (subst (λ n. IsCalm (faults opening) n (log ++ entry (event.Publish w f) grown.what ∷ []) marks) (sym still)
           (calm_more (faults opening) (faults shelf) log (entry (event.Publish w f) grown.what) marks marks (λ quiet none. none) board.calm));
+      no_fall = not_less (faults opening) (faults shelf) (faults later) board.no_fall (still_low (faults shelf) (faults later) still);
       busy = busy_more core.0 core.1 (event.Publish w f) marks refl board.busy;
       untouched = λ none. absurd (not_empty core.1 (event.Publish w f) none);
     }
@@ -240,13 +251,13 @@ module _ {S : Type 0} (told : S → Option ShelfTold) (faults : S → ℕ) (plan
   -- the repository failed, and the worker is marked
   pub failed_board : {then_marks : List Bool} (w : ℕ) → told later ≡ told shelf → IsAsking core.0 core.1 w → then_marks ≡ set marks w true → HasRisen (faults shelf) (faults later) → IsBoard told faults plan core opening later answers then_marks room
   failed_board {then_marks} w same at set_so risen = subst (λ ms. IsBoard told faults plan core opening later answers ms room) (sym set_so)
-      (asked_board told faults plan core opening shelf answers marks room board later (set marks w true) same at.begun (length-set marks w true)
+      (asked_board told faults plan core opening shelf answers marks room board later (set marks w true) same at.begun (length-set marks w true) risen.no_fall
       (caused_more (told opening) (faults opening) (faults shelf) (faults later) w (log_by (told opening) (told shelf) answers core.1) marks board.caused risen)
       (marked_calm w at) (busy_marked (standing_of core.0 core.1) w marks at.busy board.busy))
 
   -- it answered, and nothing has changed
   pub same_board : {w : ℕ} → told later ≡ told shelf → IsAsking core.0 core.1 w → faults later ≡ faults shelf → IsBoard told faults plan core opening later answers marks room
-  same_board same at still = asked_board told faults plan core opening shelf answers marks room board later marks same at.begun refl
+  same_board same at still = asked_board told faults plan core opening shelf answers marks room board later marks same at.begun refl (still_low (faults shelf) (faults later) still)
       (subst (λ n. AreCaused (told opening) (faults opening) n (log_by (told opening) (told shelf) answers core.1) marks) (sym still) board.caused)
       (subst (λ n. IsCalm (faults opening) n (log_by (told opening) (told shelf) answers core.1) marks) (sym still) board.calm) board.busy
 
@@ -270,10 +281,10 @@ module _ {S : Type 0} (told : S → Option ShelfTold) (faults : S → ℕ) (plan
       ap (λ l. record { plan = plan; opening = opening; shelf = later; log = l; marks = marks })
       (ap (λ t. log_by (told opening) t answers next_core.1) same ∙ ap (λ t. log_by (told opening) (told shelf) answers t.1) is ∙ log_more told faults plan core opening shelf answers marks room board (event.Read w f) refl)
 
-  -- absent where nothing is told: nothing has to be caused
-  pub absent_board : {then_marks : List Bool} (w : ℕ) → told later ≡ told shelf → told shelf ≡ None → IsAsking core.0 core.1 w → then_marks ≡ set marks w true → IsBoard told faults plan core opening later answers then_marks room
-  absent_board {then_marks} w same none at set_so = subst (λ ms. IsBoard told faults plan core opening later answers ms room) (sym set_so)
-      (asked_board told faults plan core opening shelf answers marks room board later (set marks w true) same at.begun (length-set marks w true)
+  -- absent where nothing is told: nothing has to be caused, and the count stands
+  pub absent_board : {then_marks : List Bool} (w : ℕ) → told later ≡ told shelf → told shelf ≡ None → faults later ≡ faults shelf → IsAsking core.0 core.1 w → then_marks ≡ set marks w true → IsBoard told faults plan core opening later answers then_marks room
+  absent_board {then_marks} w same none still at set_so = subst (λ ms. IsBoard told faults plan core opening later answers ms room) (sym set_so)
+      (asked_board told faults plan core opening shelf answers marks room board later (set marks w true) same at.begun (length-set marks w true) (still_low (faults shelf) (faults later) still)
       (subst (λ t. AreCaused t (faults opening) (faults later) (log_by (told opening) (told shelf) answers core.1) (set marks w true)) (sym (tells_at_first told faults plan core opening shelf answers marks room board none)) tt)
       (marked_calm w at) (busy_marked (standing_of core.0 core.1) w marks at.busy board.busy))
 
@@ -281,7 +292,7 @@ module _ {S : Type 0} (told : S → Option ShelfTold) (faults : S → ℕ) (plan
   pub failed_read : {then_marks : List Bool} (w : ℕ) (d : ReadFault) → told later ≡ told shelf → IsAsking core.0 core.1 w → then_marks ≡ set marks w true → d ≡ fault.Failed
       → HasCause (faults shelf) (faults later) (read_failed {T = List ℕ} (Err d)) ⊎ ((told shelf ≡ None) × (faults later ≡ faults shelf)) → IsBoard told faults plan core opening later answers then_marks room
   failed_read {then_marks} w d same at set_so is (inl cause) = failed_board w same at set_so (subst (λ x. HasCause (faults shelf) (faults later) (read_failed {T = List ℕ} (Err x))) is cause)
-  failed_read {then_marks} w d same at set_so is (inr none) = absent_board w same none.0 at set_so
+  failed_read {then_marks} w d same at set_so is (inr none) = absent_board w same none.0 none.1 at set_so
 
 -- a file that is told to be there isn't absent
 pub untold_where_absent : (t : Option ShelfTold) (name : List ℕ) → IfSome t (λ told. is_some (file_at (files_now told) name) ≡ true) → IfSome t (λ told. None ≡ file_at (files_now told) name) → t ≡ None

@@ -311,6 +311,7 @@ new_board told faults plan {core} {opening} {shelf} {answers} {marks} room core_
       present = present;
       caused = nothing_caused (told shelf) (faults shelf) plan.workers;
       calm = λ quiet none. refl;
+      no_fall = omega arith;
       busy = none_busy (standing_of (outline_of plan) []) plan.workers;
       untouched = λ none. refl;
     }

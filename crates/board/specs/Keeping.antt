@@ -53,7 +53,8 @@ abbrev pub room_of : KeptAnswers → (states : ℕ) → Room
 room_of answers states = record { answers = answers.room; goals = answers.goals; states = states }
 
 -- a board's parts belong together: its events are the core's, each publish and each answer of them is told, faults are counted, who is marked builds a module, `present` says
--- which files there were at the start, and there is room for more answers and for all states; `told` and `faults` are what a repository tells, and its count
+-- which files there were at the start, and there is room for more answers and for all states; `told` and `faults` are what a repository tells, and its count,
+-- which is never less than at the start
 pub record IsBoard {S : Type 0} (told : S → Option ShelfTold) (faults : S → ℕ) (plan : Plan) (core : Outline × List Event) (opening shelf : S) (answers : List Answered) (marks : List Bool) (room : Room) : Type 0 where
   pub outline : core.0 ≡ outline_of plan
   pub sound : IsSoundPlan plan
@@ -70,5 +71,6 @@ pub record IsBoard {S : Type 0} (told : S → Option ShelfTold) (faults : S → 
   pub present : IfSome (told opening) (λ t. IsPresent plan (files_now t))
   pub caused : AreCaused (told opening) (faults opening) (faults shelf) (log_by (told opening) (told shelf) answers core.1) marks
   pub calm : IsCalm (faults opening) (faults shelf) (log_by (told opening) (told shelf) answers core.1) marks
+  pub no_fall : faults opening ≤ faults shelf
   pub busy : AreBusy (standing_of core.0 core.1) marks
   pub untouched : core.1 ≡ [] → shelf ≡ opening

@@ -284,8 +284,9 @@ impl<'a, S: Shelf> Board<'a, S> {
         shelf
     }
 
-    /// What the build leaves, where each module has ended or was skipped. If none of them ended by a fault or for want of memory, the
-    /// repository never failed: its count of faults is as at the start. Takes no memory; costs a look at each module. Project rule.
+    /// What the build leaves, where each module has ended or was skipped. The repository's count of faults is never less than at the start;
+    /// if no module ended by a fault or for want of memory, the repository never failed: its count is as at the start. Takes no memory;
+    /// costs a look at each module. Project rule.
     pub fn finish(self) -> Finished<S>
         requires complete { is_complete (standing_at self) ≡ true }
         ensures shelf { result.shelf ≡ self.entry.shelf }
@@ -294,6 +295,7 @@ impl<'a, S: Shelf> Board<'a, S> {
         ensures states { result.states ≡ states_after self.entry.plan self.entry.log }
         ensures calm { IsQuiet self.entry.log
             → S.faults result.shelf ≡ S.faults self.entry.opening }
+        ensures no_fall { S.faults self.entry.opening ≤ S.faults result.shelf }
     {
         self.core.runs_within_bound();
         let Board {

@@ -1,4 +1,4 @@
-use Rattle.std.proofs.Common.{◌≡◌, true, length, map, ap, subst, sym, ◌∙◌}
+use Rattle.std.proofs.Common.{◌≡◌, ◌≤◌, true, length, map, ap, subst, sym, ◌∙◌}
 use Rattle.name_locks.specs.Locks.{below}
 use Rattle.event_core.specs.Runs.{IsQuiet, answers_in, events_of}
 use Rattle.event_core.specs.Standing.{is_complete, standing_of, state_of}
@@ -32,3 +32,6 @@ pub returns-clause-calm : goal.returns-clause-calm
 returns-clause-calm g c = subst (λ v. IsQuiet v.log → g.S.Shelf.faults c.self.inside.shelf ≡ g.S.Shelf.faults v.opening) c.self.view_is
     (λ quiet. c.self.invariant.calm quiet (none_at_end c.self.inside.core.0 c.self.inside.core.1 c.self.inside.marks.items c.runs_within_bound.ensures.run
     (at_core g.S.Shelf.told g.S.Shelf.faults c.self.inside.plan.now c.self.inside.core c.self.inside.opening.value c.self.inside.shelf c.self.inside.answers.kept c.self.inside.marks.items (room_of c.self.inside.answers c.self.inside.states) c.self.invariant (λ o es. is_complete (standing_of o es) ≡ true) (subst (λ v. is_complete (standing_at v) ≡ true) (sym c.self.view_is) c.requires.complete)) c.self.invariant.busy))
+
+pub returns-clause-no_fall : goal.returns-clause-no_fall
+returns-clause-no_fall g c = subst (λ v. g.S.Shelf.faults v.opening ≤ g.S.Shelf.faults c.self.inside.shelf) c.self.view_is c.self.invariant.no_fall

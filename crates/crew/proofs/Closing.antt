@@ -1,5 +1,5 @@
 -- A build that is over: what the board leaves, and what the log says of each worker.
-use Rattle.std.proofs.Common.{◌≡◌, ℕ, ◌+◌, Bool, true, false, List, [], ◌∷◌, ◌++◌, Option, Some, None, IfSome, is_some, refl, arith, sym, ap, subst, ◌∙◌}
+use Rattle.std.proofs.Common.{◌≡◌, ℕ, ◌+◌, ◌≤◌, Bool, true, false, List, [], ◌∷◌, ◌++◌, Option, Some, None, IfSome, is_some, refl, arith, sym, ap, subst, ◌∙◌}
 use Rattle.std.specs.Option.{option_map_or}
 use Rattle.std.proofs.lemmas.Bool.{false≢true}
 use Rattle.std.proofs.lemmas.List.{append-nil}
@@ -78,9 +78,9 @@ module _ {S : Type 0} (told : S → Option ShelfTold) (faults : S → ℕ) (plan
   -- what is left is the run's
   pub built : (left : Finished S) → IsRunOf b.plan b.log → IsComplete plan b.log → told b.shelf ≡ told_after b.plan b.log (told b.opening) → AreCarried (is_some (told b.opening)) b.log
       → AreCaused (told b.opening) (faults b.opening) (faults b.shelf) b.log b.marks
-      → left.shelf ≡ b.shelf → left.trace ≡ events_of b.log → left.answers ≡ answers_in b.plan b.log → left.states ≡ states_after b.plan b.log → (IsQuiet b.log → faults left.shelf ≡ faults b.opening)
+      → left.shelf ≡ b.shelf → left.trace ≡ events_of b.log → left.answers ≡ answers_in b.plan b.log → left.states ≡ states_after b.plan b.log → (IsQuiet b.log → faults left.shelf ≡ faults b.opening) → faults b.opening ≤ faults left.shelf
       → IsBuilt told faults plan shelf b.log left
-  built left run complete tells carried caused shelf_is trace answers states calm = record {
+  built left run complete tells carried caused shelf_is trace answers states calm low = record {
     follows = subst (λ p. IsRunOf p b.log) same_plan run;
     complete = complete;
     trace = trace;
@@ -94,4 +94,5 @@ module _ {S : Type 0} (told : S → Option ShelfTold) (faults : S → ℕ) (plan
         (subst (λ o. IfSome o (λ t. RoseBy (shelf_endings b.log) (faults b.opening) (faults b.shelf))) told_same
         (caused_less (told b.opening) (faults b.opening) (faults b.shelf) b.log b.marks caused)));
     calm = λ quiet. calm quiet ∙ faults_same;
+    no_fall = subst (λ n. n ≤ faults left.shelf) faults_same low;
   }

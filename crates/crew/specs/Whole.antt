@@ -1,5 +1,5 @@
 -- What a whole build leaves. Project rule; Guide to Working with Multiple Modules, for what a build of several modules is.
-use Rattle.std.specs.Prelude.{◌≡◌, ℕ, List, [], Option, is_some, option_map, IfSome}
+use Rattle.std.specs.Prelude.{◌≡◌, ◌≤◌, ℕ, List, [], Option, is_some, option_map, IfSome}
 use Rattle.mvn_shared.specs.Cause.{RoseBy}
 use Rattle.mvn_outside.specs.Shelf.{files_now}
 use Rattle.mvn_outside.specs.declared.shelf.ShelfTold.{ShelfTold}
@@ -13,8 +13,8 @@ use Rattle.worker_law.specs.Hands.{OwnFit}
 use Rattle.crew_stages.specs.Hands.{HandState, IsWorked}
 use Rattle.crew_stages.specs.Endings.{endings_of}
 
--- the run is complete, and what comes back is its events, its answers, its states and its publishes behind the repository's; where the repository told
--- its files, its faults are at least as many as the modules that ended by them
+-- the run is complete, and what comes back is its events, its answers, its states and its publishes behind the repository's, whose count of faults didn't
+-- fall; where the repository told its files, its faults are at least as many as the modules that ended by them
 pub record IsBuilt {S : Type 0} (told : S → Option ShelfTold) (faults : S → ℕ) (plan : Plan) (opening : S) (run : List RunEntry) (left : Finished S) : Type 0 where
   pub follows : IsRunOf plan run
   pub complete : IsComplete plan run
@@ -25,6 +25,7 @@ pub record IsBuilt {S : Type 0} (told : S → Option ShelfTold) (faults : S → 
   pub carried : AreCarried (is_some (told opening)) run
   pub caused : IfSome (told opening) (λ t. RoseBy (shelf_endings run) (faults opening) (faults left.shelf))
   pub calm : IsQuiet run → faults left.shelf ≡ faults opening
+  pub no_fall : faults opening ≤ faults left.shelf
 
 -- the worker's entries in the run fit what its hand told, and its hand was worked with as its modules ended
 pub record IsWorkedBy (plan : Plan) (opening : Option ShelfTold) (run : List RunEntry) (worker : ℕ) (before now : HandState) : Type 0 where

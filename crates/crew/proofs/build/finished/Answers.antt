@@ -29,5 +29,5 @@ returns g c =
       subst (λ p. IsRunOf p b.log) same c.keeps.ensures.run,
       built g.S.Shelf.told g.S.Shelf.faults plan shelf b fixed c.finish.result c.keeps.ensures.run
           (subst (IsComplete plan) (sym c.close-board.ensures.log) c.requires.complete)
-          c.keeps.ensures.told c.keeps.ensures.carried c.keeps.ensures.caused c.finish.ensures.shelf c.finish.ensures.trace c.finish.ensures.answers c.finish.ensures.states c.finish.ensures.calm,
+          c.keeps.ensures.told c.keeps.ensures.carried c.keeps.ensures.caused c.finish.ensures.shelf c.finish.ensures.trace c.finish.ensures.answers c.finish.ensures.states c.finish.ensures.calm c.finish.ensures.no_fall,
     )

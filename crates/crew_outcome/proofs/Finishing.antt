@@ -74,26 +74,17 @@ still_by (Ok done) f1 f2 none cause = cause
 still_by (Err fault.Failed) f1 f2 none cause = absurd (omega (arith, none))
 still_by (Err fault.Memory) f1 f2 none cause = cause
 
--- behind a run that left the count as it was
-calm_none : (f0 f1 f2 : ℕ) → f1 ≡ f0 → f2 ≡ f1 → RoseBy 0 f0 f2
-calm_none f0 f1 f2 same e = record { no_fall = omega (arith, same, e); rise = omega (arith, same, e) }
+-- behind any run, by which the count didn't fall
+least_none : (f0 f1 f2 : ℕ) → f0 ≤ f1 → f2 ≡ f1 → RoseBy 0 f0 f2
+least_none f0 f1 f2 low e = record { no_fall = omega (arith, low, e); rise = omega (arith, low, e) }
 
-calm_once : (f0 f1 f2 : ℕ) → f1 ≡ f0 → HasRisen f1 f2 → RoseBy 1 f0 f2
-calm_once f0 f1 f2 same risen = let low = risen.no_fall in let high = risen.rise in record { no_fall = omega (arith, same, low); rise = omega (arith, same, high) }
+least_once : (f0 f1 f2 : ℕ) → f0 ≤ f1 → HasRisen f1 f2 → RoseBy 1 f0 f2
+least_once f0 f1 f2 low risen = let least = risen.no_fall in let high = risen.rise in record { no_fall = omega (arith, low, least); rise = omega (arith, low, high) }
 
-calm_by : (settled : Result (Unit {0}) DeviceFault) (f0 f1 f2 : ℕ) → f1 ≡ f0 → HasCause f1 f2 (device_failed settled) → RoseBy (more_of settled) f0 f2
-calm_by (Ok done) f0 f1 f2 same cause = calm_none f0 f1 f2 same cause
-calm_by (Err fault.Failed) f0 f1 f2 same cause = calm_once f0 f1 f2 same cause
-calm_by (Err fault.Memory) f0 f1 f2 same cause = calm_none f0 f1 f2 same cause
-
--- behind any run
-risen_least : (before now : ℕ) → HasRisen before now → 1 ≤ now
-risen_least before now risen = let high = risen.rise in omega (arith, high)
-
-least_by : (settled : Result (Unit {0}) DeviceFault) (before now : ℕ) → HasCause before now (device_failed settled) → more_of settled ≤ now
-least_by (Ok done) before now cause = omega arith
-least_by (Err fault.Failed) before now cause = risen_least before now cause
-least_by (Err fault.Memory) before now cause = omega arith
+least_by : (settled : Result (Unit {0}) DeviceFault) (f0 f1 f2 : ℕ) → f0 ≤ f1 → HasCause f1 f2 (device_failed settled) → RoseBy (more_of settled) f0 f2
+least_by (Ok done) f0 f1 f2 low cause = least_none f0 f1 f2 low cause
+least_by (Err fault.Failed) f0 f1 f2 low cause = least_once f0 f1 f2 low cause
+least_by (Err fault.Memory) f0 f1 f2 low cause = least_none f0 f1 f2 low cause
 
 -- a run that is finished: it is the call's, what it published is settled or not, the answer is made of it, and the repository's faults are
 -- counted
@@ -128,9 +119,8 @@ module _ {S : Type 0} (told : S → Option ShelfTold) (faults : S → ℕ) (plan
         (subst (λ (states : List State). IfOk call.outcome (IsRunAnswer plan details left.answers states fin.settled)) same.1 fin.answer);
     counted = record {
       rose = rose_told (told opening) fin.settled (shelf_endings run) (faults opening) (faults left.shelf) (faults call.shelf) built.caused fin.cause;
-      calm = λ quiet. calm_by fin.settled (faults opening) (faults left.shelf) (faults call.shelf) (built.calm quiet) fin.cause;
+      least = least_by fin.settled (faults opening) (faults left.shelf) (faults call.shelf) built.no_fall fin.cause;
       still = λ quiet none. still_by fin.settled (faults left.shelf) (faults call.shelf) none fin.cause ∙ built.calm quiet;
-      least = least_by fin.settled (faults left.shelf) (faults call.shelf) fin.cause;
     };
   }
 

@@ -1,5 +1,5 @@
 -- What a build leaves of the repository, and of the hands' devices. Project rules.
-use Rattle.std.specs.Prelude.{◌≡◌, ◌⊎◌, ◌<◌, ◌≤◌, ◌+◌, ℕ, List, [], length, map, Option, IfSome}
+use Rattle.std.specs.Prelude.{◌≡◌, ◌⊎◌, ◌<◌, ◌+◌, ℕ, List, [], length, map, Option, IfSome}
 use Rattle.std.specs.FinMap as finite
 use Rattle.mvn_shared.specs.Cause.{HasRisen, RoseBy}
 use Rattle.mvn_outside.specs.Shelf.{MaySettle}
@@ -51,14 +51,13 @@ HasHistory plan before now trace answers = IsIdle before now trace answers ⊎ (
 
 -- ---- which device failed
 
--- Of any repository: behind a quiet run its count rose by so many more at least, and stands where there are no more; and behind any run so many
--- are counted at least, so that a count that began at 0 rose. Where it tells, the count rose by as many besides as modules of the run that its
--- faults ended; of one that doesn't tell, such a fault may not be counted: a file that was there is gone.
+-- Of any repository, behind any run: its count rose by so many more at least; behind a quiet run it stands where there are no more. Where it
+-- tells, the count rose by as many besides as modules of the run that its faults ended; of one that doesn't tell, such a fault may not be
+-- counted: a file that was there is gone.
 pub record IsShelfCounted (run : List RunEntry) (more : ℕ) (before now : Outside) : Type 0 where
   pub rose : IfSome before.shelf (λ told. RoseBy (shelf_endings run + more) before.faults now.faults)
-  pub calm : IsQuiet run → RoseBy more before.faults now.faults
+  pub least : RoseBy more before.faults now.faults
   pub still : IsQuiet run → more ≡ 0 → now.faults ≡ before.faults
-  pub least : more ≤ now.faults
 
 -- the area of a hand failed
 abbrev pub AreaFailed : (before now : List HandState) → Type 0

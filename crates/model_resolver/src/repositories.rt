@@ -98,8 +98,38 @@ fn find_remote<R: Remote>(
     Ok(found_as(gav, bytes)?)
 }
 
-// The POM of valid coordinates in the local repository, or else in the remote one.
+// The POM of valid coordinates in the local repository, or else in the remote one, by the name of its file.
 #[tactic(auto, using(crate::proofs::Counting::counted_twice))]
+fn find_named<S: Shelf, R: Remote>(
+    alloc: Global,
+    shelf: &mut S,
+    remote: &mut R,
+    failures: &mut Failures,
+    gav: &Gav,
+    name: &FileName,
+) -> Result<Option<Found>, DeviceFault>
+    requires valid { is_valid gav.now ≡ true }
+    requires name { name.now ≡ file_name gav.now [] (codes "pom") }
+    ensures tells { IfSome (S.told shelf.old) (λ told. IfSome (R.files remote.old) (λ files.
+        IfOk result (λ found. found ≡ option_or (repository_of (files_now told) gav.now)
+        (repository_of files gav.now)))) }
+    ensures shelf { S.told shelf.new ≡ S.told shelf.old }
+    ensures remote { R.files remote.new ≡ R.files remote.old }
+    ensures counted { (tree : ℕ) → Counted failures.old.first failures.new.first
+        (record { tree = tree; shelf = S.faults shelf.old; remote = R.faults remote.old })
+        (record { tree = tree; shelf = S.faults shelf.new; remote = R.faults remote.new }) }
+    ensures noted { IsCounted failures.old → IsCounted failures.new }
+    ensures cause { HasCause failures.old.count failures.new.count (device_failed result) }
+{
+    match find_local(alloc, shelf, failures, gav, name) {
+        Ok(Some(found)) => Ok(Some(found)),
+        Ok(None) => find_remote(alloc, remote, failures, gav, name),
+        Err(fault) => Err(fault),
+    }
+}
+
+// The POM of valid coordinates in the local repository, or else in the remote one.
+#[tactic(auto, using(crate::proofs::Counting::counted_none))]
 fn find_valid<S: Shelf, R: Remote>(
     alloc: Global,
     shelf: &mut S,
@@ -121,11 +151,7 @@ fn find_valid<S: Shelf, R: Remote>(
     ensures cause { HasCause failures.old.count failures.new.count (device_failed result) }
 {
     let name = pom_name(alloc, gav)?;
-    match find_local(alloc, shelf, failures, gav, &name) {
-        Ok(Some(found)) => Ok(Some(found)),
-        Ok(None) => find_remote(alloc, remote, failures, gav, &name),
-        Err(fault) => Err(fault),
-    }
+    find_named(alloc, shelf, remote, failures, gav, &name)
 }
 
 /// The POM of coordinates in the local repository, or else in the remote one; none where the coordinates aren't valid.

@@ -1,7 +1,7 @@
 use Rattle.std.proofs.Common.{ℕ}
 use Rattle.model_resolver.specs.Devices.{Counts}
 use Rattle.model_resolver.proofs.Counting.{counted_twice}
-use Rattle.model_resolver.proofs.repositories.find_valid.Goals as goal
+use Rattle.model_resolver.proofs.repositories.find_named.Goals as goal
 
 pub returns-in-Ok-None-clause-counted : goal.returns-in-Ok-None-clause-counted
 returns-in-Ok-None-clause-counted g c = λ tree.

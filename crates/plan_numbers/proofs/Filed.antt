@@ -24,6 +24,10 @@ within p (x ∷ xs) = by (p x) (within p xs)
     by true h = omega arith
     by false h = omega (arith, h)
 
+-- a place in a list that isn't long fits into 32 bits
+pub small_place : {A : Type 0} (p : A → Bool) (xs : List A) (n : ℕ) → n ≡ position_or_len p xs → length xs < 4294967296 → n < 4294967296
+small_place p xs n is few = omega (arith, within p xs, is, few)
+
 place_or_end : {A : Type 0} (p : A → Bool) (xs : List A) → unwrap_or (position p xs) (length xs) ≡ position_or_len p xs
 place_or_end p xs = by (nat_lt (position_or_len p xs) (length xs)) refl
   where

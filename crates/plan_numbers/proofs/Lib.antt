@@ -1,3 +1,4 @@
+pub mod Counting
 pub mod Filed
 pub mod FirstPlaces
 pub mod Joined

@@ -1,5 +1,5 @@
 -- A module made ready, and what its entries in the plan are made from. Own words.
-use Rattle.std.specs.Prelude.{ℕ, not, List, [], ◌∷◌, ◌++◌, flat_map, fold, length, map}
+use Rattle.std.specs.Prelude.{ℕ, ◌+◌, ◌*◌, not, List, [], ◌∷◌, ◌++◌, flat_map, fold, length, map}
 use Rattle.mvn_base.specs.Gav.{lock_name}
 use Rattle.mvn_base.specs.declared.gav.Gav.{Gav}
 use Rattle.mvn_base.specs.declared.phase.Phase.{Phase}
@@ -49,6 +49,15 @@ files_in r = r.fetch ++ names_in r.outputs
 
 abbrev pub ready_files : List Ready → List (List ℕ)
 ready_files modules = fold with_name [] (flat_map files_in modules)
+
+-- ---- the greatest number of events of modules that are ready: of one, and of all
+
+abbrev pub ready_events : Ready → ℕ
+ready_events r = 6 + 4 * length r.locks + 2 * length r.fetch + 2 * length r.outputs + length r.goals.calls
+
+abbrev pub all_ready_events : List Ready → ℕ
+all_ready_events [] = 0
+all_ready_events (r ∷ modules) = ready_events r + all_ready_events modules
 
 -- ---- the plan's module of one that is ready
 

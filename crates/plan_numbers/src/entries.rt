@@ -1,5 +1,5 @@
 // The entries of a module's classpaths.
-ghost use Rattle.std.specs.Prelude.{◌≡◌, ◌++◌, [], ◌∷◌, true, ◌&&◌, filter, if◌then◌else◌, IfOk, OnOk};
+ghost use Rattle.std.specs.Prelude.{◌≡◌, ◌<◌, ◌++◌, [], ◌∷◌, true, ◌&&◌, filter, length, if◌then◌else◌, IfOk, OnOk};
 ghost use Rattle.classpaths.specs.Classpaths.{artifact_file, has_scope, is_on};
 ghost use Rattle.classpaths.specs.declared.classpath.Kind.TheVariants as kinds;
 ghost use Rattle.plan_numbers.specs.Plans.{entries_of, entry_of, kept_output, origin_of};
@@ -13,18 +13,8 @@ use classpaths::{Kind, Resolved};
 use collector::Scope;
 use goal_types::{GoalCall, Slot};
 use mvn_base::{FileName, Gav, handler};
-use mvn_shared::{List, Mem, OutOfMemory, Shared};
+use mvn_shared::{List, Mem, Shared};
 use std::alloc::Global;
-
-/// A place as a number of 32 bits; more places than that are want of memory.
-pub(crate) fn small(place: usize) -> Mem<u32>
-    ensures { IfOk result (λ number. number ≡ place) }
-{
-    match u32::try_from(place) {
-        Ok(number) => Ok(number),
-        Err(_) => Err(OutOfMemory),
-    }
-}
 
 // Whether a classpath has the dependencies of a scope.
 fn has_scope(kind: Kind, scope: Scope) -> bool
@@ -57,19 +47,23 @@ fn origin_of(
     name: &FileName,
 ) -> Mem<Origin>
     requires name { name.now ≡ artifact_file winner.now }
+    requires few_built { length built.now < 4294967296 }
+    requires few_files { length files.now < 4294967296 }
     ensures { IfOk result (λ origin. origin ≡ origin_of built.now files.now winner.now) }
 {
     if built.has(&winner.gav) {
-        let place = small(built.place(&winner.gav))?;
+        let place = built.place(&winner.gav);
         let slot = slot_of(alloc, winner)?;
         return Ok(kept_output(place, slot));
     }
-    Ok(Origin::File(small(files.number(name.as_text()))?))
+    Ok(Origin::File(files.number(name.as_text())))
 }
 
 // The entry of a dependency.
 fn entry_of(alloc: Global, built: &Places<Gav>, files: &FileList, winner: &Resolved) -> Mem<Entry>
     requires names { has_names winner.now ≡ true }
+    requires few_built { length built.now < 4294967296 }
+    requires few_files { length files.now < 4294967296 }
     ensures { IfOk result (λ entry. entry ≡ entry_of built.now files.now winner.now) }
 {
     let is_jar = handler(alloc, &winner.kind)?.on_classpath;
@@ -100,6 +94,8 @@ fn push_entry(
     winner: &Resolved,
     entries: &mut List<Entry>,
 ) -> Mem<()>
+    requires few_built { length built.now < 4294967296 }
+    requires few_files { length files.now < 4294967296 }
     ensures { OnOk result (entries.new ≡ (if has_names winner.now && is_on kinds.Test winner.now
         then entries.old ++ entry_of built.now files.now winner.now ∷ [] else entries.old)) }
 {
@@ -120,6 +116,8 @@ fn all_entries(
     files: &FileList,
     winners: &[Shared<Resolved>],
 ) -> Mem<List<Entry>>
+    requires few_built { length built.now < 4294967296 }
+    requires few_files { length files.now < 4294967296 }
     ensures { IfOk result (λ entries. entries
         ≡ entries_of built.now files.now (filter has_names winners.now)) }
 {
@@ -139,6 +137,8 @@ pub(crate) fn entries_of(
     calls: &[GoalCall],
     winners: &[Shared<Resolved>],
 ) -> Mem<List<Entry>>
+    requires few_built { length built.now < 4294967296 }
+    requires few_files { length files.now < 4294967296 }
     ensures { IfOk result (λ entries. entries
         ≡ entries_of built.now files.now (used_by calls.now winners.now)) }
 {

@@ -1,8 +1,9 @@
 // The files of a plan, by number.
-ghost use Rattle.std.specs.Prelude.{◌≡◌, [], length, unwrap_or, IfOk, OnOk};
+ghost use Rattle.std.specs.Prelude.{◌≡◌, ◌<◌, [], length, unwrap_or, IfOk, OnOk};
 ghost use Rattle.classpaths.specs.Classpaths.{with_name};
 ghost use Rattle.plan_numbers.specs.Numbers.{number_of};
 
+use crate::places::small;
 use indexmap::IndexMap;
 use mvn_base::FileName;
 use mvn_shared::{List, Mem, Text};
@@ -54,11 +55,20 @@ impl FileList {
         Ok(())
     }
 
-    /// The number of a name; the length of the list if it isn't there. Costs its length, on the average.
-    pub(crate) fn number(&self, name: &Text) -> usize
+    // The place of a name; the length of the list if it isn't there.
+    fn place(&self, name: &Text) -> usize
         ensures { result ≡ number_of self.now name.now }
     {
         place_or(self.names.get_index_of(name), self.names.len())
+    }
+
+    /// The number of a name; the length of the list if it isn't there. Costs its length, on the average.
+    #[tactic(auto, using(crate::proofs::Filed::small_place))]
+    pub(crate) fn number(&self, name: &Text) -> u32
+        requires few { length self.now < 4294967296 }
+        ensures { result ≡ number_of self.now name.now }
+    {
+        small(self.place(name))
     }
 
     pub(crate) fn into_list(self, alloc: Global) -> Mem<List<FileName>>

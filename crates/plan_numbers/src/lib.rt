@@ -2,6 +2,7 @@
 #![tactic(auto)]
 
 mod entries;
+mod events;
 mod files;
 mod numbers;
 mod outputs;

@@ -1,11 +1,11 @@
 // A module of a plan: its numbers.
-ghost use Rattle.std.specs.Prelude.{◌≡◌, map, IfOk};
+ghost use Rattle.std.specs.Prelude.{◌≡◌, ◌<◌, length, map, IfOk};
 ghost use Rattle.plan_numbers.specs.Numbers.{number_of, numbers_of};
 ghost use Rattle.plan_numbers.specs.Plans.{budget_of, own_file};
 ghost use Rattle.mvn_base.specs.Gav.{lock_name};
 ghost use Rattle.plan_numbers.specs.Ready.{numbers_with, part_of, part_with};
 
-use crate::entries::{entries_of, small};
+use crate::entries::entries_of;
 use crate::files::FileList;
 use crate::outputs::is_pom;
 use crate::places::Places;
@@ -42,54 +42,58 @@ pub struct Part {
 
 // The numbers of names.
 fn name_numbers(alloc: Global, names: &Places<Text>, some: &[Text]) -> Mem<List<u32>>
+    requires few_names { length names.now < 4294967296 }
     ensures { IfOk result (λ list. list ≡ numbers_of names.now some.now) }
 {
     let mut list = List::new(alloc);
     for name in some {
-        list.push(small(names.place(name))?)?;
+        list.push(names.place(name))?;
     }
     Ok(list)
 }
 
 // The numbers of files.
 fn file_numbers(alloc: Global, files: &FileList, some: &[FileName]) -> Mem<List<u32>>
+    requires few_files { length files.now < 4294967296 }
     ensures { IfOk result (λ list. list ≡ numbers_of files.now some.now) }
 {
     let mut list = List::new(alloc);
     for name in some {
-        list.push(small(files.number(name.as_text()))?)?;
+        list.push(files.number(name.as_text()))?;
     }
     Ok(list)
 }
 
 // The file of an output.
-fn own_file(files: &FileList, output: &Output) -> Mem<OwnFile>
-    ensures { IfOk result (λ own. own ≡ own_file files.now output.now) }
+fn own_file(files: &FileList, output: &Output) -> OwnFile
+    requires few_files { length files.now < 4294967296 }
+    ensures { result ≡ own_file files.now output.now }
 {
-    let file = small(files.number(output.name.as_text()))?;
-    Ok(OwnFile {
+    OwnFile {
         slot: output.slot,
-        file,
-    })
+        file: files.number(output.name.as_text()),
+    }
 }
 
 // The files of outputs.
 fn own_files(alloc: Global, files: &FileList, outputs: &[Output]) -> Mem<List<OwnFile>>
+    requires few_files { length files.now < 4294967296 }
     ensures { IfOk result (λ list. list ≡ map (own_file files.now) outputs.now) }
 {
     let mut list = List::new(alloc);
     for output in outputs {
-        list.push(own_file(files, output)?)?;
+        list.push(own_file(files, output))?;
     }
     Ok(list)
 }
 
 // The number of a module's own lock.
 fn own_name(alloc: Global, names: &Places<Text>, gav: &Gav) -> Mem<u32>
+    requires few_names { length names.now < 4294967296 }
     ensures { IfOk result (λ number. number ≡ number_of names.now (lock_name gav.now)) }
 {
     let name = lock_name(alloc, gav)?;
-    small(names.place(&name))
+    Ok(names.place(&name))
 }
 
 // The most bytes that the kept outputs of one of so many modules may have.
@@ -107,6 +111,9 @@ fn numbers_of(
     files: &FileList,
     ready: &Ready,
 ) -> Mem<Numbers>
+    requires few_built { length built.now < 4294967296 }
+    requires few_names { length names.now < 4294967296 }
+    requires few_files { length files.now < 4294967296 }
     ensures { IfOk result (λ n. n ≡ numbers_with built.now names.now files.now ready.now) }
 {
     let own_name = own_name(alloc, names, &ready.selected.model.gav)?;
@@ -172,6 +179,9 @@ pub(crate) fn part_of(
     files: &FileList,
     ready: Ready,
 ) -> Mem<Part>
+    requires few_built { length built.now < 4294967296 }
+    requires few_names { length names.now < 4294967296 }
+    requires few_files { length files.now < 4294967296 }
     ensures { IfOk result (λ part. part ≡ part_of built.now names.now files.now ready) }
 {
     let numbers = numbers_of(alloc, built, names, files, &ready)?;

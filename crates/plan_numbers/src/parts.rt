@@ -1,5 +1,5 @@
 // All modules of a plan.
-ghost use Rattle.std.specs.Prelude.{◌≡◌, IfOk, OnOk};
+ghost use Rattle.std.specs.Prelude.{◌≡◌, ◌<◌, length, IfOk, OnOk};
 ghost use Rattle.plan_numbers.specs.Parts.{no_parts, parts_of, with_part};
 
 use crate::files::FileList;
@@ -52,6 +52,9 @@ pub(crate) fn parts_of(
     files: &FileList,
     modules: List<Ready>,
 ) -> Mem<Parts>
+    requires few_built { length built.now < 4294967296 }
+    requires few_names { length names.now < 4294967296 }
+    requires few_files { length files.now < 4294967296 }
     ensures { IfOk result (λ parts. parts ≡ parts_of built.now names.now files.now modules) }
 {
     let mut parts = no_parts(alloc);

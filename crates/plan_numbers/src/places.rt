@@ -1,5 +1,5 @@
 // Lists that are searched by their items.
-ghost use Rattle.std.specs.Prelude.{◌≡◌, Some, None, cond, length, IfOk, OnOk};
+ghost use Rattle.std.specs.Prelude.{◌≡◌, ◌<◌, Some, None, cond, length, IfOk, OnOk};
 ghost use Rattle.std.specs.HashMap.{get};
 ghost use Rattle.std.specs.List.{list_any, position_from, position_or_len};
 ghost use Rattle.std.specs.Option.{option_or};
@@ -10,6 +10,14 @@ use std::alloc::Global;
 use std::collections::HashMap;
 use std::hash::Hash;
 use std::marker::Model;
+
+/// A place as a number of 32 bits.
+pub(crate) fn small(place: usize) -> u32
+    requires { place < 4294967296 }
+    ensures { result ≡ place }
+{
+    place as u32
+}
 
 /// What a list can be searched for.
 pub(crate) trait Item: Eq + Hash + Drop {
@@ -89,14 +97,23 @@ impl<K: Item> Places<K> {
         self.places.contains_key(item)
     }
 
-    /// The first place of an item, the length of the list if it isn't there. Constant time on the average.
-    pub(crate) fn place(&self, item: &K) -> usize
+    // The first place of an item, the length of the list if it isn't there.
+    fn first(&self, item: &K) -> usize
         ensures { result ≡ position_or_len (K.eq item.now) self.now }
     {
         match self.places.get(item) {
             Some(at) => *at,
             None => self.items.len(),
         }
+    }
+
+    /// The first place of an item, the length of the list if it isn't there. Constant time on the average.
+    #[tactic(auto, using(crate::proofs::Filed::small_place))]
+    pub(crate) fn place(&self, item: &K) -> u32
+        requires few { length self.now < 4294967296 }
+        ensures { result ≡ position_or_len (K.eq item.now) self.now }
+    {
+        small(self.first(item))
     }
 
     /// The number of items. Constant time.

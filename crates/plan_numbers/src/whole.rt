@@ -1,10 +1,12 @@
 // The names, the files and the modules of a plan.
-ghost use Rattle.std.specs.Prelude.{◌≡◌, map, IfOk};
+ghost use Rattle.std.specs.Prelude.{◌≡◌, ◌≤◌, length, map, IfOk};
 ghost use Rattle.std.specs.List.{AllByRecursion};
-ghost use Rattle.plan_numbers.specs.Ready.{ready};
+ghost use Rattle.plan_numbers.specs.Plans.{most_events};
+ghost use Rattle.plan_numbers.specs.Ready.{all_ready_events, ready};
 ghost use Rattle.plan_numbers.specs.Uses.{gavs};
-ghost use Rattle.plan_numbers.specs.Whole.{HasGav, numbered_of};
+ghost use Rattle.plan_numbers.specs.Whole.{HasGav, numbered_few, numbered_if, numbered_with};
 
+use crate::events::count_events;
 use crate::numbers::copy_of;
 use crate::parts::{Parts, parts_of};
 use crate::places::Places;
@@ -21,6 +23,8 @@ pub struct Numbered {
     pub names: List<Text>,
     pub files: List<FileName>,
     pub parts: Parts,
+    /// The greatest number of its events.
+    pub events: u64,
 }
 
 // The coordinates of the modules.
@@ -51,22 +55,55 @@ fn all_ready(
     Ok(list)
 }
 
-/// The names, the files and the modules of the plan of modules that are built, in the order of the build, up to a phase. Nearly linear in
-/// the names of their dependencies. Guide to Working with Multiple Modules; Introduction to the Build Lifecycle.
-#[tactic(auto, using(crate::proofs::Joined::numbered_is))]
-pub fn number_modules(alloc: Global, phase: Phase, modules: List<SelectedModule>) -> Mem<Numbered>
-    requires names { AllByRecursion HasGav modules }
-    ensures { IfOk result (λ n. n ≡ numbered_of phase modules) }
+// The names, the files and the modules of the plan of modules that are ready, whose events are counted.
+#[tactic(auto, using(crate::proofs::Joined::put_together, crate::proofs::Counting::few_built, crate::proofs::Counting::few_names, crate::proofs::Counting::few_files))]
+fn numbered_with(
+    alloc: Global,
+    built: &Places<Gav>,
+    modules: List<Ready>,
+    events: u64,
+) -> Mem<Numbered>
+    requires each { length built.now ≡ length modules }
+    requires few { all_ready_events modules ≤ most_events }
+    ensures { IfOk result (λ n. n ≡ numbered_with built.now modules events) }
 {
-    let built = Places::of(alloc, gavs_of(alloc, modules.as_slice())?)?;
-    let ready = all_ready(alloc, phase, &built, modules)?;
-    let names = Places::of(alloc, names_of(alloc, ready.as_slice())?)?;
-    let files = files_of(alloc, ready.as_slice())?;
-    let parts = parts_of(alloc, &built, &names, &files, ready)?;
+    let names = Places::of(alloc, names_of(alloc, modules.as_slice())?)?;
+    let files = files_of(alloc, modules.as_slice())?;
+    let parts = parts_of(alloc, built, &names, &files, modules)?;
     let list = files.into_list(alloc)?;
     Ok(Numbered {
         names: names.into_items(),
         files: list,
         parts,
+        events,
     })
+}
+
+// So of modules that are ready; nothing if they have too many events.
+#[tactic(auto, using(crate::proofs::Counting::is_few, crate::proofs::Joined::some_few, crate::proofs::Joined::none_few))]
+fn numbered_few(alloc: Global, built: &Places<Gav>, modules: List<Ready>) -> Mem<Option<Numbered>>
+    requires each { length built.now ≡ length modules }
+    ensures { IfOk result (λ n. n ≡ numbered_few built.now modules) }
+{
+    match count_events(modules.as_slice()) {
+        Some(events) => Ok(Some(numbered_with(alloc, built, modules, events)?)),
+        None => Ok(None),
+    }
+}
+
+/// The names, the files and the modules of the plan of modules that are built, in the order of the build, up to a phase; nothing if it has
+/// more than 4,194,304 events, which are counted first. Nearly linear in the names of their dependencies. Guide to Working with Multiple
+/// Modules; Introduction to the Build Lifecycle; the number is a project rule.
+#[tactic(auto, using(crate::proofs::Joined::same_count, crate::proofs::Joined::given))]
+pub fn number_modules(
+    alloc: Global,
+    phase: Phase,
+    modules: List<SelectedModule>,
+) -> Mem<Option<Numbered>>
+    requires names { AllByRecursion HasGav modules }
+    ensures { IfOk result (λ n. n ≡ numbered_if phase modules) }
+{
+    let built = Places::of(alloc, gavs_of(alloc, modules.as_slice())?)?;
+    let ready = all_ready(alloc, phase, &built, modules)?;
+    numbered_few(alloc, &built, ready)
 }

@@ -1,7 +1,6 @@
 //! The plan of the modules that are built.
 #![tactic(auto)]
 
-mod events;
 mod planning;
 mod present;
 

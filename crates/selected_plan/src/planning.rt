@@ -13,7 +13,6 @@ ghost use Rattle.plan_numbers.specs.Plans.{numbered, present_in, IsNumbered};
 ghost use Rattle.plan_numbers.specs.Whole.{HasGav};
 ghost use Rattle.selected_plan.specs.Stages.{IsAssembled, assembled, too_many};
 
-use crate::events::count_events;
 use crate::present::present_in;
 use build_core::Plan;
 use model_resolver::{Failures, PomDevice};
@@ -35,8 +34,8 @@ fn refused(alloc: Global) -> Result<Planned, BuildFault>
 }
 
 // A plan of its parts.
-fn assembled(numbered: Numbered, workers: u32, events: u64, present: List<bool>) -> Planned
-    ensures { result ≡ assembled numbered workers events present }
+fn assembled(numbered: Numbered, workers: u32, present: List<bool>) -> Planned
+    ensures { result ≡ assembled numbered workers present }
 {
     let parts = numbered.parts;
     let plan = Plan {
@@ -45,7 +44,7 @@ fn assembled(numbered: Numbered, workers: u32, events: u64, present: List<bool>)
         files: numbered.files,
         present,
         workers,
-        events,
+        events: numbered.events,
     };
     Planned {
         plan,
@@ -60,20 +59,19 @@ fn noted(
     failures: &mut Failures,
     numbered: Numbered,
     workers: u32,
-    events: u64,
     present: Result<List<bool>, DeviceFault>,
 ) -> Result<Planned, BuildFault>
     ensures says { (local : Files) → IfOk present (λ list. list ≡ present_in local numbered.files)
-        → Says (Ok (assembled numbered workers events (present_in local numbered.files))) result }
+        → Says (Ok (assembled numbered workers (present_in local numbered.files))) result }
     ensures made { IfOk present (λ list. length list ≡ length numbered.files)
-        → IfOk result (IsAssembled numbered workers events) }
+        → IfOk result (IsAssembled numbered workers) }
     ensures first { failures.new.first
         ≡ first_after devices.Shelf (device_failed present) failures.old.first }
     ensures failed { build_failed result ≡ device_failed present }
     ensures cause { HasCause failures.old.count failures.new.count (device_failed present) }
 {
     match present {
-        Ok(list) => Ok(assembled(numbered, workers, events, list)),
+        Ok(list) => Ok(assembled(numbered, workers, list)),
         Err(DeviceFault::Failed) => {
             failures.note(PomDevice::Shelf);
             Err(BuildFault::Source)
@@ -90,12 +88,11 @@ fn with_present<S: Shelf>(
     failures: &mut Failures,
     workers: u32,
     numbered: Numbered,
-    events: u64,
 ) -> Result<Planned, BuildFault>
     requires none { failures.old.first ≡ None }
-    ensures says { IfSome (S.told shelf.old) (λ told. Says (Ok (assembled numbered workers events
+    ensures says { IfSome (S.told shelf.old) (λ told. Says (Ok (assembled numbered workers
         (present_in (files_now told) numbered.files))) result) }
-    ensures made { IfOk result (IsAssembled numbered workers events) }
+    ensures made { IfOk result (IsAssembled numbered workers) }
     ensures same { S.told shelf.new ≡ S.told shelf.old }
     ensures counted { (tree remote : ℕ) → Counted failures.old.first failures.new.first
         (record { tree = tree; shelf = S.faults shelf.old; remote = remote })
@@ -104,11 +101,11 @@ fn with_present<S: Shelf>(
     ensures cause { HasCause failures.old.count failures.new.count (build_failed result) }
 {
     let present = present_in(alloc, shelf, numbered.files.as_slice());
-    noted(failures, numbered, workers, events, present)
+    noted(failures, numbered, workers, present)
 }
 
 /// The plan of the modules that are built, in the order of the build, up to a phase, for so many workers; refused if it has more than
-/// 4,194,304 events. It is looked once for each of its files whether it is in the local repository, which isn't asked if a device failed
+/// 4,194,304 events, which are counted before its names and files are numbered. It is looked once for each of its files whether it is in the local repository, which isn't asked if a device failed
 /// before. Nearly linear in the names of the modules' dependencies. Guide to Working with Multiple Modules; Introduction to the Build
 /// Lifecycle; the numbers are project rules.
 #[tactic(auto, using(model_resolver::proofs::Counting::counted_still, model_resolver::proofs::Counting::counts_still, model_resolver::proofs::Counting::counted_none))]
@@ -135,13 +132,12 @@ pub fn plan_selected<S: Shelf>(
         failures.note(PomDevice::Shelf);
         return Err(BuildFault::Source);
     }
-    let numbered = match number_modules(alloc, phase, modules) {
-        Ok(numbered) => numbered,
+    let plan = match number_modules(alloc, phase, modules) {
+        Ok(plan) => plan,
         Err(_) => return Err(BuildFault::Memory),
     };
-    let events = count_events(numbered.parts.modules.as_slice());
-    match events {
-        Some(events) => with_present(alloc, shelf, failures, workers, numbered, events),
+    match plan {
+        Some(numbered) => with_present(alloc, shelf, failures, workers, numbered),
         None => refused(alloc),
     }
 }

@@ -1,7 +1,7 @@
 use Rattle.std.proofs.Common.{ap, ◌∙◌}
 use Rattle.plan_numbers.specs.Numbers.{number_of}
 use Rattle.plan_numbers.proofs.Filed.{number_is}
-use Rattle.plan_numbers.proofs.files.FileList.number.Goals as goal
+use Rattle.plan_numbers.proofs.files.FileList.place.Goals as goal
 
 pub returns : goal.returns
 returns c =

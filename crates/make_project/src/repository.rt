@@ -25,6 +25,17 @@ fn external(alloc: Global, artifact: &str) -> Mem<Gav>
     })
 }
 
+// The name of a file of coordinates.
+fn file_named(alloc: Global, gav: &Gav, extension: &str) -> Mem<FileName>
+    requires valid { IsValid gav.now }
+    requires extension { is_name extension.now ≡ true }
+    ensures { IfOk result (λ name. name ≡ file_name gav.now [] extension.now) }
+{
+    let none = Text::from_str(alloc, "")?;
+    let extension = Text::from_str(alloc, extension)?;
+    file_of(alloc, gav, &none, &extension)
+}
+
 // The name of a library's file.
 #[tactic(auto, using(crate::proofs::Names::valid_external))]
 fn name_of(alloc: Global, artifact: &str, extension: &str) -> Mem<FileName>
@@ -33,9 +44,7 @@ fn name_of(alloc: Global, artifact: &str, extension: &str) -> Mem<FileName>
     ensures { IfOk result (λ name. name ≡ file_name (external artifact.now) [] extension.now) }
 {
     let gav = external(alloc, artifact)?;
-    let none = Text::from_str(alloc, "")?;
-    let extension = Text::from_str(alloc, extension)?;
-    file_of(alloc, &gav, &none, &extension)
+    file_named(alloc, &gav, extension)
 }
 
 // A file of a library.

@@ -38,6 +38,11 @@ refusal_gives x (Err Absent) e = cc
 refusal_gives x (Err Source) e = record {}
 refusal_gives x (Err Memory) e = record {}
 
+-- a refusal gives nothing
+pub refused_none : (x : BuildFault) (r : Result ProjectModels BuildFault) (P : ProjectModels → Type 0) → Says {A = ProjectModels} (Err x) r → IfOk r P
+refused_none x (Ok p) P e = cc
+refused_none x (Err y) P e = tt
+
 -- a double
 pub gives_double : (poms list : List ProjectPom) (models : List Model) (double : Option Double) (d : Double) (r : Result ProjectModels BuildFault) → list ≡ poms → double ≡ first_double [] (zip list models) → double ≡ Some d
     → Says {A = ProjectModels} (Err (text_refused (ids.Path d.later) DuplicateProject d.earlier)) r → Gives (single poms models) r

@@ -1,5 +1,5 @@
 // Who has the bytes of a text.
-ghost use Rattle.std.specs.Prelude.{◌≡◌, ◌++◌, IfOk};
+ghost use Rattle.std.specs.Prelude.{◌≡◌, ◌++◌, length, IfOk};
 ghost use Rattle.std.specs.String.{string_bytes};
 ghost use Rattle.mvn_shared.specs.Held.{held_bytes};
 
@@ -8,13 +8,22 @@ use crate::part::Part;
 use crate::shared::Shared;
 use std::alloc::{AllocError, Global};
 
-/// The bytes of a text: it alone has them, and may add to them, or it shares them with its copies, or they are a part of a text that others
-/// share too.
+/// The bytes of a text: it alone has them, and may add to them, or they are a part of a text, or all of one, that others share too.
 #[derive(Drop)]
 pub enum Held {
     Own(String),
-    Common(Shared<String>),
     Within(Part),
+}
+
+// All of a text that is shared.
+fn whole_of(text: Shared<String>) -> Mem<Held>
+    ensures { IfOk result (λ whole. held_bytes whole ≡ string_bytes text) }
+{
+    let long = text.value().len();
+    match Part::of(&text, 0, long)? {
+        Some(part) => Ok(Held::Within(part)),
+        None => Ok(Held::Own(text.value().clone()?)),
+    }
 }
 
 impl Held {
@@ -27,10 +36,9 @@ impl Held {
                 if text.is_empty() {
                     Ok(Held::Own(text))
                 } else {
-                    Ok(Held::Common(Shared::new(alloc, text)?))
+                    whole_of(Shared::new(alloc, text)?)
                 }
             }
-            Held::Common(text) => Ok(Held::Common(text)),
             Held::Within(part) => Ok(Held::Within(part)),
         }
     }
@@ -39,7 +47,6 @@ impl Held {
     fn allocator(&self) -> Global {
         match self {
             Held::Own(text) => *text.allocator(),
-            Held::Common(text) => *text.value().allocator(),
             Held::Within(part) => part.allocator(),
         }
     }
@@ -62,7 +69,6 @@ impl Held {
     {
         match self {
             Held::Own(text) => Ok(Held::Own(text.clone()?)),
-            Held::Common(text) => Ok(Held::Common(text.clone()?)),
             Held::Within(part) => Ok(Held::Within(part.copy()?)),
         }
     }
@@ -73,8 +79,27 @@ impl Held {
     {
         match self {
             Held::Own(text) => text.as_str(),
-            Held::Common(text) => text.value().as_str(),
             Held::Within(part) => part.as_str(),
+        }
+    }
+
+    /// The same as bytes, for comparing and hashing.
+    pub(crate) fn as_bytes(&self) -> &[u8]
+        ensures { result.now ≡ held_bytes self.now }
+    {
+        match self {
+            Held::Own(text) => text.as_bytes(),
+            Held::Within(part) => part.as_bytes(),
+        }
+    }
+
+    /// The number of bytes.
+    pub(crate) fn len(&self) -> usize
+        ensures { result ≡ length (held_bytes self.now) }
+    {
+        match self {
+            Held::Own(text) => text.len(),
+            Held::Within(part) => part.len(),
         }
     }
 }

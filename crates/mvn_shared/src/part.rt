@@ -1,5 +1,5 @@
 // A part of a text that others share too.
-ghost use Rattle.std.specs.Prelude.{◌≡◌, IfOk, IfSome};
+ghost use Rattle.std.specs.Prelude.{◌≡◌, length, IfOk, IfSome};
 ghost use Rattle.std.specs.List.{slice_range};
 ghost use Rattle.std.specs.String.{string_bytes};
 
@@ -72,5 +72,28 @@ impl Part {
             Some(text) => text,
             None => "",
         }
+    }
+
+    /// The same as bytes, without a look at its ends for characters. Constant time.
+    pub(crate) fn as_bytes(&self) -> &[u8]
+        ensures { result.now ≡ self.now }
+    {
+        match self
+            .whole
+            .value()
+            .as_str()
+            .as_bytes()
+            .get(self.from..self.to)
+        {
+            Some(bytes) => bytes,
+            None => &[],
+        }
+    }
+
+    /// The number of bytes. Constant time.
+    pub(crate) fn len(&self) -> usize
+        ensures { result ≡ length self.now }
+    {
+        self.to.wrapping_sub(self.from)
     }
 }

@@ -141,13 +141,13 @@ impl Text {
     pub fn len(&self) -> usize
         ensures { result ≡ length self.now }
     {
-        self.as_str().len()
+        self.held.len()
     }
 
     pub fn is_empty(&self) -> bool
         ensures { IsTrue result ↔ (self.now ≡ []) }
     {
-        self.as_str().is_empty()
+        self.held.len() == 0
     }
 }
 
@@ -187,7 +187,7 @@ impl PartialEq for Text {
     ghost laws = { partial_equiv_from_equiv nat_list_eq_equiv };
 
     fn eq(&self, other: &Self) -> bool {
-        self.as_str() == other.as_str()
+        self.held.as_bytes() == other.held.as_bytes()
     }
 }
 
@@ -225,7 +225,7 @@ impl Ord for Text {
     ghost matches_eq = { texts_ties };
 
     fn cmp(&self, other: &Self) -> Ordering {
-        self.as_str().cmp(other.as_str())
+        self.held.as_bytes().cmp(other.held.as_bytes())
     }
 }
 
@@ -239,6 +239,7 @@ impl Hash for Text {
     ghost respects_eq = { Prim.search (hashing, rules) };
 
     fn hash<H: Hasher>(&self, state: &mut H) {
-        self.as_str().hash(state);
+        state.write(self.held.as_bytes());
+        state.write_u8(0xff);
     }
 }

@@ -1,5 +1,5 @@
 ghost use Rattle.std.specs.Prelude.{◌≡◌, ◌↔◌, ◌==◌, ◌++◌, [], length, IsTrue, IfOk, IsErrOf, OnOk, OnErr};
-ghost use Rattle.std.specs.Str.{IsUtf8};
+ghost use Rattle.std.specs.Str.{IsUtf8, bytes_eq};
 ghost use Rattle.std.specs.String.{string_bytes};
 
 use crate::held::Held;
@@ -135,6 +135,13 @@ impl Text {
         ensures utf8 { IsUtf8 self.now }
     {
         self.as_str().as_bytes()
+    }
+
+    /// Whether it is this text. Costs comparing them, and nothing where their lengths differ.
+    pub fn is(&self, text: &str) -> bool
+        ensures { result ≡ bytes_eq self.now text.now }
+    {
+        self.held.as_bytes() == text.as_bytes()
     }
 
     /// The number of bytes.

@@ -1,4 +1,5 @@
 pub mod Counting
 pub mod Finding
 pub mod Limits
+pub mod Places
 pub mod Validity

@@ -6,5 +6,6 @@ pub use Rattle.pom_source.specs.Worlds
 pub mod Finding
 pub mod Fitting
 pub mod Noting
+pub mod Places
 pub mod Devices
 pub mod Resolving

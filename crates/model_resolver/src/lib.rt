@@ -4,9 +4,11 @@
 mod asking;
 mod failures;
 mod known;
+mod poms;
 mod repositories;
 mod resolver;
 
 pub use asking::ask_tree;
 pub use failures::{Failures, PomDevice};
+pub use poms::ProjectPoms;
 pub use resolver::{ModelResolver, ProjectPom};

@@ -1,6 +1,7 @@
 use crate::asking::{ask_there, ask_tree};
 use crate::failures::Failures;
 use crate::known::{project_at, project_of};
+use crate::poms::ProjectPoms;
 use crate::repositories::find_in_repositories;
 use mvn_base::Gav;
 use mvn_outside::{DeviceFault, Files, Remote, Shelf, Tree};
@@ -18,14 +19,15 @@ pub struct ProjectPom {
 
 /// Looks POMs up: by their path in the project's folder; by their coordinates among the project's POMs first, then in the local
 /// repository, then in the remote one. Each of the project's POMs that was read is answered from memory. It counts its failures, and
-/// keeps which device failed first; after that no device is asked. Maven Model Builder, `ModelResolver`.
+/// keeps which device failed first; after that no device is asked. A look-up by coordinates among the project's POMs costs the
+/// coordinates, on the average. Maven Model Builder, `ModelResolver`.
 #[derive(Drop)]
 pub struct ModelResolver<'t, 's, 'r, 'p, T, S, R> {
     pub alloc: Global,
     pub tree: &'t mut T,
     pub shelf: &'s mut S,
     pub remote: &'r mut R,
-    pub project: &'p [ProjectPom],
+    pub project: &'p ProjectPoms<'p>,
     pub failures: Failures,
 }
 

@@ -18,7 +18,7 @@ use classpaths::Resolution;
 use effective::RunStore;
 use managed_deps::{ManagedSet, managed};
 use mediation::{Lookup, MediationFault};
-use model_resolver::{Failures, ModelResolver, ProjectPom};
+use model_resolver::{Failures, ModelResolver, ProjectPom, ProjectPoms};
 use model_types::Model;
 use mvn_base::{Place, PomId, Refusal, Rule};
 use mvn_outside::{Remote, Shelf, Tree};
@@ -129,8 +129,8 @@ fn resolve_kept<L: Whole>(
 /// What each module is built with, in order: its own dependencies are mediated, under what it manages, among the libraries of the run; or
 /// the first refusal, which names the module's POM. A dependency that is a module is known by that module's effective model, any other
 /// by what its POM comes to; one that is missing or refused leads to nothing, and ends nothing. `store` is what was read in the run.
-/// `Source` comes exactly if a device failed. Costs what mediation costs for each module; a POM that many need is built once. Introduction to
-/// the Dependency Mechanism; Guide to Working with Multiple Modules.
+/// `Source` comes exactly if a device failed. Costs what mediation costs for each module, and the coordinates of the modules; a POM that
+/// many need is built once. Introduction to the Dependency Mechanism; Guide to Working with Multiple Modules.
 pub fn resolve_modules<T: Tree, S: Shelf, R: Remote>(
     alloc: Global,
     tree: &mut T,
@@ -162,12 +162,16 @@ pub fn resolve_modules<T: Tree, S: Shelf, R: Remote>(
         Ok(memo) => memo,
         Err(_) => return Err(BuildFault::Memory),
     };
+    let known = match ProjectPoms::of(alloc, poms) {
+        Ok(known) => known,
+        Err(_) => return Err(BuildFault::Memory),
+    };
     let source = ModelResolver {
         alloc,
         tree,
         shelf,
         remote,
-        project: poms,
+        project: &known,
         failures: *failures,
     };
     let mut lookup = RunLookup {

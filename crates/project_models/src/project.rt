@@ -18,7 +18,7 @@ use crate::own::own_store;
 use crate::poms::project_poms;
 use crate::whole::Whole;
 use effective::RunStore;
-use model_resolver::{Failures, ModelResolver, ProjectPom};
+use model_resolver::{Failures, ModelResolver, ProjectPom, ProjectPoms};
 use model_types::Model;
 use mvn_outside::{Remote, Shelf, Tree};
 use mvn_shared::{List, Shared};
@@ -102,12 +102,16 @@ fn find_poms<T: Tree, S: Shelf, R: Remote>(
     ensures cause { HasCause failures.old.count failures.new.count (build_failed result) }
 {
     let none = List::new(alloc);
+    let known = match ProjectPoms::of(alloc, none.as_slice()) {
+        Ok(known) => known,
+        Err(_) => return Err(BuildFault::Memory),
+    };
     let mut resolver = ModelResolver {
         alloc,
         tree,
         shelf,
         remote,
-        project: none.as_slice(),
+        project: &known,
         failures: *failures,
     };
     let poms = poms_in(alloc, store, &mut resolver, given);
@@ -144,12 +148,16 @@ fn find_models<T: Tree, S: Shelf, R: Remote>(
     ensures cause { HasCause failures.old.count failures.new.count (build_failed result) }
 {
     let list = poms.as_slice();
+    let known = match ProjectPoms::of(alloc, list) {
+        Ok(known) => known,
+        Err(_) => return Err(BuildFault::Memory),
+    };
     let mut resolver = ModelResolver {
         alloc,
         tree,
         shelf,
         remote,
-        project: list,
+        project: &known,
         failures: *failures,
     };
     let models = models_in(alloc, store, &mut resolver, given, list);
@@ -265,8 +273,8 @@ fn with_poms<T: Tree, S: Shelf, R: Remote>(
 /// the effective models refuse, module by module; then the first module whose effective coordinates one before it has, with the path of
 /// that one. A POM that coordinates name is looked up among the project's POMs first, then in the local repository, then in the remote
 /// one. What was read and built stays in the store, for the world of these devices. `Source` comes only where a device failed, and then
-/// `failures.first` names it. Each POM's file is read and parsed once; costs what effective models cost besides. Guide to Working with
-/// Multiple Modules; Maven Model Builder, "Model building".
+/// `failures.first` names it. Each POM's file is read and parsed once; costs what effective models cost besides, and the coordinates of
+/// the modules. Guide to Working with Multiple Modules; Maven Model Builder, "Model building".
 #[tactic(auto, using(model_resolver::proofs::Counting::counted_twice))]
 pub fn project_models<T: Tree, S: Shelf, R: Remote>(
     alloc: Global,

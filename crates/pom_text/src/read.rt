@@ -148,7 +148,8 @@ fn read_bytes(alloc: Global, bytes: &[u8]) -> Result<PomText, TextFault>
 /// of which each byte is; then from the left no `<!DOCTYPE` before the root, no element in 64 others, and at last the grammar of
 /// XML 1.0 without DTDs, where the place is the end of the longest list of whole pieces each of which may stand. A
 /// byte order mark of UTF-8 is skipped, and counts in places. One pass for the encoding and one for the elements; time and memory
-/// are linear in the bytes. XML 1.0; own limits.
+/// are linear in the bytes. The texts of the elements share one copy of the POM's text, which lives as long as one of them or of their
+/// copies. XML 1.0; own limits.
 pub fn read_text(alloc: Global, bytes: &[u8]) -> Result<PomText, TextFault>
     ensures answer { Agrees (answer bytes.now) result }
     ensures right { IsAnswered bytes.now result }

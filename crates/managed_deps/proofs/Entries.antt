@@ -1,12 +1,14 @@
 -- Entries under their keys, one after another.
-use Rattle.std.proofs.Common.{◌≡◌, ℕ, suc, length, arith, Bool, true, false, ◌&&◌, List, [], ◌∷◌, ◌++◌, fold, Option, Some, None, is_some, refl, sym, ap, ◌∙◌, if◌then◌else◌}
+use Rattle.std.proofs.Common.{◌≡◌, ℕ, suc, length, arith, Bool, true, false, ◌||◌, List, [], ◌∷◌, ◌++◌, map, fold, Option, Some, None, is_some, refl, sym, ap, ◌∙◌, if◌then◌else◌}
+use Rattle.std.specs.Prelude.{find}
+use Rattle.std.specs.List.{list_any}
 use Rattle.std.specs.Option.{option_or}
-use Rattle.std.specs.Str.{bytes_eq}
 use Rattle.std.proofs.lemmas.Bool.{false≢true}
-use Rattle.std.proofs.lemmas.Slice.Eq.{bytes_eq-Decides}
-use Rattle.indexmap.specs.IndexMap.{insert_entry}
+use Rattle.indexmap.specs.IndexSet.{insert_key}
 use Rattle.mvn_base.specs.declared.key.Key.{Key}
 use Rattle.model_types.specs.declared.dependency.Dependency.{Dependency}
+use Rattle.model_merge.specs.Keyed.{keyed}
+use Rattle.model_merge.proofs.UnderKeys.{find_keyed, same_key_is, values_keyed}
 use Rattle.managed_deps.specs.Managed.{add, find_entry, find_pair, first_of_each, key_of, same_key}
 
 -- a pair's answer, behind the answer of those before it
@@ -14,47 +16,30 @@ either : (b : Bool) (x : Dependency) (o other : Option Dependency) → (if b the
 either true x o other = refl
 either false x o other = refl
 
--- a key that isn't there is put at the end
-pub put_new : (entries : List (Key × Dependency)) (key : Key) (d : Dependency) → is_some (find_pair entries key) ≡ false → insert_entry same_key entries key d ≡ entries ++ (key, d) ∷ []
-put_new [] key d none = refl
-put_new (e ∷ entries) key d none = by (same_key key e.0) refl (put_new entries key d)
+-- whether an entry of a key is among some
+there : (rows : List Dependency) (d : Dependency) → list_any (λ x. same_key (key_of d) (key_of x)) rows ≡ is_some (find_pair (keyed key_of rows) (key_of d))
+there [] d = refl
+there (x ∷ rows) d = by (same_key (key_of d) (key_of x)) (there rows d)
   where
-    by : (b : Bool) → same_key key e.0 ≡ b → (is_some (find_pair entries key) ≡ false → insert_entry same_key entries key d ≡ entries ++ (key, d) ∷ [])
-        → insert_entry same_key (e ∷ entries) key d ≡ (e ∷ entries) ++ (key, d) ∷ []
-    by true s further = absurd (false≢true (sym none ∙ ap (λ b. is_some (if b then Some e.1 else find_pair entries key)) s))
-    by false s further =
-        ap (λ b. if b then (e.0, d) ∷ entries else e ∷ insert_entry same_key entries key d) s
-        ∙ ap (λ l. e ∷ l) (further (sym (ap (λ b. is_some (if b then Some e.1 else find_pair entries key)) s) ∙ none))
+    by : (b : Bool) → list_any (λ x. same_key (key_of d) (key_of x)) rows ≡ is_some (find_pair (keyed key_of rows) (key_of d))
+        → (b || list_any (λ x. same_key (key_of d) (key_of x)) rows) ≡ is_some (if b then Some x else find_pair (keyed key_of rows) (key_of d))
+    by true further = refl
+    by false further = further
+
+keyed_more : (rows : List Dependency) (d : Dependency) → keyed key_of (rows ++ d ∷ []) ≡ keyed key_of rows ++ (key_of d, d) ∷ []
+keyed_more [] d = refl
+keyed_more (x ∷ rows) d = ap (λ l. (key_of x, x) ∷ l) (keyed_more rows d)
 
 -- an entry more, where there is none of its key
-pub added : (before after : List (Key × Dependency)) (key : Key) (d copy : Dependency) (b : Bool) → key ≡ key_of d → copy ≡ d → b ≡ is_some (find_pair before key) → b ≡ false → after ≡ insert_entry same_key before key copy → after ≡ add before d
-added before after key d copy b named same test isnt is =
-    is
-    ∙ ap (λ x. insert_entry same_key before key x) same
-    ∙ put_new before key d (sym test ∙ isnt)
-    ∙ ap (λ k. before ++ (k, d) ∷ []) named
-    ∙ sym (ap (λ t. if t then before else before ++ (key_of d, d) ∷ []) (sym (ap (λ k. is_some (find_pair before k)) named) ∙ sym test ∙ isnt))
-
-and_left : (a b : Bool) → (a && b) ≡ true → a ≡ true
-and_left true b e = refl
-and_left false b e = e
-
-and_right : (a b : Bool) → (a && b) ≡ true → b ≡ true
-and_right true b e = e
-and_right false b e = absurd (false≢true e)
-
-same_text : (a b : List ℕ) → bytes_eq a b ≡ true → a ≡ b
-same_text a b e = (bytes_eq-Decides a b).0 e
-
-same_key_is : (a b : Key) → same_key a b ≡ true → a ≡ b
-same_key_is a b e =
-    let group = same_text a.group b.group (and_left _ _ e) in
-    let rest = and_right (bytes_eq a.group b.group) _ e in
-    let artifact = same_text a.artifact b.artifact (and_left _ _ rest) in
-    let last = and_right (bytes_eq a.artifact b.artifact) _ rest in
-    let kind = same_text a.kind b.kind (and_left _ _ last) in
-    let classifier = same_text a.classifier b.classifier (and_right (bytes_eq a.kind b.kind) _ last) in
-    λ i. record { group = group i; artifact = artifact i; kind = kind i; classifier = classifier i }
+pub row_more : (before after : List Dependency) (d : Dependency) → after ≡ insert_key (λ a b. same_key (key_of a) (key_of b)) before d → keyed key_of after ≡ add (keyed key_of before) d
+row_more before after d is =
+    ap (λ l. keyed key_of l) is
+    ∙ by (list_any (λ x. same_key (key_of d) (key_of x)) before)
+    ∙ ap (λ b. if b then keyed key_of before else keyed key_of before ++ (key_of d, d) ∷ []) (there before d)
+  where
+    by : (b : Bool) → keyed key_of (if b then before else before ++ d ∷ []) ≡ (if b then keyed key_of before else keyed key_of before ++ (key_of d, d) ∷ [])
+    by true = refl
+    by false = keyed_more before d
 
 -- what is found behind a list and one pair more
 find_last : (entries : List (Key × Dependency)) (wanted key : Key) (d : Dependency) → find_pair (entries ++ (key, d) ∷ []) wanted ≡ option_or (find_pair entries wanted) (if same_key wanted key then Some d else None)
@@ -106,9 +91,17 @@ pub found : (entries : List Dependency) (key : Key) → find_pair (first_of_each
 found entries key = find_folded [] entries key
 
 -- nothing is found where there is nothing
-pub nothing : (entries : List (Key × Dependency)) (key : Key) → length entries ≡ 0 → None ≡ find_pair entries key
-nothing [] key none = refl
-nothing (e ∷ entries) key some = absurd (filled (length entries) some)
+pub nothing : (rows : List Dependency) (entries : List (Key × Dependency)) (key : Key) → length rows ≡ 0 → keyed key_of rows ≡ entries → None ≡ find_pair entries key
+nothing [] entries key none seen = ap (λ l. find_pair l key) seen
+nothing (x ∷ rows) entries key some seen = absurd (filled (length rows) some)
   where
     filled : (n : ℕ) → suc n ≡ 0 → ⊥
     filled n e = omega (arith, e)
+
+-- what has a key is found under it
+pub row_there : (rows : List Dependency) (entries : List (Key × Dependency)) (key : Key) (found : Option Dependency) → found ≡ find (λ d. same_key key (key_of d)) rows → keyed key_of rows ≡ entries → found ≡ find_pair entries key
+row_there rows entries key found is seen = is ∙ sym (find_keyed key_of rows key) ∙ ap (λ l. find_pair l key) seen
+
+-- entries without their keys
+pub values : (list rows : List Dependency) (entries : List (Key × Dependency)) → list ≡ rows → keyed key_of rows ≡ entries → list ≡ map (λ e. e.1) entries
+values list rows entries is seen = is ∙ sym (values_keyed key_of rows) ∙ ap (λ l. map (λ e. e.1) l) seen

@@ -2,6 +2,7 @@
 #![tactic(auto)]
 
 mod application;
+mod row;
 mod set;
 
 pub use application::{apply, apply_plugins};

@@ -42,11 +42,7 @@ pub(crate) fn named<'a>(nodes: &'a [Node], k: u32, name: &str) -> Option<&'a Nod
     ensures { option_copied result ≡ named nodes.now name.now k }
 {
     let node = at(nodes, k)?;
-    if same(name_of(node), name) {
-        Some(node)
-    } else {
-        None
-    }
+    if node.name.is(name) { Some(node) } else { None }
 }
 
 /// The first element of a name in another, or in none. Costs the number of elements in it.
@@ -62,14 +58,17 @@ pub(crate) fn child<'a>(nodes: &'a [Node], node: Option<&'a Node>, name: &str) -
     None
 }
 
-// A text without the white space round it, which its copies share: coordinates are copied into keys and edges often. One that has
-// none is shared with the element's.
+// A text and what is in it without the white space round it.
+type Inside<'a> = (&'a Text, &'a str);
+
+// A copy of what is in a text without the white space round it, which its copies share: coordinates are copied into keys and edges often.
+// One that has none is shared with the element's.
 #[tactic(auto, using(crate::proofs::Texts::is_same))]
-fn copied(alloc: Global, text: &Text) -> Mem<Text>
-    ensures { IfOk result (λ copy. copy ≡ trimmed text.now) }
+fn copied(alloc: Global, found: Inside<'_>) -> Mem<Text>
+    ensures { IfOk result (λ copy. copy ≡ found.entry.1.now) }
 {
-    let inside = trimmed(text.as_str());
-    if same(text.as_str(), inside) {
+    let (text, inside) = found;
+    if text.is(inside) {
         return text.clone()?.shared(alloc);
     }
     Text::from_str(alloc, inside)?.shared(alloc)
@@ -79,24 +78,25 @@ fn copied(alloc: Global, text: &Text) -> Mem<Text>
 pub(crate) fn own_text(alloc: Global, node: &Node) -> Mem<Text>
     ensures { IfOk result (λ text. text ≡ trimmed node.now.text) }
 {
-    copied(alloc, &node.text)
+    copied(alloc, (&node.text, trimmed(node.text.as_str())))
 }
 
-// A text, where more than white space stands in it.
-fn filled_text(text: &Text) -> Option<&Text>
-    ensures { option_map (λ text. trimmed text.now) result ≡ non_empty (trimmed text.now) }
+// What is in a text, where that is more than white space.
+fn filled_text(text: &Text) -> Option<Inside<'_>>
+    ensures { option_map (λ i. i.1.now) result ≡ non_empty (trimmed text.now) }
 {
-    if trimmed(text.as_str()).is_empty() {
+    let inside = trimmed(text.as_str());
+    if inside.is_empty() {
         None
     } else {
-        Some(text)
+        Some((text, inside))
     }
 }
 
 // The text of the first element of a name, where more than white space stands in it.
 #[tactic(auto, unfolding(crate::specs::Elements::text_of))]
-fn filled<'a>(nodes: &'a [Node], node: Option<&'a Node>, name: &str) -> Option<&'a Text>
-    ensures { option_map (λ text. trimmed text.now) result
+fn filled<'a>(nodes: &'a [Node], node: Option<&'a Node>, name: &str) -> Option<Inside<'a>>
+    ensures { option_map (λ i. i.1.now) result
         ≡ text_of nodes.now name.now (option_copied node.entry) }
 {
     let child = child(nodes, node, name)?;
@@ -108,7 +108,7 @@ fn filled_or<'a>(nodes: &'a [Node], node: Option<&'a Node>, name: &str, default:
     ensures { result.now ≡ text_or nodes.now name.now default.now (option_copied node.entry) }
 {
     match filled(nodes, node, name) {
-        Some(text) => trimmed(text.as_str()),
+        Some((_, inside)) => inside,
         None => default,
     }
 }
@@ -119,7 +119,7 @@ fn default_like(alloc: Global, default: &str, like: Option<&Text>) -> Mem<Text>
     ensures { IfOk result (λ text. text ≡ default.now) }
 {
     if let Some(text) = like {
-        if same(text.as_str(), default) {
+        if text.is(default) {
             return Ok(text.clone()?);
         }
     }

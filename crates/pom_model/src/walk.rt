@@ -93,27 +93,35 @@ fn begun(
     Ok(None)
 }
 
+// Whether a POM has no parent.
+fn is_alone(nodes: &[Node], node: &Node) -> bool
+    ensures { result ≡ is_alone nodes.now node.now }
+{
+    child(nodes, Some(node), "parent").is_none()
+}
+
 impl Times {
-    // Whether an element has to be there, in a POM without a parent or with one.
-    fn is_required(self, alone: bool) -> bool
-        ensures { result ≡ is_required alone self }
+    // Whether an element has to be there, in another one. Only few ask whether that has a parent.
+    fn is_required(self, nodes: &[Node], node: &Node) -> bool
+        ensures { result ≡ is_required (is_alone nodes.now node.now) self }
     {
         match self {
             Times::Optional | Times::Repeated => false,
             Times::Required => true,
-            Times::RequiredAlone => alone,
+            Times::RequiredAlone => is_alone(nodes, node),
         }
     }
 }
 
 // The first name of these lines that an element lacks.
-fn missing_among(rows: &[Row], nodes: &[Node], node: &Node, alone: bool) -> Option<&'static str>
+fn missing_among(rows: &[Row], nodes: &[Node], node: &Node) -> Option<&'static str>
     ensures { option_map (λ name. name.now) result
         ≡ option_map (λ r. r.name)
-        (find (is_lacking nodes.now node.now alone) (map row_view rows.now)) }
+        (find (is_lacking nodes.now node.now (is_alone nodes.now node.now))
+        (map row_view rows.now)) }
 {
     for (_, name, _, times) in rows {
-        if times.is_required(alone) && !is_filled(nodes, node, name) {
+        if times.is_required(nodes, node) && !is_filled(nodes, node, name) {
             return Some(*name);
         }
     }
@@ -125,8 +133,7 @@ fn missing_among(rows: &[Row], nodes: &[Node], node: &Node, alone: bool) -> Opti
 fn first_missing(alloc: Global, nodes: &[Node], kind: Kind, node: &Node) -> Mem<Option<Fault>>
     ensures { IfOk result (λ fault. fault ≡ missing nodes.now kind node.now) }
 {
-    let alone = child(nodes, Some(node), "parent").is_none();
-    match missing_among(rows_under(kind), nodes, node, alone) {
+    match missing_among(rows_under(kind), nodes, node) {
         Some(name) => Ok(Some(Fault::at_path(alloc, Rule::MissingField, name)?)),
         None => Ok(None),
     }

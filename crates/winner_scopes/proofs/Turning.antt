@@ -1,14 +1,17 @@
 -- Winners one after another.
-use Rattle.std.proofs.Common.{◌≡◌, ℕ, zero, suc, ◌+◌, ◌<◌, ◌≤◌, List, [], ◌∷◌, ◌++◌, drop, flat_map, get_or, length, map, slice_get, Option, Some, None, refl, sym, ap, subst, ◌∙◌, arith, append-nil, append_assoc, unwrap_or}
+use Rattle.std.proofs.Common.{◌≡◌, ℕ, zero, suc, ◌+◌, ◌-◌, ◌<◌, ◌≤◌, Bool, true, false, List, [], ◌∷◌, ◌++◌, drop, flat_map, get_or, length, map, nat_lt, replicate, slice_get, Option, Some, None, refl, sym, ap, ◌∙◌, arith, append-nil, append_assoc, unwrap_or, if◌then◌else◌}
 use Rattle.std.specs.Option.{option_to_list}
-use Rattle.std.proofs.lemmas.Grind.{flat_map-append}
-use Rattle.std.proofs.lemmas.List.{drop_all, drop_more}
+use Rattle.std.proofs.lemmas.Bool.Decides.{nat_tests}
+use Rattle.std.proofs.lemmas.Grind.{fold-append}
+use Rattle.std.proofs.lemmas.List.{drop-drop, drop_all, drop_more}
 use Rattle.collector.specs.declared.edge.Edge.{Edge}
 use Rattle.collector.specs.declared.scope.Scope.{Scope}
 use Rattle.dependency_scopes.specs.declared.link.Link.{Link}
+use Rattle.dependency_scopes.specs.Search.{Search, below_scope, raised, raised_all, turned}
+use Rattle.dependency_scopes.specs.Walks.{walked}
 use Rattle.mediation.specs.declared.winner.Winner.{Winner}
 use Rattle.mediation.specs.Rows.{ArePlaced, place_of}
-use Rattle.winner_scopes.specs.Links.{PlacesBegin, link_at, link_below, link_below_at, link_below_by, link_by, link_to, links_of, scope_at, scopes_from}
+use Rattle.winner_scopes.specs.Links.{PlacesBegin, begins_within, cut_links, each_from, link_at, link_below, link_below_at, link_below_by, link_by, link_to, links_of, of_edge, onward, scope_at, scopes_from, starts_of}
 
 next_scope : (widest : List (Option Scope)) (rows : List Winner) (k at : ℕ) → scopes_from widest at (drop k rows) ≡ map (scope_at widest at) (option_to_list (slice_get rows k)) ++ scopes_from widest (at + 1) (drop (suc k) rows)
 next_scope widest [] zero at = refl
@@ -38,54 +41,103 @@ scopes_long widest (w ∷ rows) at = ap suc (scopes_long widest rows (at + 1))
 pub past_all : (places : List ℕ) (count : ℕ) → length places ≤ count → drop (length places) places ≡ drop count places
 past_all places count low = drop_all (length places) places (omega arith) ∙ sym (drop_all count places low)
 
-drop_none : {A : Type 0} (xs : List A) → drop zero xs ≡ xs
-drop_none [] = refl
-drop_none (x ∷ xs) = refl
-
-next_edge : (edges : List Edge) (k : ℕ) → drop k edges ≡ option_to_list (slice_get edges k) ++ drop (suc k) edges
-next_edge [] zero = refl
-next_edge [] (suc k) = refl
-next_edge (e ∷ edges) zero = refl
-next_edge (e ∷ edges) (suc k) = next_edge edges k
-
-alike : (f g : Edge → List Link) (o : Option Edge) → ((e : Edge) → o ≡ Some e → f e ≡ g e) → flat_map f (option_to_list o) ≡ flat_map g (option_to_list o)
-alike f g None same = refl
-alike f g (Some e) same = ap (λ l. l ++ []) (same e refl)
-
--- so with the links of edges: none yet, one more, and all
-pub link_none : (g : Edge → List Link) (list : List Link) (edges : List Edge) → list ≡ [] → list ++ flat_map g (drop zero edges) ≡ flat_map g edges
-link_none g list edges none = ap (λ l. l ++ flat_map g (drop zero edges)) none ∙ ap (λ l. flat_map g l) (drop_none edges)
-
-link_one : (f g : Edge → List Link) (old new all : List Link) (edges : List Edge) (k : ℕ) → ((e : Edge) → slice_get edges k ≡ Some e → f e ≡ g e)
-    → new ≡ old ++ flat_map f (option_to_list (slice_get edges k)) → old ++ flat_map g (drop k edges) ≡ all → new ++ flat_map g (drop (k + 1) edges) ≡ all
-link_one f g old new all edges k same is before =
-    let next : k + 1 ≡ suc k = omega arith in
-    let here = flat_map g (option_to_list (slice_get edges k)) in
-    ap (λ n. new ++ flat_map g (drop n edges)) next
-    ∙ ap (λ l. l ++ flat_map g (drop (suc k) edges)) (is ∙ ap (λ l. old ++ l) (alike f g (slice_get edges k) same))
-    ∙ append_assoc old here (flat_map g (drop (suc k) edges))
-    ∙ ap (λ l. old ++ l) (sym (flat_map-append g (option_to_list (slice_get edges k)) (drop (suc k) edges)))
-    ∙ ap (λ l. old ++ flat_map g l) (sym (next_edge edges k))
-    ∙ before
-
-pub start_one : (rows : List Winner) (places : List ℕ) (old new all : List Link) (edges : List Edge) (k : ℕ) → PlacesBegin rows edges places
-    → new ≡ old ++ flat_map (link_by places k) (option_to_list (slice_get edges k)) → old ++ flat_map (link_to rows) (drop k edges) ≡ all → new ++ flat_map (link_to rows) (drop (k + 1) edges) ≡ all
-start_one rows places old new all edges k begin is before =
-    link_one (link_by places k) (link_to rows) old new all edges k (λ e at. ap (link_at e) (begin k e at)) is before
-
-pub below_one : (rows : List Winner) (places : List ℕ) (old new all : List Link) (edges : List Edge) (k : ℕ) → PlacesBegin rows edges places
-    → new ≡ old ++ flat_map (link_below_by rows places k) (option_to_list (slice_get edges k)) → old ++ flat_map (link_below rows) (drop k edges) ≡ all → new ++ flat_map (link_below rows) (drop (k + 1) edges) ≡ all
-below_one rows places old new all edges k begin is before =
-    link_one (link_below_by rows places k) (link_below rows) old new all edges k (λ e at. ap (link_below_at rows e) (begin k e at)) is before
-
-pub link_all : (g : Edge → List Link) (list all : List Link) (edges : List Edge) (k : ℕ) → length edges ≤ k → list ++ flat_map g (drop k edges) ≡ all → list ≡ all
-link_all g list all edges k low is = sym (append-nil list) ∙ ap (λ l. list ++ flat_map g l) (sym (drop_all k edges low)) ∙ is
-
 cons_none : {A : Type 0} (x : A) (xs : List A) → x ∷ xs ≡ [] → ⊥
 cons_none x xs e = cc
 
-none_is : (e : Edge) → ◌≡◌ {A = Option Edge} None (Some e) → ⊥
-none_is e is = cc
+none_is : {A : Type 0} (x : A) → ◌≡◌ {A = Option A} None (Some x) → ⊥
+none_is x is = cc
+
+-- each edge of a list, one more, and all
+raise_step : (brings : Link → Scope) (f : ℕ → Edge → List Link) (s t all : Search) (edges : List Edge) (k at : ℕ) → t ≡ raised_all brings s (of_edge (f at) (slice_get edges k))
+    → raised_all brings s (each_from f at (drop k edges)) ≡ all → raised_all brings t (each_from f (at + 1) (drop (suc k) edges)) ≡ all
+raise_step brings f s t all [] zero at is before = is ∙ before
+raise_step brings f s t all [] (suc k) at is before = is ∙ before
+raise_step brings f s t all (e ∷ edges) zero at is before =
+    ap (λ u. raised_all brings u (each_from f (at + 1) edges)) is
+    ∙ sym (fold-append (λ s l. raised s l.to (brings l)) s (f at e) (each_from f (at + 1) edges))
+    ∙ before
+raise_step brings f s t all (e ∷ edges) (suc k) at is before = raise_step brings f s t all edges k at is before
+
+pub raise_one : (brings : Link → Scope) (f : ℕ → Edge → List Link) (s t all : Search) (edges : List Edge) (k : ℕ) → t ≡ raised_all brings s (of_edge (f k) (slice_get edges k))
+    → raised_all brings s (each_from f k (drop k edges)) ≡ all → raised_all brings t (each_from f (k + 1) (drop (k + 1) edges)) ≡ all
+raise_one brings f s t all edges k is before =
+    let next : k + 1 ≡ suc k = omega arith in
+    ap (λ n. raised_all brings t (each_from f (k + 1) (drop n edges))) next ∙ raise_step brings f s t all edges k k is before
+
+pub raise_all : (brings : Link → Scope) (f : ℕ → Edge → List Link) (s all : Search) (edges : List Edge) (k : ℕ) → length edges ≤ k → raised_all brings s (each_from f k (drop k edges)) ≡ all → s ≡ all
+raise_all brings f s all edges k low is = sym (ap (λ l. raised_all brings s (each_from f k l)) (drop_all k edges low)) ∙ is
+
+-- where the lists of places begin: one more, and all
+next_list : {A : Type 0} (below : List A) (k : ℕ) (edges : A) → k < length below → edges ≡ get_or below k edges → drop k below ≡ edges ∷ drop (k + 1) below
+next_list below k edges low at = drop_more below k edges low ∙ ap (λ l. l ∷ drop (k + 1) below) (sym at)
+
+pub begins_one : (end at next : ℕ) (old new all : List ℕ) (lists : List (List Edge)) (k : ℕ) (list edges : List Edge) → k < length lists → list ≡ get_or lists k list → edges ≡ list → next ≡ onward end at (length edges)
+    → new ≡ old ++ at ∷ [] → old ++ begins_within end at (drop k lists) ≡ all → new ++ begins_within end next (drop (k + 1) lists) ≡ all
+begins_one end at next old new all lists k list edges low item same next_is is before =
+    ap (λ n. new ++ begins_within end n (drop (k + 1) lists)) (next_is ∙ ap (λ l. onward end at (length l)) same)
+    ∙ ap (λ l. l ++ begins_within end (onward end at (length list)) (drop (k + 1) lists)) is
+    ∙ append_assoc old (at ∷ []) (begins_within end (onward end at (length list)) (drop (k + 1) lists))
+    ∙ ap (λ l. old ++ begins_within end at l) (sym (next_list lists k list low item))
+    ∙ before
+
+pub begins_all : (end at : ℕ) (list all : List ℕ) (lists : List (List Edge)) (k : ℕ) → length lists ≤ k → list ++ begins_within end at (drop k lists) ≡ all → list ≡ all
+begins_all end at list all lists k low is = sym (append-nil list) ∙ ap (λ l. list ++ begins_within end at l) (sym (drop_all k lists low)) ∙ is
+
+-- what is behind the place of the next list
+behind_onward : (places : List ℕ) (at count : ℕ) → drop (onward (length places) at count) places ≡ drop count (drop at places)
+behind_onward places at count = by (nat_lt count (length places - at)) refl
+  where
+    by : (b : Bool) → nat_lt count (length places - at) ≡ b → drop (if b then at + count else length places) places ≡ drop count (drop at places)
+    by true is = sym (drop-drop count at places)
+    by false is =
+        let far : length places ≤ at + count = grind (arith, nat_tests, is) in
+        past_all places (at + count) far ∙ sym (drop-drop count at places)
+
+-- the links of the list at a place, from where its places begin
+links_cut : (rows : List Winner) (places : List ℕ) (lists : List (List Edge)) (at k : ℕ) (edges : List Edge) → slice_get lists k ≡ Some edges
+    → get_or (cut_links rows (drop at places) lists) k [] ≡ each_from (link_below_by rows (drop (get_or (begins_within (length places) at lists) k 0) places)) 0 edges
+links_cut rows places [] at k edges is = absurd (none_is edges is)
+links_cut rows places (list ∷ lists) at zero edges is = ap (λ o. each_from (link_below_by rows (drop at places)) 0 (unwrap_or o list)) is
+links_cut rows places (list ∷ lists) at (suc k) edges is =
+    ap (λ l. get_or (cut_links rows l lists) k []) (sym (behind_onward places at (length list)))
+    ∙ links_cut rows places lists (onward (length places) at (length list)) k edges is
+
+links_past : (rows : List Winner) (places : List ℕ) (lists : List (List Edge)) (k : ℕ) → slice_get lists k ≡ None → get_or (cut_links rows places lists) k [] ≡ []
+links_past rows places [] k is = refl
+links_past rows places (list ∷ lists) zero is = absurd (none_is list (sym is))
+links_past rows places (list ∷ lists) (suc k) is = links_past rows (drop (length list) places) lists k is
+
+-- a look at a place: along the links of its list, or along none
+pub turned_at : (rows : List Winner) (places begins rest : List ℕ) (lists : List (List Edge)) (s t : Search) (place : ℕ) (above : Scope) (edges : List Edge) → begins ≡ begins_within (length places) 0 lists
+    → get_or s.scopes place None ≡ Some above → slice_get lists place ≡ Some edges → rest ≡ drop (get_or begins place 0) places
+    → t ≡ raised_all (walked above) s (each_from (link_below_by rows rest) 0 edges) → t ≡ turned (cut_links rows places lists) s place
+turned_at rows places begins rest lists s t place above edges begin kept at rest_is is =
+    is
+    ∙ ap (λ l. raised_all (walked above) s (each_from (link_below_by rows l) 0 edges)) (rest_is ∙ ap (λ b. drop (get_or b place 0) places) begin)
+    ∙ ap (λ l. raised_all (walked above) s l) (sym (links_cut rows places lists 0 place edges at))
+    ∙ ap (λ o. below_scope o (get_or (cut_links rows places lists) place []) s) (sym kept)
+
+pub turned_none : (below : List (List Link)) (s : Search) (place : ℕ) → get_or s.scopes place None ≡ None → s ≡ turned below s place
+turned_none below s place none = ap (λ o. below_scope o (get_or below place []) s) (sym none)
+
+along_none : (o : Option Scope) (s : Search) → s ≡ below_scope o [] s
+along_none None s = refl
+along_none (Some above) s = refl
+
+pub turned_past : (rows : List Winner) (places : List ℕ) (lists : List (List Edge)) (s : Search) (place : ℕ) → slice_get lists place ≡ None → s ≡ turned (cut_links rows places lists) s place
+turned_past rows places lists s place past =
+    along_none (get_or s.scopes place None) s ∙ ap (λ l. below_scope (get_or s.scopes place None) l s) (sym (links_past rows places lists place past))
+
+-- no scope yet at any place
+abbrev none_for : List Edge → Option Scope
+none_for edges = None
+
+as_many : (rows : List Winner) (places : List ℕ) (lists : List (List Edge)) → map none_for lists ≡ replicate (length (cut_links rows places lists)) None
+as_many rows places [] = refl
+as_many rows places (list ∷ lists) = ap (λ l. None ∷ l) (as_many rows (drop (length list) places) lists)
+
+pub none_yet : (rows : List Winner) (places : List ℕ) (lists : List (List Edge)) (scopes : List (Option Scope)) → scopes ≡ map none_for lists → scopes ≡ replicate (length (cut_links rows places lists)) None
+none_yet rows places lists scopes is = is ∙ as_many rows places lists
 
 got_behind : (edges more : List Edge) (k : ℕ) (e : Edge) → slice_get edges k ≡ Some e → slice_get (edges ++ more) k ≡ Some e
 got_behind [] more k e is = absurd (none_is e is)
@@ -104,31 +156,43 @@ pub first_placed : (rows : List Winner) (edges more : List Edge) (places : List 
 first_placed rows edges more places are k e is = placed_begin rows (edges ++ more) places are k e (got_behind edges more k e is)
 
 pub rest_placed : (rows : List Winner) (edges more : List Edge) (places : List ℕ) → ArePlaced rows (edges ++ more) places → ArePlaced rows more (drop (length edges) places)
-rest_placed rows [] more places are = subst (λ l. ArePlaced rows more l) (sym (drop_none places)) are
+rest_placed rows [] more places are = are
 rest_placed rows (d ∷ edges) more [] are = absurd (cons_none (place_of rows d.key) (map (λ e. place_of rows e.key) (edges ++ more)) are)
 rest_placed rows (d ∷ edges) more (p ∷ places) are = rest_placed rows edges more places (ap (λ l. drop (suc zero) l) are)
 
--- and so with the places of lists of edges
-pub lists_none : (rows : List Winner) (below : List (List Edge)) (places : List ℕ) → ArePlaced rows (flat_map (λ edges. edges) below) places → ArePlaced rows (flat_map (λ edges. edges) (drop zero below)) places
-lists_none rows below places are = subst (λ l. ArePlaced rows (flat_map (λ edges. edges) l) places) (sym (drop_none below)) are
+-- by the places of winners: what edges lead to
+each_placed : (f : ℕ → Edge → List Link) (g : Edge → List Link) (at : ℕ) (edges : List Edge) → ((k : ℕ) (e : Edge) → slice_get edges k ≡ Some e → f (at + k) e ≡ g e) → each_from f at edges ≡ flat_map g edges
+each_placed f g at [] same = refl
+each_placed f g at (e ∷ edges) same =
+    let here : at ≡ at + 0 = omega arith in
+    ap (λ n. f n e ++ each_from f (at + 1) edges) here
+    ∙ ap (λ l. l ++ each_from f (at + 1) edges) (same 0 e refl)
+    ∙ ap (λ l. g e ++ l) (each_placed f g (at + 1) edges (λ k d is. further k d is))
+  where
+    further : (k : ℕ) (d : Edge) → slice_get edges k ≡ Some d → f (at + 1 + k) d ≡ g d
+    further k d is =
+        let there : at + 1 + k ≡ at + suc k = omega arith in
+        ap (λ n. f n d) there ∙ same (suc k) d is
 
-next_list : (below : List (List Edge)) (k : ℕ) (edges : List Edge) → k < length below → edges ≡ get_or below k edges → drop k below ≡ edges ∷ drop (k + 1) below
-next_list below k edges low at = drop_more below k edges low ∙ ap (λ l. l ∷ drop (k + 1) below) (sym at)
+pub starts_placed : (rows : List Winner) (places : List ℕ) (own : List Edge) → PlacesBegin rows own places → each_from (link_by places) 0 own ≡ starts_of rows own
+starts_placed rows places own begin = each_placed (link_by places) (link_to rows) 0 own (λ k e is. by k e is)
+  where
+    by : (k : ℕ) (e : Edge) → slice_get own k ≡ Some e → link_by places (0 + k) e ≡ link_to rows e
+    by k e is =
+        let same : 0 + k ≡ k = omega arith in
+        ap (λ n. link_by places n e) same ∙ ap (link_at e) (begin k e is)
 
-pub list_begin : (rows : List Winner) (below : List (List Edge)) (k : ℕ) (edges : List Edge) (places : List ℕ) → k < length below → edges ≡ get_or below k edges
-    → ArePlaced rows (flat_map (λ edges. edges) (drop k below)) places → ArePlaced rows (edges ++ flat_map (λ edges. edges) (drop (k + 1) below)) places
-list_begin rows below k edges places low at are = subst (λ l. ArePlaced rows (flat_map (λ edges. edges) l) places) (next_list below k edges low at) are
+below_placed : (rows : List Winner) (places : List ℕ) (edges : List Edge) → PlacesBegin rows edges places → each_from (link_below_by rows places) 0 edges ≡ links_of rows edges
+below_placed rows places edges begin = each_placed (link_below_by rows places) (link_below rows) 0 edges (λ k e is. by k e is)
+  where
+    by : (k : ℕ) (e : Edge) → slice_get edges k ≡ Some e → link_below_by rows places (0 + k) e ≡ link_below rows e
+    by k e is =
+        let same : 0 + k ≡ k = omega arith in
+        ap (λ n. link_below_by rows places n e) same ∙ ap (link_below_at rows e) (begin k e is)
 
-pub lists_begun : (rows : List Winner) (list : List (List Link)) (below : List (List Edge)) → list ≡ [] → list ++ map (links_of rows) (drop zero below) ≡ map (links_of rows) below
-lists_begun rows list below none = ap (λ l. l ++ map (links_of rows) (drop zero below)) none ∙ ap (λ l. map (links_of rows) l) (drop_none below)
-
-pub lists_one : (rows : List Winner) (old new all : List (List Link)) (below : List (List Edge)) (k : ℕ) (edges : List Edge) (links : List Link) → k < length below → edges ≡ get_or below k edges
-    → links ≡ links_of rows edges → new ≡ old ++ links ∷ [] → old ++ map (links_of rows) (drop k below) ≡ all → new ++ map (links_of rows) (drop (k + 1) below) ≡ all
-lists_one rows old new all below k edges links low at are is before =
-    ap (λ l. l ++ map (links_of rows) (drop (k + 1) below)) (is ∙ ap (λ m. old ++ m ∷ []) are)
-    ∙ append_assoc old (links_of rows edges ∷ []) (map (links_of rows) (drop (k + 1) below))
-    ∙ ap (λ l. old ++ map (links_of rows) l) (sym (next_list below k edges low at))
-    ∙ before
-
-pub lists_all : (rows : List Winner) (list all : List (List Link)) (below : List (List Edge)) (k : ℕ) → length below ≤ k → list ++ map (links_of rows) (drop k below) ≡ all → list ≡ all
-lists_all rows list all below k low is = sym (append-nil list) ∙ ap (λ l. list ++ map (links_of rows) l) (sym (drop_all k below low)) ∙ is
+-- and what lists of edges do
+pub lists_placed : (rows : List Winner) (places : List ℕ) (lists : List (List Edge)) → ArePlaced rows (flat_map (λ edges. edges) lists) places → cut_links rows places lists ≡ map (links_of rows) lists
+lists_placed rows places [] are = refl
+lists_placed rows places (list ∷ lists) are =
+    ap (λ l. l ∷ cut_links rows (drop (length list) places) lists) (below_placed rows places list (first_placed rows list (flat_map (λ edges. edges) lists) places are))
+    ∙ ap (λ l. links_of rows list ∷ l) (lists_placed rows (drop (length list) places) lists (rest_placed rows list (flat_map (λ edges. edges) lists) places are))

@@ -1,5 +1,5 @@
 -- What declarations lead to, by the places of winners.
-use Rattle.std.specs.Prelude.{◌≡◌, ◌<◌, ℕ, ◌+◌, Bool, true, false, List, [], ◌∷◌, ◌++◌, flat_map, get_or, length, map, slice_get, Option, Some, None, is_none, unwrap_or, if◌then◌else◌}
+use Rattle.std.specs.Prelude.{◌≡◌, ◌<◌, ℕ, ◌+◌, ◌-◌, Bool, true, false, List, [], ◌∷◌, ◌++◌, drop, flat_map, get_or, length, map, nat_lt, slice_get, Option, Some, None, is_none, unwrap_or, if◌then◌else◌}
 use Rattle.collector.specs.Edges.{direct_edges}
 use Rattle.collector.specs.declared.edge.Edge.{Edge}
 use Rattle.collector.specs.declared.scope.Scope.{Scope}
@@ -59,6 +59,31 @@ link_by places at e = link_at e (slice_get places at)
 
 abbrev pub link_below_by : List Winner → List ℕ → ℕ → Edge → List Link
 link_below_by rows places at e = link_below_at rows e (slice_get places at)
+
+-- what each edge leads to by the number of its place, the first edge's at a number
+abbrev pub each_from : (ℕ → Edge → List Link) → ℕ → List Edge → List Link
+each_from f at [] = []
+each_from f at (e ∷ edges) = f at e ++ each_from f (at + 1) edges
+
+-- what an edge leads to, if there is one
+abbrev pub of_edge : (Edge → List Link) → Option Edge → List Link
+of_edge f None = []
+of_edge f (Some e) = f e
+
+-- what each list of edges leads to, where a list of places has those of the first list, then those of the next, and so on
+abbrev pub cut_links : List Winner → List ℕ → List (List Edge) → List (List Link)
+cut_links rows places [] = []
+cut_links rows places (edges ∷ lists) =
+    each_from (link_below_by rows places) 0 edges ∷ cut_links rows (drop (length edges) places) lists
+
+-- the place that stands a number of places behind another, at most the end
+abbrev pub onward : ℕ → ℕ → ℕ → ℕ
+onward end at count = if nat_lt count (end - at) then at + count else end
+
+-- where the places of each of these lists begin, the first list's at a number
+abbrev pub begins_within : ℕ → ℕ → List (List Edge) → List ℕ
+begins_within end at [] = []
+begins_within end at (edges ∷ lists) = at ∷ begins_within end (onward end at (length edges)) lists
 
 -- a list begins with the place of the winner of each edge, in their order
 abbrev pub PlacesBegin : List Winner → List Edge → List ℕ → Type 0

@@ -4,5 +4,6 @@
 
 mod links;
 mod scopes;
+mod walks;
 
 pub use scopes::scopes_of;

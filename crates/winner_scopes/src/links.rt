@@ -1,114 +1,51 @@
-ghost use Rattle.std.specs.Prelude.{◌≡◌, ◌++◌, [], drop, flat_map, map, slice_get, IfOk, OnOk};
-ghost use Rattle.std.specs.Prelude as logic;
-ghost use Rattle.std.specs.Option.{option_copied, option_to_list};
-ghost use Rattle.mediation.specs.Rows.{ArePlaced};
-ghost use Rattle.mediation.specs.declared.winner.Winner as rows;
-ghost use Rattle.winner_scopes.specs.Links.{PlacesBegin, is_direct, link_below_by, link_by, link_of, links_of, starts_of};
+ghost use Rattle.std.specs.Prelude.{◌≡◌, drop, get_or, slice_get, IfOk};
+ghost use Rattle.std.specs.Option.{option_copied};
+ghost use Rattle.winner_scopes.specs.Links.{begins_within, is_direct, onward};
 
 use collector::Edge;
-use dependency_scopes::Link;
 use mediation::Winners;
 use mvn_shared::{List, Mem, Shared};
 use std::alloc::Global;
 
-// What an edge leads to at a place.
-fn link_of(edge: &Edge, to: usize) -> Link
-    ensures { result ≡ link_of edge.now to }
-{
-    Link {
-        to,
-        scope: edge.scope,
-        managed_scope: edge.managed_scope,
-    }
-}
-
 // The edge at a place.
-fn edge_at(edges: &[Edge], at: usize) -> Option<&Edge>
+pub fn edge_at(edges: &[Edge], at: usize) -> Option<&Edge>
     ensures { option_copied result ≡ slice_get edges.now at }
 {
     edges.get(at)
 }
 
 // The place that stands at a place.
-fn place_at(places: &[usize], at: usize) -> Option<&usize>
+pub fn place_at(places: &[usize], at: usize) -> Option<&usize>
     ensures { option_copied result ≡ slice_get places.now at }
 {
     places.get(at)
 }
 
-// One link more, where a place is there for the edge.
-fn add_link(list: &mut List<Link>, edge: &Edge, places: &[usize], at: usize) -> Mem<()>
-    ensures { OnOk result (list.new ≡ list.old ++ link_by places.now at edge.now) }
+// The list of edges at a place.
+pub fn edges_at(lists: &[Shared<List<Edge>>], at: usize) -> Option<&Shared<List<Edge>>>
+    ensures { option_copied result ≡ slice_get lists.now at }
 {
-    if let Some(to) = place_at(places, at) {
-        list.push(link_of(edge, *to))?;
-    }
-    Ok(())
+    lists.get(at)
 }
 
-// The same of the edge at a place.
-fn add_link_at(list: &mut List<Link>, edges: &[Edge], places: &[usize], at: usize) -> Mem<()>
-    ensures { OnOk result (list.new ≡ list.old
-        ++ flat_map (link_by places.now at) (option_to_list (slice_get edges.now at))) }
+// The number that stands at a place, 0 where none does.
+pub fn number_at(numbers: &[usize], at: usize) -> usize
+    ensures { result ≡ get_or numbers.now at 0 }
 {
-    match edge_at(edges, at) {
-        Some(edge) => add_link(list, edge, places, at),
-        None => Ok(()),
+    match numbers.get(at) {
+        Some(number) => *number,
+        None => 0,
     }
 }
 
 // Whether the project declares the winner at a place.
-fn is_direct(winners: &Winners, place: usize) -> bool
+pub fn is_direct(winners: &Winners, place: usize) -> bool
     ensures { result ≡ is_direct winners.now place }
 {
     match winners.get(place) {
         Some(winner) => winner.above.is_none(),
         None => false,
     }
-}
-
-// One link more, where a place is there for the edge, of a winner that the project doesn't declare.
-fn add_link_below(
-    list: &mut List<Link>,
-    edge: &Edge,
-    places: &[usize],
-    winners: &Winners,
-    at: usize,
-) -> Mem<()>
-    ensures { OnOk result (list.new
-        ≡ list.old ++ link_below_by winners.now places.now at edge.now) }
-{
-    if let Some(to) = place_at(places, at) {
-        if !is_direct(winners, *to) {
-            list.push(link_of(edge, *to))?;
-        }
-    }
-    Ok(())
-}
-
-// The same of the edge at a place.
-fn add_link_below_at(
-    list: &mut List<Link>,
-    edges: &[Edge],
-    places: &[usize],
-    winners: &Winners,
-    at: usize,
-) -> Mem<()>
-    ensures { OnOk result (list.new ≡ list.old
-        ++ flat_map (link_below_by winners.now places.now at)
-        (option_to_list (slice_get edges.now at))) }
-{
-    match edge_at(edges, at) {
-        Some(edge) => add_link_below(list, edge, places, winners, at),
-        None => Ok(()),
-    }
-}
-
-// No item yet, with room for a number.
-fn with_room<T>(alloc: Global, count: usize) -> Mem<List<T>>
-    ensures { IfOk result (λ list. list ≡ []) }
-{
-    Ok(List::of(Vec::with_capacity(alloc, count)?))
 }
 
 // The places behind a number of them.
@@ -125,48 +62,27 @@ pub fn behind(places: &[usize], count: usize) -> &[usize]
     rest
 }
 
-// What the project's declarations lead to.
-pub fn starts(alloc: Global, own: &[Edge], places: &[usize]) -> Mem<List<Link>>
-    ensures { IfOk result (λ list. (all : logic.List rows.Winner)
-        → PlacesBegin all own.now places.now → list ≡ starts_of all own.now) }
+// The place a number of places behind another, at most the end.
+fn onward(end: usize, at: usize, count: usize) -> usize
+    ensures { result ≡ onward end at count }
 {
-    let mut list = with_room(alloc, own.len())?;
-    for at in 0..own.len() {
-        add_link_at(&mut list, own, places, at)?;
+    if count < end.saturating_sub(at) {
+        at + count
+    } else {
+        end
     }
-    Ok(list)
 }
 
-// What edges below the project lead to.
-fn links_of(alloc: Global, edges: &[Edge], places: &[usize], winners: &Winners) -> Mem<List<Link>>
-    ensures { IfOk result (λ list.
-        PlacesBegin winners.now edges.now places.now → list ≡ links_of winners.now edges.now) }
+// Where the places of each list's edges begin, in a list of so many.
+pub fn begins_of(alloc: Global, lists: &[Shared<List<Edge>>], end: usize) -> Mem<List<usize>>
+    ensures { IfOk result (λ begins. begins ≡ begins_within end 0 lists.now) }
 {
-    let mut list = with_room(alloc, edges.len())?;
-    for at in 0..edges.len() {
-        add_link_below_at(&mut list, edges, places, winners, at)?;
-    }
-    Ok(list)
-}
-
-// What each list of edges below the project leads to.
-pub fn links(
-    alloc: Global,
-    below: &[Shared<List<Edge>>],
-    places: &[usize],
-    winners: &Winners,
-) -> Mem<List<List<Link>>>
-    ensures { IfOk result (λ list.
-        ArePlaced winners.now (flat_map (λ edges. edges) below.now) places.now
-        → list ≡ map (links_of winners.now) below.now) }
-{
-    let mut list = with_room(alloc, below.len())?;
-    let mut rest = places;
-    for shared in below {
+    let mut list = List::with_capacity(alloc, lists.len())?;
+    let mut at = 0;
+    for shared in lists {
+        list.push(at)?;
         let edges = shared.as_slice();
-        let links = links_of(alloc, edges, rest, winners)?;
-        list.push(links)?;
-        rest = behind(rest, edges.len());
+        at = onward(end, at, edges.len());
     }
     Ok(list)
 }

@@ -10,9 +10,9 @@ ghost use Rattle.mvn_base.specs.declared.key.Key as names;
 ghost use Rattle.winner_scopes.specs.Links.{AreDeclared, AreWidest, links_of, scope_at, scopes_from, starts_of};
 ghost use Rattle.winner_scopes.specs.Scopes.{IsScope};
 
-use crate::links::{behind, links, starts};
+use crate::links::{begins_of, behind};
+use crate::walks::widest_scopes;
 use collector::{Edge, Scope};
-use dependency_scopes::widest_scopes;
 use mediation::{Winner, Winners};
 use mvn_shared::{List, Mem, Shared};
 use std::alloc::Global;
@@ -50,7 +50,7 @@ fn add_scope(
 fn scopes_among(alloc: Global, widest: &[Option<Scope>], winners: &Winners) -> Mem<List<Scope>>
     ensures { IfOk result (λ list. list ≡ scopes_from widest.now 0 winners.now) }
 {
-    let mut list = List::new(alloc);
+    let mut list = List::with_capacity(alloc, winners.len())?;
     for place in 0..winners.len() {
         add_scope(&mut list, widest, winners, place)?;
     }
@@ -70,12 +70,10 @@ fn widest_of(
         → AreWidest (starts_of winners.now own.now) (map (links_of winners.now) below.now)
         scopes) }
 {
-    let starts = starts(alloc, own, places)?;
     let rest = behind(places, own.len());
-    let links = links(alloc, below, rest, winners)?;
-    let first = starts.as_slice();
-    let further = links.as_slice();
-    let widest = widest_scopes(alloc, first, further)?;
+    let begins = begins_of(alloc, below, rest.len())?;
+    let firsts = begins.as_slice();
+    let widest = widest_scopes(alloc, own, places, below, firsts, rest, winners)?;
     Ok(widest)
 }
 

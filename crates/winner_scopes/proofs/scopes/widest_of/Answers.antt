@@ -1,16 +1,20 @@
-use Rattle.std.proofs.Common.{flat_map, sym, subst, ◌∙◌}
+use Rattle.std.proofs.Common.{flat_map, sym, subst}
 use Rattle.mediation.specs.Rows.{ArePlaced}
+use Rattle.winner_scopes.specs.Links.{cut_links, each_from, link_by}
 use Rattle.winner_scopes.proofs.Scoped.{widest_found}
-use Rattle.winner_scopes.proofs.Turning.{first_placed, rest_placed}
+use Rattle.winner_scopes.proofs.Turning.{first_placed, lists_placed, rest_placed, starts_placed}
 use Rattle.winner_scopes.proofs.scopes.widest_of.Goals as goal
 
 pub returns : goal.returns
 returns c = λ are.
     let rows = c.args.winners.now in
     let own = c.args.own.now in
-    let more = flat_map (λ edges. edges) c.args.below.now in
-    let rest = subst (λ l. ArePlaced rows more l) (sym c.behind-rest.ensures) (rest_placed rows own more c.args.places.now are) in
-    widest_found rows own c.args.below.now c.as_slice-first.result.now c.as_slice-further.result.now c.in_ok-widest.widest
-    (c.as_slice-first.ensures ∙ c.in_ok-starts.ensures rows (first_placed rows own more c.args.places.now are))
-    (c.as_slice-further.ensures ∙ c.in_ok-links.ensures rest)
-    c.in_ok-widest.ensures.widest
+    let below = c.args.below.now in
+    let places = c.args.places.now in
+    let rest = c.behind-rest.result.now in
+    let more = flat_map (λ edges. edges) below in
+    let placed = subst (λ l. ArePlaced rows more l) (sym c.behind-rest.ensures) (rest_placed rows own more places are) in
+    widest_found rows own below (each_from (link_by places) 0 own) (cut_links rows rest below) c.in_ok-widest.widest
+    (starts_placed rows places own (first_placed rows own more places are))
+    (lists_placed rows rest below placed)
+    c.in_ok-widest.ensures

@@ -1,0 +1,281 @@
+ghost use Rattle.std.specs.Prelude.{◌≡◌, ◌<◌, ◌≤◌, None, get_or, length, map, slice_get, IfOk, OnOk, if◌then◌else◌};
+ghost use Rattle.dependency_scopes.specs.Walks.{rank, scope_below, walked};
+ghost use Rattle.dependency_scopes.specs.Search.{is_wider, raised, raised_all, search_of, turned};
+ghost use Rattle.dependency_scopes.specs.declared.link.Link as links;
+ghost use Rattle.winner_scopes.specs.Links.{AreWidest, begins_within, cut_links, each_from, link_below_by, link_by, of_edge};
+
+use crate::links::{behind, edge_at, edges_at, is_direct, number_at, place_at};
+use collector::{Edge, Scope};
+use mediation::Winners;
+use mvn_shared::{List, Mem, Shared};
+use std::alloc::Global;
+
+// How wide a scope is: the widest has the least rank.
+fn rank(scope: Scope) -> usize
+    ensures value { result ≡ rank scope }
+    ensures few { result ≤ 3 }
+{
+    match scope {
+        Scope::Compile => 0,
+        Scope::Runtime => 1,
+        Scope::Provided => 2,
+        Scope::Test => 3,
+    }
+}
+
+// The scope of a dependency below one of a scope.
+fn scope_below(above: Scope, declared: Scope) -> Scope
+    ensures { result ≡ scope_below above declared }
+{
+    match (above, declared) {
+        (Scope::Compile, Scope::Runtime) => Scope::Runtime,
+        _ => above,
+    }
+}
+
+// The scope that an edge brings, below a scope.
+fn brought(above: Scope, edge: &Edge) -> Scope
+    ensures { result ≡ (if edge.now.managed_scope then edge.now.scope
+        else scope_below above edge.now.scope) }
+{
+    if edge.managed_scope {
+        edge.scope
+    } else {
+        scope_below(above, edge.scope)
+    }
+}
+
+// Whether a scope is wider than the one that is kept at a place, if there is such a place.
+fn is_wider(scopes: &[Option<Scope>], place: usize, scope: Scope) -> bool
+    ensures { result ≡ is_wider scopes.now place scope }
+{
+    match scopes.get(place) {
+        Some(Some(kept)) => rank(scope) < rank(*kept),
+        Some(None) => true,
+        None => false,
+    }
+}
+
+// Keeps a scope where it is wider; what is below such a place waits to be looked at.
+fn raise(
+    scopes: &mut Vec<Option<Scope>>,
+    waiting: &mut Vec<usize>,
+    place: usize,
+    scope: Scope,
+) -> Mem<()>
+    ensures { OnOk result (search_of scopes.new.items waiting.new.items
+        ≡ raised (search_of scopes.old.items waiting.old.items) place scope) }
+{
+    if is_wider(scopes, place, scope) {
+        waiting.push(place)?;
+        scopes[place] = Some(scope);
+    }
+    Ok(())
+}
+
+// Keeps the scope of a declaration of the project, where a place is there for it.
+fn raise_start(
+    scopes: &mut Vec<Option<Scope>>,
+    waiting: &mut Vec<usize>,
+    edge: &Edge,
+    places: &[usize],
+    at: usize,
+) -> Mem<()>
+    ensures { OnOk result (search_of scopes.new.items waiting.new.items
+        ≡ raised_all (λ (l : links.Link). l.scope)
+        (search_of scopes.old.items waiting.old.items) (link_by places.now at edge.now)) }
+{
+    if let Some(to) = place_at(places, at) {
+        raise(scopes, waiting, *to, edge.scope)?;
+    }
+    Ok(())
+}
+
+// The same of the declaration at a place.
+fn raise_start_at(
+    scopes: &mut Vec<Option<Scope>>,
+    waiting: &mut Vec<usize>,
+    own: &[Edge],
+    places: &[usize],
+    at: usize,
+) -> Mem<()>
+    ensures { OnOk result (search_of scopes.new.items waiting.new.items
+        ≡ raised_all (λ (l : links.Link). l.scope)
+        (search_of scopes.old.items waiting.old.items)
+        (of_edge (link_by places.now at) (slice_get own.now at))) }
+{
+    match edge_at(own, at) {
+        Some(edge) => raise_start(scopes, waiting, edge, places, at),
+        None => Ok(()),
+    }
+}
+
+// Keeps the scopes of what the project declares.
+fn raise_starts(
+    scopes: &mut Vec<Option<Scope>>,
+    waiting: &mut Vec<usize>,
+    own: &[Edge],
+    places: &[usize],
+) -> Mem<()>
+    ensures { OnOk result (search_of scopes.new.items waiting.new.items
+        ≡ raised_all (λ (l : links.Link). l.scope)
+        (search_of scopes.old.items waiting.old.items)
+        (each_from (link_by places.now) 0 own.now)) }
+{
+    for at in 0..own.len() {
+        raise_start_at(scopes, waiting, own, places, at)?;
+    }
+    Ok(())
+}
+
+// Keeps the scope that an edge brings below a scope, where a place is there for it whose winner the project doesn't declare.
+fn raise_edge(
+    scopes: &mut Vec<Option<Scope>>,
+    waiting: &mut Vec<usize>,
+    edge: &Edge,
+    places: &[usize],
+    winners: &Winners,
+    above: Scope,
+    at: usize,
+) -> Mem<()>
+    ensures { OnOk result (search_of scopes.new.items waiting.new.items
+        ≡ raised_all (walked above) (search_of scopes.old.items waiting.old.items)
+        (link_below_by winners.now places.now at edge.now)) }
+{
+    if let Some(to) = place_at(places, at) {
+        if !is_direct(winners, *to) {
+            raise(scopes, waiting, *to, brought(above, edge))?;
+        }
+    }
+    Ok(())
+}
+
+// The same of the edge at a place.
+fn raise_edge_at(
+    scopes: &mut Vec<Option<Scope>>,
+    waiting: &mut Vec<usize>,
+    edges: &[Edge],
+    places: &[usize],
+    winners: &Winners,
+    above: Scope,
+    at: usize,
+) -> Mem<()>
+    ensures { OnOk result (search_of scopes.new.items waiting.new.items
+        ≡ raised_all (walked above) (search_of scopes.old.items waiting.old.items)
+        (of_edge (link_below_by winners.now places.now at) (slice_get edges.now at))) }
+{
+    match edge_at(edges, at) {
+        Some(edge) => raise_edge(scopes, waiting, edge, places, winners, above, at),
+        None => Ok(()),
+    }
+}
+
+// Keeps the scopes that edges bring below a scope.
+fn raise_below(
+    scopes: &mut Vec<Option<Scope>>,
+    waiting: &mut Vec<usize>,
+    edges: &[Edge],
+    places: &[usize],
+    winners: &Winners,
+    above: Scope,
+) -> Mem<()>
+    ensures { OnOk result (search_of scopes.new.items waiting.new.items
+        ≡ raised_all (walked above) (search_of scopes.old.items waiting.old.items)
+        (each_from (link_below_by winners.now places.now) 0 edges.now)) }
+{
+    for at in 0..edges.len() {
+        raise_edge_at(scopes, waiting, edges, places, winners, above, at)?;
+    }
+    Ok(())
+}
+
+// The scope that is kept at a place.
+fn kept_at(scopes: &[Option<Scope>], place: usize) -> Option<Scope>
+    ensures { result ≡ get_or scopes.now place None }
+{
+    match scopes.get(place) {
+        Some(kept) => *kept,
+        None => None,
+    }
+}
+
+// Looks at what is below a place; `begins` has where the places of each list begin.
+#[tactic(auto, using(crate::proofs::Turning::turned_none))]
+fn turn(
+    scopes: &mut Vec<Option<Scope>>,
+    waiting: &mut Vec<usize>,
+    below: &[Shared<List<Edge>>],
+    begins: &[usize],
+    places: &[usize],
+    winners: &Winners,
+    place: usize,
+) -> Mem<()>
+    requires { begins.now ≡ begins_within (length places.now) 0 below.now }
+    ensures { OnOk result (search_of scopes.new.items waiting.new.items
+        ≡ turned (cut_links winners.now places.now below.now)
+        (search_of scopes.old.items waiting.old.items) place) }
+{
+    let Some(above) = kept_at(scopes, place) else {
+        return Ok(());
+    };
+    let Some(shared) = edges_at(below, place) else {
+        return Ok(());
+    };
+    let edges = shared.as_slice();
+    let rest = behind(places, number_at(begins, place));
+    raise_below(scopes, waiting, edges, rest, winners, above)
+}
+
+// No scope at any place.
+fn no_scopes(alloc: Global, below: &[Shared<List<Edge>>]) -> Mem<Vec<Option<Scope>>>
+    ensures { IfOk result (λ scopes. scopes.items ≡ map (λ _. None) below.now) }
+{
+    let mut scopes = Vec::with_capacity(alloc, below.len())?;
+    for _ in below {
+        scopes.push(None)?;
+    }
+    Ok(scopes)
+}
+
+// The place that waits at a place of the list.
+fn waiting_at(waiting: &Vec<usize>, at: usize) -> usize
+    requires { at < length waiting.now.items }
+    ensures { result ≡ get_or waiting.now.items at 0 }
+{
+    waiting[at]
+}
+
+// The widest scope that walks bring to each place: the places of what the project declares, those of the edges below, and where those of
+// each list begin.
+pub fn widest_scopes(
+    alloc: Global,
+    own: &[Edge],
+    places: &[usize],
+    below: &[Shared<List<Edge>>],
+    begins: &[usize],
+    rest: &[usize],
+    winners: &Winners,
+) -> Mem<List<Option<Scope>>>
+    requires { begins.now ≡ begins_within (length rest.now) 0 below.now }
+    ensures { IfOk result (λ scopes. AreWidest (each_from (link_by places.now) 0 own.now)
+        (cut_links winners.now rest.now below.now) scopes) }
+{
+    let mut scopes = no_scopes(alloc, below)?;
+    let mut waiting = Vec::new(alloc);
+    raise_starts(&mut scopes, &mut waiting, own, places)?;
+    let mut next = 0;
+    while next < waiting.len() {
+        let place = waiting_at(&waiting, next);
+        turn(
+            &mut scopes,
+            &mut waiting,
+            below,
+            begins,
+            rest,
+            winners,
+            place,
+        )?;
+        next += 1;
+    }
+    Ok(List::of(scopes))
+}

@@ -3,7 +3,7 @@ ghost use Rattle.std.specs.Option.{option_copied};
 ghost use Rattle.mediation.specs.Rows.{place_of, row_of};
 
 use crate::known::Known;
-use crate::row::Row;
+use crate::row::{Row, Sought};
 use collector::Edge;
 use indexmap::IndexSet;
 use mvn_base::Key;
@@ -72,14 +72,14 @@ impl Winners {
         ensures there { IfSome result (λ place.
             slice_get self.now place ≡ row_of self.now key.now) }
     {
-        self.index.get_index_of(key)
+        self.index.get_index_of(Sought { key })
     }
 
     /// The winner of a key. Costs the key, on the average.
     pub fn find(&self, key: &Key) -> Option<&Winner>
         ensures { option_copied result ≡ row_of self.now key.now }
     {
-        match self.index.get(key) {
+        match self.index.get(Sought { key }) {
             Some(row) => Some(&row.winner),
             None => None,
         }

@@ -1,5 +1,5 @@
 -- The search ends with the widest scopes.
-use Rattle.std.proofs.Common.{◌≡◌, ◌≢◌, ℕ, zero, suc, ◌+◌, ◌*◌, ◌<◌, ◌≤◌, ◌⊎◌, inl, inr, Bool, true, false, List, [], ◌∷◌, Contains, length, get_or, map, replicate, max, sum_by, Option, Some, None, refl, sym, ap, subst, ◌∙◌, arith, if◌then◌else◌}
+use Rattle.std.proofs.Common.{◌≡◌, ◌≢◌, ℕ, zero, suc, ◌+◌, ◌*◌, ◌<◌, ◌≤◌, ◌⊎◌, inl, inr, Bool, true, false, List, [], ◌∷◌, Contains, length, get_or, replicate, max, sum_by, Option, Some, None, refl, sym, ap, subst, ◌∙◌, arith, if◌then◌else◌}
 use Rattle.std.proofs.lemmas.List.{get_or-replicate}
 use Rattle.std.proofs.lemmas.List.Folds.{sum_by-replicate}
 use Rattle.collector.specs.declared.scope.Scope.{Scope}
@@ -65,13 +65,6 @@ same_default [] p low = absurd (never p low)
     never p low = omega (arith, low)
 same_default (o ∷ scopes) zero low = refl
 same_default (o ∷ scopes) (suc p) low = same_default scopes p (omega (arith, low))
-
-abbrev none_of : List Link → Option Scope
-none_of links = None
-
-pub no_scopes : (below : List (List Link)) → map none_of below ≡ replicate (length below) None
-no_scopes [] = refl
-no_scopes (links ∷ below) = ap (λ l. None ∷ l) (no_scopes below)
 
 replicated : (n : ℕ) → length (replicate {A = Option Scope} n None) ≡ n
 replicated zero = refl

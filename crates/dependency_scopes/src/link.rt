@@ -14,7 +14,7 @@ pub struct Link {
 }
 
 // How wide a scope is: the widest has the least rank.
-pub fn rank(scope: Scope) -> usize
+pub(crate) fn rank(scope: Scope) -> usize
     ensures value { result ≡ rank scope }
     ensures few { result ≤ 3 }
 {
@@ -36,7 +36,8 @@ fn scope_below(above: Scope, declared: Scope) -> Scope
     }
 }
 
-// The scope that a link brings, below a scope.
+/// The scope that a link brings, below a scope: a managed one, or else that above it, or runtime where the link is of that scope below
+/// compile. Constant time. Introduction to the Dependency Mechanism, "Dependency Scope".
 pub fn walked(above: Scope, link: &Link) -> Scope
     ensures { result ≡ walked above link.now }
 {

@@ -1,76 +1,25 @@
-ghost use Rattle.std.specs.Prelude.{◌≡◌, ◌<◌, ◌≤◌, None, get_or, length, map, slice_get, IfOk, OnOk, if◌then◌else◌};
-ghost use Rattle.dependency_scopes.specs.Walks.{rank, scope_below, walked};
-ghost use Rattle.dependency_scopes.specs.Search.{is_wider, raised, raised_all, search_of, turned};
+ghost use Rattle.std.specs.Prelude.{◌≡◌, ◌<◌, None, get_or, length, map, slice_get, IfOk, OnOk};
+ghost use Rattle.dependency_scopes.specs.Walks.{walked};
+ghost use Rattle.dependency_scopes.specs.Search.{raised_all, search_of, turned};
 ghost use Rattle.dependency_scopes.specs.declared.link.Link as links;
-ghost use Rattle.winner_scopes.specs.Links.{AreWidest, begins_within, cut_links, each_from, link_below_by, link_by, of_edge};
+ghost use Rattle.winner_scopes.specs.Links.{AreWidest, begins_within, cut_links, each_from, link_below_by, link_by, link_of, of_edge};
 
 use crate::links::{behind, edge_at, edges_at, is_direct, number_at, place_at};
 use collector::{Edge, Scope};
+use dependency_scopes::{Link, kept_at, raise, walked};
 use mediation::Winners;
 use mvn_shared::{List, Mem, Shared};
 use std::alloc::Global;
 
-// How wide a scope is: the widest has the least rank.
-fn rank(scope: Scope) -> usize
-    ensures value { result ≡ rank scope }
-    ensures few { result ≤ 3 }
+// What an edge leads to at a place.
+fn link_of(edge: &Edge, to: usize) -> Link
+    ensures { result ≡ link_of edge.now to }
 {
-    match scope {
-        Scope::Compile => 0,
-        Scope::Runtime => 1,
-        Scope::Provided => 2,
-        Scope::Test => 3,
+    Link {
+        to,
+        scope: edge.scope,
+        managed_scope: edge.managed_scope,
     }
-}
-
-// The scope of a dependency below one of a scope.
-fn scope_below(above: Scope, declared: Scope) -> Scope
-    ensures { result ≡ scope_below above declared }
-{
-    match (above, declared) {
-        (Scope::Compile, Scope::Runtime) => Scope::Runtime,
-        _ => above,
-    }
-}
-
-// The scope that an edge brings, below a scope.
-fn brought(above: Scope, edge: &Edge) -> Scope
-    ensures { result ≡ (if edge.now.managed_scope then edge.now.scope
-        else scope_below above edge.now.scope) }
-{
-    if edge.managed_scope {
-        edge.scope
-    } else {
-        scope_below(above, edge.scope)
-    }
-}
-
-// Whether a scope is wider than the one that is kept at a place, if there is such a place.
-fn is_wider(scopes: &[Option<Scope>], place: usize, scope: Scope) -> bool
-    ensures { result ≡ is_wider scopes.now place scope }
-{
-    match scopes.get(place) {
-        Some(Some(kept)) => rank(scope) < rank(*kept),
-        Some(None) => true,
-        None => false,
-    }
-}
-
-// Keeps a scope where it is wider; what is below such a place waits to be looked at.
-fn raise(
-    scopes: &mut Vec<Option<Scope>>,
-    waiting: &mut Vec<usize>,
-    place: usize,
-    scope: Scope,
-) -> Mem<()>
-    ensures { OnOk result (search_of scopes.new.items waiting.new.items
-        ≡ raised (search_of scopes.old.items waiting.old.items) place scope) }
-{
-    if is_wider(scopes, place, scope) {
-        waiting.push(place)?;
-        scopes[place] = Some(scope);
-    }
-    Ok(())
 }
 
 // Keeps the scope of a declaration of the project, where a place is there for it.
@@ -144,7 +93,7 @@ fn raise_edge(
 {
     if let Some(to) = place_at(places, at) {
         if !is_direct(winners, *to) {
-            raise(scopes, waiting, *to, brought(above, edge))?;
+            raise(scopes, waiting, *to, walked(above, &link_of(edge, *to)))?;
         }
     }
     Ok(())
@@ -187,16 +136,6 @@ fn raise_below(
         raise_edge_at(scopes, waiting, edges, places, winners, above, at)?;
     }
     Ok(())
-}
-
-// The scope that is kept at a place.
-fn kept_at(scopes: &[Option<Scope>], place: usize) -> Option<Scope>
-    ensures { result ≡ get_or scopes.now place None }
-{
-    match scopes.get(place) {
-        Some(kept) => *kept,
-        None => None,
-    }
 }
 
 // Looks at what is below a place; `begins` has where the places of each list begin.

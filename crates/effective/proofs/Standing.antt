@@ -1,6 +1,7 @@
 -- What imports stand for stands whoever asks.
 use Rattle.std.proofs.Common.{◌≡◌, ◌≢◌, ℕ, zero, suc, ◌+◌, ◌-◌, ◌<◌, ◌≤◌, ◌^◌, Bool, true, false, not, ◌&&◌, ◌||◌, nat_le, List, [], ◌∷◌, ◌++◌, length, drop, get_or, Option, None, Some, Result, Ok, Err, refl, arith, sym, ap, subst, ◌∙◌, if◌then◌else◌}
 use Rattle.std.proofs.Math.Seq.{drop-cons}
+use Rattle.std.specs.List.{list_any}
 use Rattle.std.proofs.lemmas.Bool.{le-leb, leb-true}
 use Rattle.std.proofs.lemmas.List.{drop_all}
 use Rattle.mvn_base.specs.declared.gav.Gav.{Gav}
@@ -86,6 +87,19 @@ module _ (world : World) (given : Given) where
   unfolding IsEntry
   no_import pom item imports is none left building serving =
       ap (λ b. if b then import_gav pom item >>= (λ gav. imported world given left pom building gav >>= (λ entries. Ok (entries ∷ []))) else Ok []) is ∙ ap (λ l. Ok l) (sym none)
+
+  none_from : (pom : PomId) (up : Gav → Built (List Dependency)) (items : List Dependency) → list_any is_import items ≡ false → imports_from pom up [] items ≡ Ok []
+  none_from pom up [] none = refl
+  none_from pom up (d ∷ items) none =
+      ap (λ b. (if b then import_gav pom d >>= (λ gav. up gav >>= (λ entries. Ok (entries ∷ []))) else Ok []) >>= (λ lists. imports_from pom up lists items)) (or_left (is_import d) (list_any is_import items) none)
+      ∙ none_from pom up items (or_right (is_import d) (list_any is_import items) none)
+
+  -- entries without an import
+  pub none_kept : (pom : PomId) (items all : List Dependency) (imports : ImportLists) → items ≡ all → list_any is_import items ≡ false → imports.lists ≡ [] → AreKept world given pom all imports
+  unfolding AreKept
+  none_kept pom items all imports same none lists left building serving =
+      let up = imported world given left pom building in
+      ap (imports_from pom up []) (sym same) ∙ none_from pom up items none ∙ ap (λ l. Ok l) (sym lists)
 
   pub one_import : (pom : PomId) (item : Dependency) (gav : Gav) (import : Import) (imports : ImportLists) → is_import item ≡ true → import_gav pom item ≡ Ok gav → IsImport world given gav import
       → imports.lists ≡ import.managed ∷ [] → imports.below ≡ import.below → IsEntry world given pom item imports

@@ -1,7 +1,8 @@
 ghost use Rattle.std.specs.Prelude.{◌≡◌, [], false, true, Ok, IfOk};
-ghost use Rattle.std.specs.List.{list_all};
+ghost use Rattle.std.specs.List.{list_all, list_any};
 ghost use Rattle.mvn_shared.specs.Cause.{HasCause};
 ghost use Rattle.profile_activation.specs.Judging.{TellsOn};
+ghost use Rattle.managed_deps.specs.Managed.{is_import};
 ghost use Rattle.pom_source.specs.Answers.{Says, build_failed};
 ghost use Rattle.pom_source.specs.Worlds.{World};
 ghost use Rattle.model_types.specs.declared.model.RawModel as models;
@@ -16,7 +17,7 @@ use crate::kept::{BuiltModel, Entries, Import, ImportLists};
 use crate::lineages::lineage_with;
 use crate::looked::wanted;
 use crate::run_store::RunStore;
-use model_steps::{built, checked, filled, import_gav, is_import, model_of};
+use model_steps::{checked, filled, import_gav, is_import, model_of};
 use model_types::{BuildBase, Dependency, Model, RawModel};
 use mvn_base::{Gav, PomId, Rule};
 use mvn_shared::{List, Shared};
@@ -218,7 +219,7 @@ pub(crate) fn whole<P: PomSource>(
     ensures cause { HasCause (P.faults source.old) (P.faults source.new) (build_failed result) }
 {
     let full = full(alloc, given, joined)?;
-    let base = built(alloc, &full)?;
+    let base = store.built(alloc, &full)?;
     let imports = imports(alloc, store, source, given, left, &raw.pom, building, &full)?;
     match ended(alloc, &full, &base, &imports.lists) {
         Ok(model) => Ok(BuiltModel {
@@ -229,9 +230,16 @@ pub(crate) fn whole<P: PomSource>(
     }
 }
 
+// Whether an import is among some managed entries.
+fn has_import(managed: &[Shared<Dependency>]) -> bool
+    ensures { result ≡ list_any is_import managed.now }
+{
+    managed.iter().any(|item| is_import(item))
+}
+
 // What the imports of a full model manage.
 #[cycle(built)]
-#[tactic(auto, using(pom_lineage::proofs::Telling::told_both, pom_lineage::proofs::Telling::untold, crate::proofs::Standing::way_fails, crate::proofs::Standing::none_yet, crate::proofs::Standing::one_more, crate::proofs::Standing::all_done, crate::proofs::Standing::both_served))]
+#[tactic(auto, using(crate::proofs::Standing::none_kept, pom_lineage::proofs::Telling::told_both, pom_lineage::proofs::Telling::untold, crate::proofs::Standing::way_fails, crate::proofs::Standing::none_yet, crate::proofs::Standing::one_more, crate::proofs::Standing::all_done, crate::proofs::Standing::both_served))]
 fn imports<P: PomSource>(
     alloc: Global,
     store: &mut RunStore,
@@ -254,6 +262,9 @@ fn imports<P: PomSource>(
         → HoldsAll world given.now store.old → HoldsAll world given.now store.new }
     ensures cause { HasCause (P.faults source.old) (P.faults source.new) (build_failed result) }
 {
+    if !has_import(full.base.managed.as_slice()) {
+        return Ok(ImportLists::none(alloc));
+    }
     let mut done = ImportLists::none(alloc);
     for item in full.base.managed.as_slice() {
         let more = match entry(alloc, store, source, given, left, pom, building, item) {

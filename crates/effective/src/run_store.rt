@@ -1,6 +1,8 @@
-ghost use Rattle.std.specs.Prelude.{◌≡◌, true, Some, IfOk, IfSome, OnErr, OnOk, if◌then◌else◌};
+ghost use Rattle.std.specs.Prelude.{◌≡◌, false, true, Some, IfOk, IfSome, OnErr, OnOk, if◌then◌else◌};
 ghost use Rattle.std.specs.HashMap.{get};
 ghost use Rattle.mvn_base.specs.declared.gav.Gav as gavs;
+ghost use Rattle.model_steps.specs.Building.{built};
+ghost use Rattle.pom_source.specs.Answers.{Says, build_failed};
 ghost use Rattle.pom_source.specs.Worlds.{World};
 ghost use Rattle.pom_source.specs.declared.found.Given as givens;
 ghost use Rattle.mvn_base.specs.Gav.{gav_eq};
@@ -9,19 +11,23 @@ ghost use Rattle.effective.specs.Kept.{HoldsAll, IsImport, import_in};
 ghost use Rattle.effective.specs.Serving.{serves};
 
 use crate::kept::Import;
+use model_steps::{Bound, built};
+use model_types::{BuildBase, RawModel};
 use mvn_base::{Gav, PomId};
 use mvn_shared::{List, Mem, Shared};
 use pom_lineage::{Store, meets};
+use pom_source::BuildFault;
 use std::alloc::Global;
 use std::collections::HashMap;
 
 /// What was read and built in a run: the POMs that were read and what parents build on, and what imports stand for, by their
-/// coordinates. So a POM that many import is read and built once. A store serves one `Given` and one project. Refusals aren't kept.
-/// Project rule.
+/// coordinates. So a POM that many import is read and built once. The plugins of the last module are kept too. A store serves one
+/// `Given` and one project. Refusals aren't kept. Project rule.
 #[derive(Drop)]
 pub struct RunStore {
     pub(crate) lineages: Store,
     imports: HashMap<Gav, Shared<Import>>,
+    bound: Option<Shared<Bound>>,
 }
 
 // Whether an import serves one who may build so many POMs, and is building these.
@@ -51,6 +57,7 @@ impl RunStore {
         RunStore {
             lineages,
             imports: HashMap::new(alloc),
+            bound: None,
         }
     }
 
@@ -59,6 +66,23 @@ impl RunStore {
         ensures { (world : World) (given : givens.Given) → HoldsAll world given result }
     {
         RunStore::over(alloc, Store::new(alloc))
+    }
+
+    /// The plugins of a filled model. Costs what `model_steps::built` costs.
+    pub(crate) fn built(
+        &mut self,
+        alloc: Global,
+        full: &RawModel,
+    ) -> Result<Shared<BuildBase>, BuildFault>
+        ensures says { Says (built full.now) result }
+        ensures holds { (world : World) (given : givens.Given) → HoldsAll world given self.old
+            → HoldsAll world given self.new }
+        ensures cause { build_failed result ≡ false }
+    {
+        match built(alloc, &mut self.bound, full) {
+            Ok(base) => Ok(base),
+            Err(fault) => Err(fault),
+        }
     }
 
     // The import that is kept under coordinates.

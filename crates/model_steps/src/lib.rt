@@ -2,7 +2,9 @@
 //! plugins, what is managed, and what is refused in the end.
 #![tactic(auto)]
 
+mod alike;
 mod assembly;
+mod bound;
 mod build;
 mod folders;
 mod import;
@@ -13,6 +15,7 @@ mod texts;
 mod validation;
 
 pub use assembly::model_of;
+pub use bound::Bound;
 pub use build::built;
 pub use folders::{filled, placed_stays};
 pub use import::{import_gav, is_import};

@@ -6,6 +6,8 @@ use Rattle.std.proofs.lemmas.List.{drop_all}
 use Rattle.std.proofs.lemmas.Grind.{flat_map-append}
 use Rattle.collector.specs.declared.edge.Edge.{Edge}
 use Rattle.mediation.specs.declared.winner.Winner.{Winner}
+use Rattle.model_merge.specs.Keyed.{same_key}
+use Rattle.mvn_base.specs.declared.key.Key.{Key}
 
 or_assoc : (a b c : Bool) → (a || (b || c)) ≡ ((a || b) || c)
 or_assoc true b c = refl
@@ -84,3 +86,12 @@ find_none t rows k none before =
 
 pub find_end : (t : Winner → Bool) (rows : List Winner) (k : ℕ) → length rows ≤ k → find t rows ≡ find t (drop k rows) → find t rows ≡ None
 find_end t rows k low is = is ∙ ap (find t) (drop_all k rows low)
+
+-- no winner's key is among no keys
+pub find_without : (keys : List Key) (rows : List Winner) → length keys ≡ 0 → ◌≡◌ {A = Option Winner} None (find (λ w. list_any (same_key w.edge.key) keys) rows)
+find_without keys [] none = refl
+find_without [] (w ∷ rows) none = find_without [] rows none
+find_without (key ∷ keys) (w ∷ rows) none = absurd (never (length keys) none)
+  where
+    never : (n : ℕ) → suc n ≡ 0 → ⊥
+    never n e = omega (arith, e)

@@ -31,11 +31,14 @@ fn conflicting(
     Ok(keys)
 }
 
-// The first winner whose key is one of those.
+// The first winner whose key is one of those. Where there are none, no winner is looked at.
 fn first_of<'a>(winners: &'a Winners, keys: &HashSet<Key>) -> Option<&'a Winner>
     ensures { option_copied result
         ≡ find (λ w. contains same_key keys.now w.edge.key) winners.now }
 {
+    if keys.is_empty() {
+        return None;
+    }
     for place in 0..winners.len() {
         if let Some(winner) = winners.get(place) {
             if keys.contains(&winner.edge.key) {

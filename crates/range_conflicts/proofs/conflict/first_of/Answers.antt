@@ -1,9 +1,12 @@
 use Rattle.std.proofs.Common.{sym, ◌∙◌}
 use Rattle.std.specs.HashSet.{contains}
 use Rattle.model_merge.specs.Keyed.{same_key}
-use Rattle.range_conflicts.proofs.Joined.{find_here, find_next, find_none}
+use Rattle.range_conflicts.proofs.Joined.{find_here, find_next, find_none, find_without}
 use Rattle.range_conflicts.proofs.conflict.first_of.Goals as goal
 use Rattle.range_conflicts.proofs.conflict.first_of.Goals.{in-Some+else-contains, in_default}
+
+pub returns-then-is_empty : goal.returns-then-is_empty
+returns-then-is_empty c = find_without c.args.keys.now.keys c.args.winners.now (c.is_empty.ensures.0 c.if-is_empty.true)
 
 pub returns-then-contains : goal.returns-then-contains
 returns-then-contains c =

@@ -8,7 +8,8 @@ use Rattle.pom_source.specs.Answers.{Built, ◌>>=◌}
 use Rattle.pom_source.specs.Chains.{bound, ok_is}
 use Rattle.pom_source.specs.Worlds.{World}
 use Rattle.pom_source.specs.declared.found.Given.{Given}
-use Rattle.pom_lineage.specs.Reading.{read}
+use Rattle.pom_lineage.specs.Beside.{read_at}
+use Rattle.pom_lineage.specs.Reading.{read, read_file}
 use Rattle.module_discovery.specs.Discovery.{at_either, at_last, begun, collected, discovered, taken_up, listed_by, named, new_at, one_too_many, or_at, or_missing, path_of, pom_of, pom_xml, read_pom, refuse, root, with_module, with_none, with_pom}
 use Rattle.module_discovery.specs.Listing.{AreApart, AreListed, IsProject, IsRead, LeadsTo}
 use Rattle.module_discovery.specs.Listing.AreApart.{no_pom, one_more}
@@ -42,6 +43,10 @@ module _ (world : World) (given : Given) where
     at : pom.path ≡ path
     new : is_met found pom.path ≡ false
     is_read : IsRead world pom
+
+  -- a POM that was read is what is at its path
+  read_there : (pom : ModulePom) → IsRead world pom → read_at world pom.path ≡ Ok (Some pom.raw)
+  read_there pom r = ap (read_file (ids.Path pom.path)) r.there ∙ ap (λ said. said >>= (λ raw. Ok (Some raw))) r.says
 
   -- what is read of a file
   read_is : (path bytes : List ℕ) (pom : ModulePom) → world.by_path path ≡ Some bytes → read_pom path bytes ≡ Ok pom → (pom.path ≡ path) × IsRead world pom
@@ -199,6 +204,13 @@ module _ (world : World) (given : Given) where
           let r = bound (read_pom pom_xml bytes) (λ p. Ok (Some p)) (Some q) (sym (ap (taken_up read_pom pom_xml) t) ∙ at) in
           let same = some_is r.0 q (ok_is (Some r.0) (Some q) r.2) ∙ ok_is q pom is in
           read_is pom_xml bytes pom t (subst (λ p. read_pom pom_xml bytes ≡ Ok p) same r.1)
+
+  -- what was read of a POM is what is at its path
+  pub named_there : (l : Listed) (found : List ModulePom) (pom : ModulePom) → named world read_pom l found ≡ Ok pom → read_at world pom.path ≡ Ok (Some pom.raw)
+  named_there l found pom e = read_there pom (named_is l found pom e).0.is_read
+
+  pub root_there : (pom : ModulePom) → root world ≡ Ok pom → read_at world pom.path ≡ Ok (Some pom.raw)
+  root_there pom e = read_there pom (root_is pom e).1
 
   pub is_project : (poms : List ModulePom) → discovered world given ≡ Ok poms → IsProject world given poms
   is_project poms e =

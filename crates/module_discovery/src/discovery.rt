@@ -1,9 +1,10 @@
-ghost use Rattle.std.specs.Prelude.{◌≡◌, ◌≤◌, ◌+◌, ◌∷◌, ◌++◌, [], length, IfOk};
+ghost use Rattle.std.specs.Prelude.{◌≡◌, ◌≤◌, ◌+◌, ◌∷◌, ◌++◌, [], length, Ok, Some, IfOk};
 ghost use Rattle.mvn_shared.specs.Cause.{HasCause};
 ghost use Rattle.profile_activation.specs.Judging.{TellsOn};
 ghost use Rattle.pom_source.specs.Answers.{Says, build_failed};
 ghost use Rattle.pom_source.specs.Worlds.{World};
 ghost use Rattle.pom_source.specs.declared.found.Given as givens;
+ghost use Rattle.pom_lineage.specs.Beside.{read_at};
 ghost use Rattle.pom_lineage.specs.Stores.{Holds, KeepsLines, KeepsRead};
 ghost use Rattle.module_discovery.specs.Discovery.{begun, collected, discovered, with_module, with_none, with_pom};
 
@@ -35,26 +36,32 @@ fn put(found: FoundPoms, waiting: Waiting, pom: ModulePom, modules: List<Listed>
 #[tactic(auto, using(crate::proofs::Counting::one_longer))]
 fn with_pom<P: PomSource>(
     alloc: Global,
+    store: &mut Store,
     source: &mut P,
     given: &Given,
     found: FoundPoms,
     waiting: Waiting,
     pom: ModulePom,
 ) -> Result<Progress, BuildFault>
-    ensures says { (world : World) → P.fits_poms source.old world
+    ensures says { (world : World) → P.fits_poms source.old world → Holds world given.now store.old
+        → read_at world pom.path ≡ Ok (Some pom.raw)
         → Says (with_pom world given.now found waiting pom) result }
     ensures one { IfOk result (λ progress. length progress.found ≡ length found + 1) }
     ensures fit { (world : World) → P.fits_poms source.old world → P.fits_poms source.new world }
     ensures same { TellsOn P.tells_same source.old source.new }
+    ensures holds { (world : World) → P.fits_poms source.old world → Holds world given.now store.old
+        → read_at world pom.path ≡ Ok (Some pom.raw) → Holds world given.now store.new }
+    ensures keeps { KeepsRead store.old store.new }
+    ensures keeps_lines { KeepsLines store.old store.new }
     ensures cause { HasCause (P.faults source.old) (P.faults source.new) (build_failed result) }
 {
-    let modules = listed_by(alloc, source, given, &pom)?;
+    let modules = listed_by(alloc, store, source, given, &pom)?;
     let progress = put(found, waiting, pom, modules)?;
     Ok(progress)
 }
 
 // The POM of the module that is next, and what it lists.
-#[tactic(auto, using(pom_lineage::proofs::Telling::told_both))]
+#[tactic(auto, using(pom_lineage::proofs::Telling::told_both, crate::proofs::Projects::named_there))]
 fn with_module<P: PomSource>(
     alloc: Global,
     store: &mut Store,
@@ -76,7 +83,7 @@ fn with_module<P: PomSource>(
     ensures cause { HasCause (P.faults source.old) (P.faults source.new) (build_failed result) }
 {
     let pom = named(alloc, store, source, false, listed, &found)?;
-    match with_pom(alloc, source, given, found, waiting, pom) {
+    match with_pom(alloc, store, source, given, found, waiting, pom) {
         Ok(progress) => Ok(progress),
         Err(fault) => Err(fault),
     }
@@ -150,7 +157,7 @@ fn collected<P: PomSource>(
 }
 
 // The POM by which the project begins, and the modules that it lists.
-#[tactic(auto, using(pom_lineage::proofs::Telling::told_both))]
+#[tactic(auto, using(pom_lineage::proofs::Telling::told_both, crate::proofs::Projects::root_there))]
 fn begun<P: PomSource>(
     alloc: Global,
     store: &mut Store,
@@ -171,7 +178,7 @@ fn begun<P: PomSource>(
     let pom = root(alloc, store, source)?;
     let found = FoundPoms::new(alloc);
     let waiting = Waiting::new(alloc);
-    match with_pom(alloc, source, given, found, waiting, pom) {
+    match with_pom(alloc, store, source, given, found, waiting, pom) {
         Ok(progress) => Ok(progress),
         Err(fault) => Err(fault),
     }
@@ -181,9 +188,9 @@ fn begun<P: PomSource>(
 /// profiles list, each with its own modules before the next. A module is a folder with a file `pom.xml`, or else a file. Or the first
 /// refusal: what a POM's text breaks, or modules in a POM whose packaging isn't `pom`; and for each module an expression in its text, no
 /// POM, a POM that was met, or one POM more than 1,024. So there are 1 to 1,024 POMs, whatever the source tells. Each POM's file is read
-/// once: its bytes are in the POM, and what it says stays in the store. `Source` comes only if the source's count of faults rose. Costs the
-/// POMs' bytes, and the criteria of their profiles. Guide to Working with Multiple Modules; POM Reference, "Aggregation"; the order of
-/// refusals and the limit are project rules.
+/// once: its bytes are in the POM, and what it says stays in the store, with which of its profiles are active. `Source` comes only if the
+/// source's count of faults rose. Costs the POMs' bytes, and the criteria of their profiles. Guide to Working with Multiple Modules; POM
+/// Reference, "Aggregation"; the order of refusals and the limit are project rules.
 #[tactic(auto, using(pom_lineage::proofs::Telling::told_both))]
 pub fn discover<P: PomSource>(
     alloc: Global,

@@ -1,9 +1,11 @@
-ghost use Rattle.std.specs.Prelude.{◌≡◌, ◌++◌, false, flat_map, slice_get, IfOk, OnOk};
+ghost use Rattle.std.specs.Prelude.{◌≡◌, ◌++◌, false, flat_map, slice_get, Ok, Some, IfOk, OnOk};
 ghost use Rattle.mvn_shared.specs.Cause.{HasCause};
 ghost use Rattle.profile_activation.specs.Judging.{TellsOn};
 ghost use Rattle.pom_source.specs.Answers.{Says, build_failed};
 ghost use Rattle.pom_source.specs.Worlds.{World};
 ghost use Rattle.profile_injection.specs.Injection.{inject};
+ghost use Rattle.pom_lineage.specs.Beside.{read_at};
+ghost use Rattle.pom_lineage.specs.Stores.{Holds, KeepsLines, KeepsRead};
 ghost use Rattle.module_discovery.specs.Discovery.{aggregated, listed, listed_by};
 ghost use Rattle.module_discovery.specs.Profiles.{modules_at, modules_in};
 
@@ -12,8 +14,8 @@ use crate::pom::{Listed, ModulePom};
 use model_types::{Profile, RawModel};
 use mvn_base::Rule;
 use mvn_shared::{List, Mem, Text};
+use pom_lineage::{Store, active_at};
 use pom_source::{BuildFault, Given, PomSource};
-use profile_activation::active;
 use std::alloc::Global;
 
 // The modules of one POM or profile, behind others.
@@ -94,30 +96,31 @@ fn aggregated(pom: &ModulePom, list: List<Listed>) -> Result<List<Listed>, Build
     )
 }
 
-/// The modules that a POM lists, and those of its active profiles, or that its packaging isn't `pom`. Costs the criteria of its
-/// profiles, and the modules. POM Reference, "Aggregation".
-#[tactic(auto, using(pom_lineage::proofs::Telling::untold, pom_lineage::proofs::Telling::fits_after))]
+/// The modules that a POM lists, and those of its active profiles, or that its packaging isn't `pom`. Which profiles are active stays in
+/// the store. Costs the criteria of its profiles, and the modules. POM Reference, "Aggregation".
+#[tactic(auto, using(crate::proofs::Injected::lists, crate::proofs::Injected::lists_fails, pom_lineage::proofs::Judging::never_refused))]
 pub(crate) fn listed_by<P: PomSource>(
     alloc: Global,
+    store: &mut Store,
     source: &mut P,
     given: &Given,
     pom: &ModulePom,
 ) -> Result<List<Listed>, BuildFault>
-    ensures says { (world : World) → P.fits_poms source.old world
+    ensures says { (world : World) → P.fits_poms source.old world → Holds world given.now store.old
+        → read_at world pom.now.path ≡ Ok (Some pom.now.raw)
         → Says (listed_by world given.now pom.now) result }
     ensures fit { (world : World) → P.fits_poms source.old world → P.fits_poms source.new world }
     ensures same { TellsOn P.tells_same source.old source.new }
+    ensures holds { (world : World) → P.fits_poms source.old world → Holds world given.now store.old
+        → read_at world pom.now.path ≡ Ok (Some pom.now.raw) → Holds world given.now store.new }
+    ensures keeps { KeepsRead store.old store.new }
+    ensures keeps_lines { KeepsLines store.old store.new }
     ensures cause { HasCause (P.faults source.old) (P.faults source.new) (build_failed result) }
 {
-    let defines = given.defines.as_slice();
-    let places = active(
-        alloc,
-        &pom.raw,
-        &given.machine,
-        defines,
-        &given.choice,
-        source,
-    )?;
+    let places = match active_at(alloc, store, source, given, &pom.path, &pom.raw) {
+        Ok(places) => places,
+        Err(fault) => return Err(fault),
+    };
     let list = modules_at(alloc, pom, &places)?;
     match aggregated(pom, list) {
         Ok(list) => Ok(list),

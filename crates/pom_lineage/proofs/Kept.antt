@@ -12,7 +12,7 @@ use Rattle.pom_source.specs.Chains.{ok_is}
 use Rattle.pom_source.specs.Worlds.{World}
 use Rattle.mvn_base.specs.Gav.{gav_eq}
 use Rattle.pom_lineage.specs.Lineage.{origin_of}
-use Rattle.pom_lineage.specs.Stores.{KeepsLines, KeepsParent, KeepsRead, if_serves, known_in, line_in, read_in, serves}
+use Rattle.pom_lineage.specs.Stores.{KeepsLines, KeepsParent, KeepsRead, if_serves, known_in, line_in, places_in, read_in, serves}
 use Rattle.pom_lineage.specs.declared.joined.Joined.{Joined}
 use Rattle.pom_lineage.specs.declared.origin.Candidate.{Candidate}
 use Rattle.pom_lineage.specs.declared.origin.Origin.{Origin}
@@ -38,6 +38,10 @@ gav_itself gav =
 pub untouched : {A : Type 0} (o : Option (Option RawModel)) → A → OnSome o A
 untouched None so = record {}
 untouched (Some x) so = so
+
+pub untouched_active : {A : Type 0} (o : Option (List ℕ)) → A → OnSome o A
+untouched_active None so = record {}
+untouched_active (Some x) so = so
 
 pub untouched_known : {A : Type 0} (o : Option (Option Candidate)) → A → OnSome o A
 untouched_known None so = record {}
@@ -65,6 +69,12 @@ pub read_kept : {T E : Type 0} (r : Result T E) (old new : Store) (path : List �
     → OnOk r ((other : List ℕ) → get bytes_eq new.read other ≡ (if bytes_eq path other then Some found else get bytes_eq old.read other)) → OnOk r (read_in new path ≡ Some found)
 read_kept (Ok x) old new path found ok = ok path ∙ ap (λ b. if b then Some found else get bytes_eq old.read path) (path_itself path)
 read_kept (Err x) old new path found ok = record {}
+
+-- so are places
+pub active_kept : {T E : Type 0} (r : Result T E) (old new : Store) (path places : List ℕ)
+    → OnOk r ((other : List ℕ) → get bytes_eq new.active other ≡ (if bytes_eq path other then Some places else get bytes_eq old.active other)) → OnOk r (places_in new path ≡ Some places)
+active_kept (Ok x) old new path places ok = ok path ∙ ap (λ b. if b then Some places else get bytes_eq old.active path) (path_itself path)
+active_kept (Err x) old new path places ok = record {}
 
 -- and so under coordinates
 pub known_kept : {T E : Type 0} (r : Result T E) (old new : Store) (gav : Gav) (found : Option Candidate)

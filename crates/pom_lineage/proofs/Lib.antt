@@ -2,6 +2,7 @@ pub mod Expressions
 pub mod Finding
 pub mod Holding
 pub mod Joining
+pub mod Judging
 pub mod Keeping
 pub mod Kept
 pub mod Knowing

@@ -28,7 +28,10 @@ abbrev pub read_file : PomId → Option (List ℕ) → Built (Option RawModel)
 read_file pom None = Ok None
 read_file pom (Some bytes) = read pom bytes >>= (λ raw. Ok (Some raw))
 
+-- the places of the active profiles of a POM
+abbrev pub active_places : Given → (List ℕ → Bool) → RawModel → List ℕ
+active_places given there raw = active given.machine given.defines given.choice there raw.pom raw.profiles
+
 -- a POM with its active profiles
 abbrev pub with_profiles : Given → (List ℕ → Bool) → RawModel → RawModel
-with_profiles given there raw =
-    inject raw (active given.machine given.defines given.choice there raw.pom raw.profiles)
+with_profiles given there raw = inject raw (active_places given there raw)

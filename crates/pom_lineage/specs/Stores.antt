@@ -11,7 +11,8 @@ use Rattle.pom_source.specs.Worlds.{World}
 use Rattle.pom_source.specs.declared.found.Given.{Given}
 use Rattle.mvn_base.specs.Gav.{gav_eq}
 use Rattle.pom_lineage.specs.Beside.{read_at}
-use Rattle.pom_lineage.specs.Lineage.{is_in, joined_from, known_at, origin_of}
+use Rattle.pom_lineage.specs.Lineage.{is_in, joined_from, known_at, origin_of, text_of}
+use Rattle.pom_lineage.specs.Reading.{active_places}
 use Rattle.pom_lineage.specs.declared.joined.Joined.{Joined}
 use Rattle.pom_lineage.specs.declared.origin.Candidate.{Candidate}
 use Rattle.pom_lineage.specs.declared.origin.Candidate.TheVariants as candidates
@@ -41,6 +42,10 @@ abbrev pub line_in : Store → Origin → Option Joined
 line_in store (Beside path raw) = get bytes_eq store.beside path
 line_in store (Elsewhere gav) = get gav_eq store.elsewhere gav
 
+-- the places of the active profiles of the POM at a path
+abbrev pub places_in : Store → List ℕ → Option (List ℕ)
+places_in store path = get bytes_eq store.active path
+
 -- nothing that was read is forgotten
 abbrev pub KeepsRead : Store → Store → Type 0
 KeepsRead old new =
@@ -68,6 +73,15 @@ module _ (world : World) where
   IsAt (Beside path raw) = read_at world path ≡ Ok (Some raw)
   IsAt (Elsewhere gav) = Unit {0}
 
+  -- a POM is the one at the path of an origin, if this has a path
+  abbrev pub IsThere : Origin → RawModel → Type 0
+  IsThere (Beside path other) raw = read_at world path ≡ Ok (Some raw)
+  IsThere (Elsewhere gav) raw = Unit {0}
+
+  -- so is what a POM says that an origin led to
+  abbrev pub LedThere : Origin → Candidate → Type 0
+  LedThere origin found = (raw : RawModel) → text_of found ≡ Ok raw → IsThere origin raw
+
   -- what the parent of a POM builds on is kept
   abbrev pub KeepsParent : Store → PomId → Option Parent → Type 0
   KeepsParent store pom parent =
@@ -92,8 +106,17 @@ module _ (world : World) where
     HoldsLines store = (origin : Origin) → IsAt origin
         → IfSome (line_in store origin) (λ kept. IsKept origin kept)
 
+    -- the places of the active profiles of the POM at a path
+    unfoldable pub AreActive : List ℕ → List ℕ → Type 0
+    AreActive path places = (raw : RawModel) → read_at world path ≡ Ok (Some raw)
+        → places ≡ active_places given world.there raw
+
+    unfoldable pub HoldsActive : Store → Type 0
+    HoldsActive store = (path : List ℕ) → IfSome (places_in store path) (λ places. AreActive path places)
+
     -- all that a store keeps is so in a world
     pub record Holds (store : Store) : Type 0 where
       pub read : HoldsRead store
       pub known : HoldsKnown store
       pub lines : HoldsLines store
+      pub active : HoldsActive store

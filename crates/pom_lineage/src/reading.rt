@@ -1,21 +1,16 @@
-ghost use Rattle.std.specs.Prelude.{◌≡◌, false, Ok, Err};
-ghost use Rattle.mvn_shared.specs.Cause.{HasCause};
+ghost use Rattle.std.specs.Prelude.{◌≡◌, false, Err};
 ghost use Rattle.mvn_base.specs.declared.refusal.Place.TheVariants.{Byte};
 ghost use Rattle.pom_model.specs.Raw.{raw};
-ghost use Rattle.profile_activation.specs.Judging.{TellsOn};
 ghost use Rattle.pom_source.specs.Answers.{Says, build_failed, refused};
-ghost use Rattle.pom_source.specs.Worlds.{World};
 ghost use Rattle.pom_source.specs.declared.fault.BuildFault.TheVariants.{Refused};
-ghost use Rattle.pom_lineage.specs.Reading.{read, with_profiles};
+ghost use Rattle.pom_lineage.specs.Reading.{read};
 
 use model_types::RawModel;
 use mvn_base::{ModelError, Place, PomId, Refusal, Rule};
 use mvn_shared::{Bytes, Shared};
 use pom_model::read_model;
-use pom_source::{BuildFault, Given, PomSource};
+use pom_source::BuildFault;
 use pom_text::{PomText, TextFault, read_text};
-use profile_activation::active;
-use profile_injection::inject;
 use std::alloc::Global;
 
 // A refusal of a POM at a byte.
@@ -56,24 +51,4 @@ pub fn read(alloc: Global, pom: &PomId, bytes: &Bytes) -> Result<Shared<RawModel
         Err(TextFault::Refused { rule, place }) => byte_refused(pom, rule, place),
         Err(TextFault::Memory) => Err(BuildFault::Memory),
     }
-}
-
-/// A POM with its active profiles. Costs the criteria of its profiles, and its lists.
-#[tactic(auto, using(crate::proofs::Telling::untold, crate::proofs::Telling::fits_after))]
-pub fn with_profiles<P: PomSource>(
-    alloc: Global,
-    source: &mut P,
-    given: &Given,
-    raw: &RawModel,
-) -> Result<RawModel, BuildFault>
-    ensures says { (world : World) → P.fits_poms source.old world
-        → Says (Ok (with_profiles given.now world.there raw.now)) result }
-    ensures fit { (world : World) → P.fits_poms source.old world → P.fits_poms source.new world }
-    ensures same { TellsOn P.tells_same source.old source.new }
-    ensures cause { HasCause (P.faults source.old) (P.faults source.new) (build_failed result) }
-{
-    let defines = given.defines.as_slice();
-    let places = active(alloc, raw, &given.machine, defines, &given.choice, source)?;
-    let model = inject(alloc, raw, places.as_slice())?;
-    Ok(model)
 }

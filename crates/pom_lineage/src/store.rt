@@ -11,7 +11,7 @@ ghost use Rattle.mvn_base.specs.Gav.{gav_eq};
 ghost use Rattle.pom_lineage.specs.Beside.{read_at};
 ghost use Rattle.pom_lineage.specs.Lineage.{joined_from, known_at};
 ghost use Rattle.pom_lineage.specs.declared.origin.Candidate.TheVariants as candidates;
-ghost use Rattle.pom_lineage.specs.Stores.{AgreesOnPaths, Holds, IsAt, IsKept, KeepsLines, KeepsRead, if_serves, known_as, known_in, line_in, meets, read_in, serves};
+ghost use Rattle.pom_lineage.specs.Stores.{AgreesOnPaths, AreActive, Holds, IsAt, IsKept, KeepsLines, KeepsRead, if_serves, known_as, known_in, line_in, meets, places_in, read_in, serves};
 
 use crate::joined::Joined;
 use crate::origin::{Candidate, Origin};
@@ -22,16 +22,18 @@ use mvn_shared::{List, Mem, Shared, Text};
 use std::alloc::Global;
 use std::collections::HashMap;
 
-/// What was read in a run: the POM at each path and of each coordinates that was asked for, and what parents build on, by the path or
-/// the coordinates that led to them. So a parent that a thousand modules share is read, activated and joined once, if it has one way to
-/// it. A store serves one `Given` and one project. Nothing in it is forgotten. That coordinates lead to no POM is kept, and the refusal
-/// of the POM that they lead to; other refusals aren't. Project rule.
+/// What was read in a run: the POM at each path and of each coordinates that was asked for, which profiles of the POM at a path are
+/// active, and what parents build on, by the path or the coordinates that led to them. So a POM of the project is read, activated and
+/// joined once, whether it is a module, a parent or both, and a parent that a thousand modules share, too, if it has one way to it. A store
+/// serves one `Given` and one project. Nothing in it is forgotten. That coordinates lead to no POM is kept, and the refusal of the POM
+/// that they lead to; other refusals aren't. Project rule.
 #[derive(Drop)]
 pub struct Store {
     read: HashMap<Text, Option<Shared<RawModel>>>,
     known: HashMap<Gav, Option<Shared<Candidate>>>,
     beside: HashMap<Text, Shared<Joined>>,
     elsewhere: HashMap<Gav, Shared<Joined>>,
+    active: HashMap<Text, Shared<List<usize>>>,
 }
 
 /// Whether one of the POMs is among the others. Costs a comparison of each with each.
@@ -125,6 +127,21 @@ fn set_elsewhere(
     Ok(())
 }
 
+// Puts the places of active profiles under a path.
+fn set_active(
+    map: &mut HashMap<Text, Shared<List<usize>>>,
+    path: &Text,
+    places: &Shared<List<usize>>,
+) -> Mem<()>
+    ensures ok { OnOk result ((other : Items ℕ) → get bytes_eq map.new other
+        ≡ (if bytes_eq path.now other then Some places.now else get bytes_eq map.old other)) }
+    ensures err { OnErr result ((other : Items ℕ) → get bytes_eq map.new other
+        ≡ get bytes_eq map.old other) }
+{
+    map.insert(path.clone()?, places.share()?)?;
+    Ok(())
+}
+
 // Puts what was read under a path.
 fn set_read(
     map: &mut HashMap<Text, Option<Shared<RawModel>>>,
@@ -151,21 +168,23 @@ impl Store {
             known: HashMap::new(alloc),
             beside: HashMap::new(alloc),
             elsewhere: HashMap::new(alloc),
+            active: HashMap::new(alloc),
         }
     }
 
-    /// What was read by path, without the rest: for a source that finds the same POMs by path, and others by coordinates. Takes no memory.
-    /// Project rule.
-    pub fn only_read(self, alloc: Global) -> Store
+    /// What was read by path and which profiles are active there, without the rest: for a source that finds the same POMs and files by
+    /// path, and other POMs by coordinates. Takes no memory. Project rule.
+    pub fn only_by_path(self, alloc: Global) -> Store
         ensures { (world other : World) (given : givens.Given) → Holds world given self
-            → AgreesOnPaths world other → Holds other given result }
+            → AgreesOnPaths world other → other.there ≡ world.there → Holds other given result }
     {
-        let Store { read, .. } = self;
+        let Store { read, active, .. } = self;
         Store {
             read,
             known: HashMap::new(alloc),
             beside: HashMap::new(alloc),
             elsewhere: HashMap::new(alloc),
+            active,
         }
     }
 
@@ -200,6 +219,39 @@ impl Store {
             → read_at world path.now ≡ Ok found.now → Holds world given self.new }
     {
         set_read(&mut self.read, path, found)
+    }
+
+    // The places that are kept under a path.
+    fn active_there(&self, path: &Text) -> Mem<Option<Shared<List<usize>>>>
+        ensures { IfOk result (λ found. found ≡ places_in self.now path.now) }
+    {
+        match self.active.get(path) {
+            Some(places) => Ok(Some(places.share()?)),
+            None => Ok(None),
+        }
+    }
+
+    /// The places of the active profiles of the POM at a path, if they were looked for before. Costs the path.
+    #[tactic(auto, using(crate::proofs::Holding::active_serves))]
+    pub(crate) fn find_active(&self, path: &Text) -> Mem<Option<Shared<List<usize>>>>
+        ensures value { IfOk result (λ found. found ≡ places_in self.now path.now) }
+        ensures told { (world : World) (given : givens.Given) → Holds world given self.now
+            → IfOk result (λ kept. IfSome kept (λ places. AreActive world given path.now places)) }
+    {
+        let kept = self.active_there(path)?;
+        Ok(kept)
+    }
+
+    /// Keeps the places of the active profiles of the POM at a path. Costs the path.
+    #[tactic(auto, using(crate::proofs::Holding::holds_same, crate::proofs::Holding::active_more))]
+    pub(crate) fn keep_active(&mut self, path: &Text, places: &Shared<List<usize>>) -> Mem<()>
+        ensures kept { OnOk result (places_in self.new path.now ≡ Some places.now) }
+        ensures keeps { KeepsRead self.old self.new }
+        ensures keeps_lines { KeepsLines self.old self.new }
+        ensures holds { (world : World) (given : givens.Given) → Holds world given self.old
+            → AreActive world given path.now places.now → Holds world given self.new }
+    {
+        set_active(&mut self.active, path, places)
     }
 
     // What is known of the POM of coordinates, if that was asked for.

@@ -7,19 +7,21 @@ ghost use Rattle.pom_source.specs.Worlds.{World};
 ghost use Rattle.pom_lineage.specs.declared.origin.Origin.TheVariants.{Beside};
 ghost use Rattle.pom_lineage.specs.Beside.{read_at};
 ghost use Rattle.pom_lineage.specs.Lineage.{above, entered, gav_of, joined_from, joined_up, line, lineage, next_poms};
-ghost use Rattle.pom_lineage.specs.Stores.{Holds, IsAt, KeepsLines, KeepsParent, KeepsRead, line_in, serves};
+ghost use Rattle.pom_lineage.specs.Reading.{active_places};
+ghost use Rattle.pom_lineage.specs.Stores.{Holds, IsAt, KeepsLines, KeepsParent, KeepsRead, LedThere, line_in, serves};
 
 use crate::joined::Joined;
+use crate::judged::{active_at, active_from, active_places};
 use crate::origin::{Candidate, Origin};
 use crate::parents::{
     first_of, next_poms, origin_of, origin_refused, packed, parent_from, put_over, text_of, top,
 };
-use crate::reading::with_profiles;
 use crate::store::Store;
 use model_types::{Parent, RawModel};
 use mvn_base::{PomId, Rule};
 use mvn_shared::{List, Mem, Shared, Text};
 use pom_source::{BuildFault, Given, PomSource};
+use profile_injection::inject;
 use std::alloc::Global;
 
 // What is built on from a parent's origin on, at most `left` POMs; kept, or built and then kept.
@@ -62,7 +64,7 @@ fn joined_from<P: PomSource>(
 
 // The same, if it isn't kept.
 #[cycle(stored)]
-#[tactic(auto, using(crate::proofs::Telling::told_both, crate::proofs::Joining::joined_stops, crate::proofs::Joining::joined_zero, crate::proofs::Joining::joined_more))]
+#[tactic(auto, using(crate::proofs::Telling::told_both, crate::proofs::Judging::led_there, crate::proofs::Joining::joined_stops, crate::proofs::Joining::joined_zero, crate::proofs::Joining::joined_more))]
 fn fresh<P: PomSource>(
     alloc: Global,
     store: &mut Store,
@@ -74,11 +76,12 @@ fn fresh<P: PomSource>(
     origin: &Origin,
 ) -> Result<Shared<Joined>, BuildFault>
     ensures says { (world : World) → P.fits_poms source.old world → Holds world given.now store.old
+        → IsAt world origin.now
         → Says (joined_from world given.now left child.now seen.now origin.now) result }
     ensures fit { (world : World) → P.fits_poms source.old world → P.fits_poms source.new world }
     ensures same { TellsOn P.tells_same source.old source.new }
     ensures holds { (world : World) → P.fits_poms source.old world → Holds world given.now store.old
-        → Holds world given.now store.new }
+        → IsAt world origin.now → Holds world given.now store.new }
     ensures keeps { KeepsRead store.old store.new }
     ensures keeps_lines { KeepsLines store.old store.new }
     ensures cause { HasCause (P.faults source.old) (P.faults source.new) (build_failed result) }
@@ -105,7 +108,7 @@ fn fresh<P: PomSource>(
 
 // A parent that was found, and what it builds on.
 #[cycle(stored)]
-#[tactic(auto, using(crate::proofs::Telling::untold))]
+#[tactic(auto, using(crate::proofs::Telling::told_both, crate::proofs::Telling::untold, crate::proofs::Judging::packed_there, crate::proofs::Judging::are_places, crate::proofs::Judging::never_refused))]
 fn entered<P: PomSource>(
     alloc: Global,
     store: &mut Store,
@@ -118,27 +121,32 @@ fn entered<P: PomSource>(
     found: &Candidate,
 ) -> Result<Shared<Joined>, BuildFault>
     ensures says { (world : World) → P.fits_poms source.old world → Holds world given.now store.old
+        → LedThere world origin.now found.now
         → Says (entered world given.now (joined_up world given.now left) child.now seen.now
         (gav_of origin.now) found.now) result }
     ensures fit { (world : World) → P.fits_poms source.old world → P.fits_poms source.new world }
     ensures same { TellsOn P.tells_same source.old source.new }
     ensures holds { (world : World) → P.fits_poms source.old world → Holds world given.now store.old
-        → Holds world given.now store.new }
+        → LedThere world origin.now found.now → Holds world given.now store.new }
     ensures keeps { KeepsRead store.old store.new }
     ensures keeps_lines { KeepsLines store.old store.new }
     ensures cause { HasCause (P.faults source.old) (P.faults source.new) (build_failed result) }
 {
     let raw = text_of(found)?;
     let raw = packed(alloc, child, origin, raw)?;
-    match line(alloc, store, source, given, left, seen, &raw) {
+    let places = match active_from(alloc, store, source, given, origin, &raw) {
+        Ok(places) => places,
+        Err(fault) => return Err(fault),
+    };
+    match line(alloc, store, source, given, left, seen, &raw, &places) {
         Ok(line) => Ok(line),
         Err(fault) => Err(fault),
     }
 }
 
-// A POM with its profiles, and what it builds on.
+// A POM with its profiles at some places, and what it builds on.
 #[cycle(stored)]
-#[tactic(auto, using(crate::proofs::Telling::told_both))]
+#[tactic(auto, using(crate::proofs::Judging::line_gives))]
 fn line<P: PomSource>(
     alloc: Global,
     store: &mut Store,
@@ -147,8 +155,10 @@ fn line<P: PomSource>(
     left: u32,
     seen: &List<PomId>,
     raw: &Shared<RawModel>,
+    places: &List<usize>,
 ) -> Result<Shared<Joined>, BuildFault>
     ensures says { (world : World) → P.fits_poms source.old world → Holds world given.now store.old
+        → places.now ≡ active_places given.now world.there raw.now
         → Says (line world given.now (joined_up world given.now left) seen.now raw.now) result }
     ensures fit { (world : World) → P.fits_poms source.old world → P.fits_poms source.new world }
     ensures same { TellsOn P.tells_same source.old source.new }
@@ -170,7 +180,7 @@ fn line<P: PomSource>(
         seen,
         &raw.parent,
     )?;
-    let own = with_profiles(alloc, source, given, raw)?;
+    let own = inject(alloc, raw, places.as_slice())?;
     Ok(put_over(alloc, &raw.pom, &own, &above)?)
 }
 
@@ -213,11 +223,41 @@ fn above<P: PomSource>(
     }
 }
 
+// A POM with its profiles at some places, over all that it builds on.
+fn with_places<P: PomSource>(
+    alloc: Global,
+    store: &mut Store,
+    source: &mut P,
+    given: &Given,
+    raw: &Shared<RawModel>,
+    places: &List<usize>,
+) -> Result<Shared<Joined>, BuildFault>
+    ensures says { (world : World) → P.fits_poms source.old world → Holds world given.now store.old
+        → places.now ≡ active_places given.now world.there raw.now
+        → Says (lineage world given.now raw.now) result }
+    ensures fit { (world : World) → P.fits_poms source.old world → P.fits_poms source.new world }
+    ensures same { TellsOn P.tells_same source.old source.new }
+    ensures holds { (world : World) → P.fits_poms source.old world → Holds world given.now store.old
+        → Holds world given.now store.new }
+    ensures kept { (world : World) → P.fits_poms source.old world → Holds world given.now store.old
+        → OnOk result (KeepsParent world store.new raw.now.pom raw.now.parent) }
+    ensures keeps { KeepsRead store.old store.new }
+    ensures keeps_lines { KeepsLines store.old store.new }
+    ensures cause { HasCause (P.faults source.old) (P.faults source.new) (build_failed result) }
+{
+    let none = List::new(alloc);
+    match line(alloc, store, source, given, 31, &none, raw, places) {
+        Ok(line) => Ok(line),
+        Err(fault) => Err(fault),
+    }
+}
+
 /// A POM with its active profiles, over all that it builds on: its parents, each with its own profiles, and the super POM. Or the
 /// first refusal, from the POM up: an expression or a range in a parent's coordinates; a POM at its path that has no model; a
 /// parent that isn't found; one that was met before; the 33rd POM, which names the first; what the parent's text breaks; and a
 /// parent whose packaging isn't `pom`. `Source` comes only if the source's count of faults rose. Costs the models that are joined, and
 /// the bytes of each POM on the way the first time. POM Reference, "Inheritance"; limits are project rules.
+#[tactic(auto, using(crate::proofs::Telling::told_both, crate::proofs::Judging::are_places, crate::proofs::Judging::never_refused))]
 pub fn lineage<P: PomSource>(
     alloc: Global,
     store: &mut Store,
@@ -237,11 +277,11 @@ pub fn lineage<P: PomSource>(
     ensures keeps_lines { KeepsLines store.old store.new }
     ensures cause { HasCause (P.faults source.old) (P.faults source.new) (build_failed result) }
 {
-    let none = List::new(alloc);
-    match line(alloc, store, source, given, 31, &none, raw) {
-        Ok(line) => Ok(line),
-        Err(fault) => Err(fault),
-    }
+    let places = match active_places(alloc, source, given, raw) {
+        Ok(places) => places,
+        Err(fault) => return Err(fault),
+    };
+    with_places(alloc, store, source, given, raw, &places)
 }
 
 // Whether a POM may be a parent.
@@ -292,9 +332,38 @@ fn as_parent<P: PomSource>(
     }
 }
 
+// What `lineage` answers of the POM at a path of the project.
+#[tactic(auto, using(crate::proofs::Telling::told_both, crate::proofs::Judging::are_places, crate::proofs::Judging::never_refused))]
+fn by_itself<P: PomSource>(
+    alloc: Global,
+    store: &mut Store,
+    source: &mut P,
+    given: &Given,
+    path: &Text,
+    raw: &Shared<RawModel>,
+) -> Result<Shared<Joined>, BuildFault>
+    ensures says { (world : World) → P.fits_poms source.old world → Holds world given.now store.old
+        → read_at world path.now ≡ Ok (Some raw.now)
+        → Says (lineage world given.now raw.now) result }
+    ensures fit { (world : World) → P.fits_poms source.old world → P.fits_poms source.new world }
+    ensures same { TellsOn P.tells_same source.old source.new }
+    ensures holds { (world : World) → P.fits_poms source.old world → Holds world given.now store.old
+        → read_at world path.now ≡ Ok (Some raw.now) → Holds world given.now store.new }
+    ensures keeps { KeepsRead store.old store.new }
+    ensures keeps_lines { KeepsLines store.old store.new }
+    ensures cause { HasCause (P.faults source.old) (P.faults source.new) (build_failed result) }
+{
+    let places = match active_at(alloc, store, source, given, path, raw) {
+        Ok(places) => places,
+        Err(fault) => return Err(fault),
+    };
+    with_places(alloc, store, source, given, raw, &places)
+}
+
 /// What `lineage` answers of the POM at a path of the project, where `raw` is what was read at this path. What a POM of packaging `pom`
 /// comes to stays in the store as that of a parent, and is taken from there, so that a module that is a parent, too, is joined once in a
-/// run, with its profiles. Costs what `lineage` does, or a comparison of 32 POMs at most where it was joined before. Project rule.
+/// run, with its profiles. Which of its profiles are active is taken from the store, if it was found there before, as `active_at` says. Costs
+/// what `lineage` does, or a comparison of 32 POMs at most where it was joined before. Project rule.
 pub fn module_lineage<P: PomSource>(
     alloc: Global,
     store: &mut Store,
@@ -322,6 +391,6 @@ pub fn module_lineage<P: PomSource>(
     if is_parent(raw) {
         as_parent(alloc, store, source, given, path, raw)
     } else {
-        lineage(alloc, store, source, given, raw)
+        by_itself(alloc, store, source, given, path, raw)
     }
 }

@@ -90,7 +90,7 @@ module _ (poms : List ProjectPom) (i : ℕ) (p : ProjectPom) (low : i < length p
 
 -- what was read alone holds where coordinates lead to the project's POMs, with these kept
 pub own_held : {store alone kept : Store} {list poms : List ProjectPom} {run : RunStore} (tree local remote : Files) (given : Given) → list ≡ poms
-    → ((world other : World) (given : Given) → Holds world given store → AgreesOnPaths world other → Holds other given alone)
+    → ((world other : World) (given : Given) → Holds world given store → AgreesOnPaths world other → other.there ≡ world.there → Holds other given alone)
     → ((tree local remote : Files) (given : Given) → Holds (world_of list tree local remote) given alone → project_poms (world_of [] tree local remote) given ≡ Ok list → Holds (world_of list tree local remote) given kept)
     → ((world : World) (given : Given) → Holds world given kept → HoldsAll world given run)
     → Holds (world_of [] tree local remote) given store → project_poms (world_of [] tree local remote) given ≡ Ok poms → HoldsAll (world_of poms tree local remote) given run
@@ -99,4 +99,4 @@ own_held {store} {alone} {kept} {list} {poms} {run} tree local remote given same
     subst (λ (l : List ProjectPom). HoldsAll (world_of l tree local remote) given run) same
     (over (world_of list tree local remote) given
     (keep tree local remote given
-    (only (world_of [] tree local remote) (world_of list tree local remote) given held (agrees tree local remote given list so)) so))
+    (only (world_of [] tree local remote) (world_of list tree local remote) given held (agrees tree local remote given list so) refl) so))

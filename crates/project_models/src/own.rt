@@ -28,9 +28,9 @@ fn keep_own(alloc: Global, store: &mut Store, poms: &[ProjectPom]) -> Mem<()>
     Ok(())
 }
 
-/// What the effective models of a project's POMs are built over: what was read by path, and each POM under its coordinates too, so that
-/// none which another one names is read or parsed again. It is for the world in which coordinates lead to the project's POMs first. Costs
-/// the path and the coordinates of each POM. Project rule.
+/// What the effective models of a project's POMs are built over: what was read by path and which profiles are active there, and each POM
+/// under its coordinates too, so that none which another one names is read or parsed again. It is for the world in which coordinates lead
+/// to the project's POMs first. Costs the path and the coordinates of each POM. Project rule.
 pub(crate) fn own_store(alloc: Global, store: Store, poms: &List<ProjectPom>) -> Mem<RunStore>
     ensures { (tree local remote : Files) (given : givens.Given)
         → Holds (world_of [] tree local remote) given store
@@ -38,7 +38,7 @@ pub(crate) fn own_store(alloc: Global, store: Store, poms: &List<ProjectPom>) ->
         → IfOk result (HoldsAll (world_of poms.now tree local remote) given) }
 {
     let list = poms.as_slice();
-    let mut read = store.only_read(alloc);
+    let mut read = store.only_by_path(alloc);
     keep_own(alloc, &mut read, list)?;
     let run = RunStore::over(alloc, read);
     Ok(run)

@@ -9,3 +9,4 @@ pub returns : goal.returns
 returns c = λ world given.
     nothing_held world given _ (λ path. ap (lookup (bytes_eq path)) c.new.ensures.empty) (λ gav. ap (lookup (gav_eq gav)) c.new-2.ensures.empty)
     (λ path. ap (lookup (bytes_eq path)) c.new-3.ensures.empty) (λ gav. ap (lookup (gav_eq gav)) c.new-4.ensures.empty)
+    (λ path. ap (lookup (bytes_eq path)) c.new-5.ensures.empty)

@@ -78,7 +78,6 @@ fn serves(bound: &Bound, packaging: &Text, base: &BuildBase) -> bool
 }
 
 // What was built, if it serves.
-#[tactic(auto, using(crate::proofs::Building::kept_serves))]
 fn served(bound: &Bound, packaging: &Text, base: &BuildBase) -> Mem<Option<Shared<BuildBase>>>
     ensures { IfOk result (λ found. IfSome found (λ it.
         option_map (bound_base base.now) (bindings packaging.now) ≡ Some it)) }

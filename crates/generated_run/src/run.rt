@@ -136,7 +136,7 @@ fn make_and_build<W: Threads + Wait + Sync>(
 {
     let Project { tree, remote } = generated(alloc, poms)?;
     let mut tree = tree;
-    let given = given_of(alloc, machine, line)?;
+    let given = given_of(machine, line)?;
     let mut hands = made_hands(alloc, &remote, line.workers)?;
     let shelf = MemShelf::without_failures(alloc, List::new(alloc))?;
     Ok(build_made(rt, alloc, poms, &given, line, &mut tree, shelf, &mut hands))

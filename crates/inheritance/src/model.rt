@@ -5,7 +5,7 @@ ghost use Rattle.inheritance.specs.Inherit.{inherit, inherit_base, inherit_build
 
 use crate::placing::inherited_plugins;
 use model_merge::{Item, settled, stated, stated_list, with_others};
-use model_types::{Build, BuildBase, Coordinates, ModelBase, Outputs, Parent, RawModel, Sources};
+use model_types::{Build, BuildBase, Coordinates, ModelBase, Outputs, RawModel, Sources};
 use mvn_base::Pair;
 use mvn_shared::{List, Mem, Shared};
 use std::alloc::Global;
@@ -170,13 +170,6 @@ fn inherit_build(alloc: Global, child: &Build, parent: &Build) -> Mem<Build>
     })
 }
 
-// The same parent, where there is one.
-fn same_parent(parent: &Option<Shared<Parent>>) -> Mem<Option<Shared<Parent>>>
-    ensures { IfOk result (λ same. same ≡ parent.now) }
-{
-    Ok(parent.clone()?)
-}
-
 /// A POM with what it takes over from the one that it builds on. Costs both, on the average. POM Reference, "Inheritance".
 #[tactic(auto, unfolding(crate::specs::Inherit::inherit))]
 pub fn inherit(alloc: Global, child: &RawModel, parent: &RawModel) -> Mem<RawModel>
@@ -186,7 +179,7 @@ pub fn inherit(alloc: Global, child: &RawModel, parent: &RawModel) -> Mem<RawMod
     let base = Shared::new(alloc, inherit_base(alloc, &child.base, &parent.base)?)?;
     let build = Shared::new(alloc, inherit_build(alloc, &child.build, &parent.build)?)?;
     let pom = child.pom.share()?;
-    let own_parent = same_parent(&child.parent)?;
+    let own_parent = child.parent.clone()?;
     let profiles = child.profiles.share()?;
     Ok(RawModel {
         pom,

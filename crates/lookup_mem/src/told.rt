@@ -3,11 +3,9 @@ ghost use Rattle.std.specs.Option.{option_copied};
 ghost use Rattle.lookup_mem.specs.Held.{known_of, short, told_of};
 
 use mediation::{Known, Library};
+use mvn_outside::MOST_VERSIONS;
 use mvn_shared::{List, Mem, Text};
 use std::alloc::Global;
-
-/// The greatest number of versions of an artifact that are told. Project rule.
-const MOST_VERSIONS: usize = 4096;
 
 // What an artifact's versions are kept under: its group, a colon and itself.
 pub fn name_of(group: &Text, artifact: &Text) -> Mem<Text>

@@ -11,8 +11,8 @@ use mvn_base::version_in;
 use mvn_shared::{List, Mem, Text};
 use std::alloc::Global;
 
-/// The most versions that a listing gives.
-const MOST_VERSIONS: usize = 4096;
+/// The greatest number of versions of an artifact that a listing gives. Project rule.
+pub const MOST_VERSIONS: usize = 4096;
 
 // The versions whose POMs have these names, in their order.
 fn versions_among(alloc: Global, names: &[Text], group: &Text, artifact: &Text) -> Mem<Vec<Text>>

@@ -168,7 +168,7 @@ where
         result.trace result.answers result.outcome }
     ensures hands { OthersStay (Ok line.now) hands.old hands.new }
 {
-    match given_of(alloc, machine, line) {
+    match given_of(machine, line) {
         Ok(given) => build_given(rt, alloc, &given, line, tree, shelf, hands),
         Err(error) => nothing(alloc, shelf, Err(error)),
     }

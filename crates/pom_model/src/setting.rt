@@ -6,11 +6,8 @@ ghost use Rattle.pom_model.specs.Fields.{configuration, setting_of, settings_wit
 use crate::element::{at, child};
 use mvn_base::Setting;
 use mvn_shared::{List, Mem, Shared};
-use pom_text::Node;
+use pom_text::{DEPTH, Node};
 use std::alloc::Global;
-
-/// The most elements that may be open at once.
-const DEPTH: u32 = 64;
 
 // An element with its own text as it stands, and these in it.
 fn setting(node: &Node, children: List<Setting>) -> Mem<Setting>

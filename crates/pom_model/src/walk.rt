@@ -8,14 +8,11 @@ use crate::fault::{Fault, Spot};
 use crate::table::{Kind, Row, Times, found, rows_under};
 use mvn_base::Rule;
 use mvn_shared::{Mem, Text};
-use pom_text::Node;
+use pom_text::{DEPTH, Node};
 use std::alloc::Global;
 
 /// The most items of one list.
 const ITEMS: usize = 1024;
-
-/// The most elements that may be open at once.
-const DEPTH: u32 = 64;
 
 // An element that is read, by its number.
 #[tactic(auto, unfolding(crate::specs::Faults::read_child))]

@@ -27,3 +27,4 @@ pub use fault::TextFault;
 pub use law::one_reading;
 pub use node::{Node, PomText};
 pub use read::read_text;
+pub use reader::DEPTH;

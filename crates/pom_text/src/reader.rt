@@ -17,8 +17,8 @@ use mvn_base::Rule;
 use mvn_shared::{List, Mem};
 use std::alloc::Global;
 
-/// The most elements that may be open at once.
-const DEPTH: usize = 64;
+/// The most elements that may be open at once. Project rule.
+pub const DEPTH: u32 = 64;
 
 /// The elements of a text; or the rule that ends the reading, and what follows there.
 #[derive(Drop)]
@@ -69,7 +69,7 @@ fn finish(tree: Tree, text: &str, whole: bool) -> Reading<'_>
 fn is_deep(tree: &Tree, part: &Part) -> bool
     ensures { result ≡ (length tree.now.path.items == 64 && begins_element (said part.now)) }
 {
-    tree.path.len() == DEPTH && part.begins_element()
+    tree.path.len() == DEPTH as usize && part.begins_element()
 }
 
 /// Reads a text in which each character may stand; `whole` says that nothing follows it. Costs one pass, and one copy of the text, which

@@ -10,15 +10,12 @@ use crate::listing::{local_versions, remote_versions};
 use mediation::LookupFault;
 use model_resolver::Failures;
 use model_types::Model;
-use mvn_outside::{Remote, Shelf};
+use mvn_outside::{MOST_VERSIONS, Remote, Shelf};
 use mvn_shared::{Bytes, FileMap, List, Mem, Shared, Text};
 use std::alloc::Global;
 
 /// An artifact's versions, unless there are too many.
 pub(crate) type Versions = Option<List<Text>>;
-
-/// The greatest number of versions of an artifact. Project rule.
-const MOST_VERSIONS: usize = 4096;
 
 // Puts a module's version to others, if it is of this artifact.
 fn push_version(model: &Model, group: &Text, artifact: &Text, list: &mut List<Text>) -> Mem<()>

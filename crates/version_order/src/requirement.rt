@@ -87,6 +87,13 @@ fn divider_place(text: &[u8]) -> usize
     text.len()
 }
 
+// A copy of a text, which shares its bytes if the text does.
+fn copied(text: &Text) -> Mem<Text>
+    ensures { IfOk result (λ copy. copy ≡ text.now) }
+{
+    Ok(text.clone()?)
+}
+
 // A text without a divider.
 fn soft(text: &Text) -> Result<Requirement, RequirementError>
     ensures value { IfOk result (λ parsed. soft text.now ≡ Ok parsed) }
@@ -95,5 +102,5 @@ fn soft(text: &Text) -> Result<Requirement, RequirementError>
     if text.is_empty() {
         return Err(RequirementError::BadRange { place: 0 });
     }
-    Ok(Requirement::Soft(text.clone()?))
+    Ok(Requirement::Soft(copied(text)?))
 }

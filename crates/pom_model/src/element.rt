@@ -1,4 +1,4 @@
-ghost use Rattle.std.specs.Prelude.{◌≡◌, option_map, is_some, slice_get, IfOk, Some};
+ghost use Rattle.std.specs.Prelude.{◌≡◌, option_map, is_some, slice_get, IfOk, IfSome, Some};
 ghost use Rattle.std.specs.Option.{option_copied};
 ghost use Rattle.std.specs.Str.{bytes_eq};
 ghost use Rattle.pom_model.specs.Elements.{child, named, non_empty, text_of, text_or, trimmed};
@@ -15,10 +15,14 @@ fn trimmed(text: &str) -> &str
     text.trim_ascii()
 }
 
-// Whether two texts are the same.
-fn same(text: &str, other: &str) -> bool
+/// Whether two texts are the same. Most that are compared differ in length, so that is looked at first.
+#[tactic(auto, using(crate::proofs::Texts::other_length))]
+pub(crate) fn same(text: &str, other: &str) -> bool
     ensures { result ≡ bytes_eq text.now other.now }
 {
+    if text.len() != other.len() {
+        return false;
+    }
     text == other
 }
 
@@ -42,7 +46,11 @@ pub(crate) fn named<'a>(nodes: &'a [Node], k: u32, name: &str) -> Option<&'a Nod
     ensures { option_copied result ≡ named nodes.now name.now k }
 {
     let node = at(nodes, k)?;
-    if node.name.is(name) { Some(node) } else { None }
+    if same(name_of(node), name) {
+        Some(node)
+    } else {
+        None
+    }
 }
 
 /// The first element of a name in another, or in none. Costs the number of elements in it.
@@ -62,13 +70,16 @@ pub(crate) fn child<'a>(nodes: &'a [Node], node: Option<&'a Node>, name: &str) -
 type Inside<'a> = (&'a Text, &'a str);
 
 // A copy of what is in a text without the white space round it, which its copies share: coordinates are copied into keys and edges often.
-// One that has none is shared with the element's.
-#[tactic(auto, using(crate::proofs::Texts::is_same))]
+// One that has none is shared with the element's. It stands in its caller, as what is found by name below does, since a POM has many
+// texts and few fields.
+#[inline(always)]
+#[tactic(auto, using(crate::proofs::Texts::is_whole))]
 fn copied(alloc: Global, found: Inside<'_>) -> Mem<Text>
+    requires { found.1.now ≡ trimmed found.0.now }
     ensures { IfOk result (λ copy. copy ≡ found.entry.1.now) }
 {
     let (text, inside) = found;
-    if text.is(inside) {
+    if text.len() == inside.len() {
         return text.clone()?.shared(alloc);
     }
     Text::from_str(alloc, inside)?.shared(alloc)
@@ -83,7 +94,8 @@ pub(crate) fn own_text(alloc: Global, node: &Node) -> Mem<Text>
 
 // What is in a text, where that is more than white space.
 fn filled_text(text: &Text) -> Option<Inside<'_>>
-    ensures { option_map (λ i. i.1.now) result ≡ non_empty (trimmed text.now) }
+    ensures inside { option_map (λ i. i.1.now) result ≡ non_empty (trimmed text.now) }
+    ensures both { IfSome result (λ i. i.1.now ≡ trimmed i.0.now) }
 {
     let inside = trimmed(text.as_str());
     if inside.is_empty() {
@@ -94,10 +106,12 @@ fn filled_text(text: &Text) -> Option<Inside<'_>>
 }
 
 // The text of the first element of a name, where more than white space stands in it.
+#[inline(always)]
 #[tactic(auto, unfolding(crate::specs::Elements::text_of))]
 fn filled<'a>(nodes: &'a [Node], node: Option<&'a Node>, name: &str) -> Option<Inside<'a>>
-    ensures { option_map (λ i. i.1.now) result
+    ensures inside { option_map (λ i. i.1.now) result
         ≡ text_of nodes.now name.now (option_copied node.entry) }
+    ensures both { IfSome result (λ i. i.1.now ≡ trimmed i.0.now) }
 {
     let child = child(nodes, node, name)?;
     filled_text(&child.text)
@@ -114,6 +128,7 @@ fn filled_or<'a>(nodes: &'a [Node], node: Option<&'a Node>, name: &str, default:
 }
 
 // A default, which is shared with a text that is it already.
+#[inline(always)]
 #[tactic(auto, using(crate::proofs::Texts::is_same))]
 fn default_like(alloc: Global, default: &str, like: Option<&Text>) -> Mem<Text>
     ensures { IfOk result (λ text. text ≡ default.now) }
@@ -122,6 +137,9 @@ fn default_like(alloc: Global, default: &str, like: Option<&Text>) -> Mem<Text>
         if text.is(default) {
             return Ok(text.clone()?);
         }
+    }
+    if default.is_empty() {
+        return Ok(Text::of(String::new(alloc)));
     }
     Text::from_str(alloc, default)?.shared(alloc)
 }
@@ -142,6 +160,7 @@ pub(crate) fn text_of(
 }
 
 /// Or a default, which is shared with a text that is it already.
+#[inline(always)]
 pub(crate) fn text_or_like(
     alloc: Global,
     nodes: &[Node],

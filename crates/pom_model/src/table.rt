@@ -2,6 +2,8 @@ ghost use Rattle.std.specs.Prelude.{◌≡◌, length, map, find, option_map};
 ghost use Rattle.pom_model.specs.Spans.{is_named, rows_under, span};
 ghost use Rattle.pom_model.specs.Table.{found, kind_number, row_view, table};
 
+use crate::element::same;
+
 /// What an element of a POM is read as.
 #[derive(Clone, Copy)]
 pub(crate) enum Kind {
@@ -373,7 +375,7 @@ fn found_among(rows: &[Row], name: &str) -> Option<(Kind, Times)>
         ≡ option_map (λ r. (r.inner, r.times)) (find (is_named name.now) (map row_view rows.now)) }
 {
     for (_, element, inner, times) in rows {
-        if *element == "*" || *element == name {
+        if same(element, "*") || same(element, name) {
             return Some((*inner, *times));
         }
     }

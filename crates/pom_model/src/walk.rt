@@ -1,7 +1,8 @@
-ghost use Rattle.std.specs.Prelude.{◌≡◌, ◌<◌, ◌≤◌, ℕ, Some, map, find, length, option_map, is_some, slice_get, IfOk};
+ghost use Rattle.std.specs.Prelude.{◌≡◌, ◌<◌, ◌≤◌, ℕ, [], IsTrue, Some, map, find, length, option_map, is_some, slice_get, IfOk};
 ghost use Rattle.pom_model.specs.Faults.{begun, combines, ended, fault_within, first_fault, has_name, is_alone, is_combine, is_kind, is_required, missing, read_child, version_fault};
 ghost use Rattle.pom_model.specs.Spans.{is_lacking};
 ghost use Rattle.pom_model.specs.Table.{row_view};
+ghost use Rattle.pom_model.specs.declared.table.Kind.TheVariants.{Leaf};
 
 use crate::element::{child, is_filled, name_of, named, text_or};
 use crate::fault::{Fault, Spot};
@@ -175,6 +176,17 @@ fn ended(alloc: Global, nodes: &[Node], kind: Kind, node: &Node) -> Mem<Option<F
     }
 }
 
+// Whether an element is a text with no element in it, in which nothing is refused.
+fn is_bare(kind: Kind, node: &Node) -> bool
+    ensures leaf { IsTrue result → kind ≡ Leaf }
+    ensures none { IsTrue result → node.now.children ≡ [] }
+{
+    match kind {
+        Kind::Leaf => node.children.is_empty(),
+        _ => false,
+    }
+}
+
 // What is refused in an element, first in document order.
 fn fault_within(
     alloc: Global,
@@ -186,6 +198,9 @@ fn fault_within(
     ensures { IfOk result (λ fault. fault ≡ fault_within depth nodes.now kind node.now) }
 {
     if depth == 0 {
+        return Ok(None);
+    }
+    if is_bare(kind, node) {
         return Ok(None);
     }
     let children = node.children.as_slice();

@@ -1,11 +1,15 @@
-use Rattle.std.proofs.Common.{◌≡◌, IfOk, ap, subst, ◌∙◌}
+use Rattle.std.proofs.Common.{◌≡◌, IfOk, refl, ap, subst, ◌∙◌}
 use Rattle.std.proofs.lemmas.List.{drop_all}
+use Rattle.pom_model.proofs.Lacking.{bare}
 use Rattle.pom_model.proofs.Walks.{begun_refused, ended_same, fault_zero, read_seen, within_refused}
 use Rattle.pom_model.specs.Faults.{under}
 use Rattle.pom_model.proofs.walk.+fault_within.Goals as goal
 
 pub returns-then-depth-eq0 : goal.returns-then-depth-eq0
 returns-then-depth-eq0 t c = fault_zero c.args.depth c.args.nodes.now c.args.kind c.args.node.now c.if-depth-eq0.true
+
+pub returns-then-is_bare : goal.returns-then-is_bare
+returns-then-is_bare t c = bare c.args.depth c.args.nodes.now c.args.kind c.args.node.now (c.if-is_bare.ensures.leaf refl) (c.if-is_bare.ensures.none refl)
 
 pub returns-in-Some-2 : goal.returns-in-Some-2
 returns-in-Some-2 t c =

@@ -1,19 +1,30 @@
 #!/usr/bin/env bash
 # How fast texts are read, in MB/s of the built program `bench_elements`, each of 1 MiB or just below: a POM like those that
 # people write, elements in 63 others, one long text, white space, references alone, empty elements of three attributes,
-# properties that each have a name of their own, and one comment that doesn't end. A tenth of each is measured beside it: ten times its time is what linear costs. Where xmllint
-# is installed, its SAX reader runs beside it on the same bytes, and the ratio is told, in which 0.5 is half of its speed. On Linux the
-# memory of a run is told, above that of the start and the text itself: the most that was resident, what still is when the program
+# properties that each have a name of their own, and one comment that doesn't end. A tenth of each is measured beside it: ten times its time is what linear costs.
+# One process reads the text 100 times and lets go of each result before the next, as a build reads many POMs in one process. The time that is told is that of one
+# reading: a hundredth of the process's time above that of the smallest text. Where xmllint is installed, its SAX reader runs beside it on the same bytes, 100 times in
+# one process too, and the ratio is told, in which 0.5 is half of its speed. Behind it stands what a single reading costs in a process of its own, in which each page of
+# memory is new. On Linux the memory of such a process is told, above that of the start and the text itself: the most that was resident, what still is when the program
 # tells its answer and has freed no element yet, and how many times that the most is. The last lines tell what the model of a POM costs
-# beside its text: the same program reads both of a POM of dependencies, and the time of the text alone is taken off.
+# beside its text: the same program reads both of a POM of dependencies, as many times, and the time of the text alone is taken off.
 . "$(dirname "$0")/common.sh"
 want crates/bench_elements/out/bench_elements '(cd crates/bench_elements && rt run)'
+
+# How often one process reads a text: as often as xmllint does where it is told to repeat
+repeats=100
 once() {
   case $reader in
-    sax) xmllint --sax --noout in > out.sax 2>&1 || true ;;
-    model) "$program" model < in > out ;;
-    *) "$program" < in > out ;;
+    sax) xmllint --sax --noout --repeat in > out.sax 2>&1 || true ;;
+    alone) "$program" < in > out ;;
+    *) "$program" "$reader" "$repeats" < in > out ;;
   esac
+}
+
+# READER, TRIES: the nanoseconds of its run on the text
+spent_by() {
+  reader=$1
+  least "$2"
 }
 
 # BYTES: a text of as many or a few less
@@ -86,33 +97,29 @@ above_start() {
 }
 
 printf '<r/>' > in
-reader=own
-base=$(least 15)
+base=$(spent_by text 5)
+base_alone=$(spent_by alone 15)
 memory_base=$(memory)
-reader=sax
-if command -v xmllint > xmllint.path; then sax_base=$(least 15); else sax_base=; fi
+if command -v xmllint > xmllint.path; then sax_base=$(spent_by sax 5); else sax_base=; fi
 for kind in dependencies nested long white references attributes properties unfinished; do
   for most in 104857 1048576; do
     "$kind" "$most" > in
-    reader=own
-    spent=$(($(least 15) - base))
+    alone=$(($(spent_by alone 15) - base_alone))
+    spent=$(($(spent_by text 5) - base))
     ratio=
     if [ -n "$sax_base" ]; then
-      reader=sax
-      sax=$(($(least 15) - sax_base))
+      sax=$(($(spent_by sax 5) - sax_base))
       ratio=$(awk -v own="$spent" -v sax="$sax" 'BEGIN { printf "%5.2f of SAX", sax / own }')
     fi
-    awk -v kind="$kind" -v bytes="$(wc -c < in)" -v spent="$spent" -v ratio="$ratio" -v most="$(above_start "$(memory)" "$memory_base")" -v told="$(cat out)" \
-      'BEGIN { printf "%-12s %7d bytes  %8.2f ms  %7.1f MB/s  %s  %s  %s\n", kind, bytes, spent / 1e6, bytes * 1e3 / spent, ratio, most, told }'
+    awk -v kind="$kind" -v bytes="$(wc -c < in)" -v spent="$((spent / repeats))" -v ratio="$ratio" -v alone="$alone" -v most="$(above_start "$(memory)" "$memory_base")" -v told="$(cat out)" \
+      'BEGIN { printf "%-12s %7d bytes  %8.3f ms  %7.1f MB/s  %s  %8.2f ms alone  %s  %s\n", kind, bytes, spent / 1e6, bytes * 1e3 / spent, ratio, alone / 1e6, most, told }'
   done
 done
 
 for most in 104857 1048576; do
   modelled "$most" > in
-  reader=own
-  spent=$(($(least 25) - base))
-  reader=model
-  both=$(($(least 25) - base))
+  spent=$((($(spent_by text 9) - base) / repeats))
+  both=$((($(spent_by model 9) - base) / repeats))
   awk -v bytes="$(wc -c < in)" -v spent="$spent" -v model="$((both - spent))" -v told="$(cat out)" \
-    'BEGIN { printf "model        %7d bytes  %8.2f ms beside %8.2f ms of the text  %5.2f of its time  %s\n", bytes, model / 1e6, spent / 1e6, model / spent, told }'
+    'BEGIN { printf "model        %7d bytes  %8.3f ms beside %8.3f ms of the text  %5.2f of its time  %s\n", bytes, model / 1e6, spent / 1e6, model / spent, told }'
 done

@@ -1,4 +1,5 @@
 // Expressions, values by name, and paths.
+use crate::word;
 use expressions::{Part, Values, parts};
 use mvn_base::Pair;
 use mvn_shared::{List, Mem, Text};
@@ -49,9 +50,14 @@ fn values(alloc: Global, texts: &[Text]) -> Mem<Values> {
 fn value(alloc: Global, name: &Text, texts: &[Text]) -> Mem<String> {
     let values = values(alloc, texts)?;
     match values.get(name) {
-        Some(value) => Ok(String::from_str(alloc, value.as_str())?),
-        None => Ok(String::from_str(alloc, "none")?),
+        Some(value) => word(alloc, value.as_str()),
+        None => word(alloc, "none"),
     }
+}
+
+// A path in a folder.
+fn path(alloc: Global, folder: &Text, path: &Text) -> Mem<String> {
+    word(alloc, joined(alloc, folder, path)?.as_str())
 }
 
 /// What is told of a row of expressions or paths.
@@ -59,10 +65,7 @@ pub(crate) fn told(alloc: Global, kind: &str, texts: &[Text]) -> Mem<String> {
     match (kind, texts) {
         ("parts", [text]) => split(alloc, text),
         ("value", [name, texts @ ..]) => value(alloc, name, texts),
-        ("path", [folder, path]) => Ok(String::from_str(
-            alloc,
-            joined(alloc, folder, path)?.as_str(),
-        )?),
-        _ => Ok(String::from_str(alloc, "no such row")?),
+        ("path", [folder, below]) => path(alloc, folder, below),
+        _ => word(alloc, "no such row"),
     }
 }

@@ -1,7 +1,8 @@
 // The report of one module.
-use crate::numbers::section;
+use crate::coordinates::{file_name, gav};
+use crate::orders::numbers::section;
 use build_core::Device;
-use mvn_base::{FileName, Gav, file_of, valid_group, valid_name, valid_version};
+use mvn_base::{FileName, Gav};
 use mvn_shared::{Bytes, List, Mem, Text};
 use run_report::{FullPart, ReportRow, RowEnd, report};
 use std::alloc::Global;
@@ -15,16 +16,9 @@ fn text(alloc: Global, spelled: &str) -> Mem<Text> {
     Ok(Text::of(text))
 }
 
-// The coordinate demo:NAME:1.
-fn gav(alloc: Global, name: &str) -> Mem<Gav> {
-    let group = Text::from_str(alloc, "demo")?;
-    let artifact = Text::from_str(alloc, name)?;
-    let version = Text::from_str(alloc, "1")?;
-    Ok(Gav {
-        group,
-        artifact,
-        version,
-    })
+// The coordinates demo:NAME:1.
+fn demo(alloc: Global, name: &str) -> Mem<Gav> {
+    gav(alloc, "demo", name, "1")
 }
 
 // How the module ended.
@@ -35,7 +29,7 @@ fn end(alloc: Global, word: &str, first: &str, second: &str) -> Mem<RowEnd> {
             let text = text(alloc, second)?;
             Ok(RowEnd::Goal { call, text })
         }
-        "skipped" => Ok(RowEnd::Skipped(gav(alloc, first)?)),
+        "skipped" => Ok(RowEnd::Skipped(demo(alloc, first)?)),
         "no artifact" => Ok(RowEnd::NoArtifact),
         "fault" => Ok(RowEnd::Fault(Device::Gate)),
         _ => Ok(RowEnd::Built),
@@ -60,7 +54,7 @@ pub(crate) fn report_row(alloc: Global, sections: &[&str]) -> Mem<String> {
         section(sections, 1),
         section(sections, 2),
     )?;
-    let gav = gav(alloc, "a")?;
+    let gav = demo(alloc, "a")?;
     shown(
         alloc,
         ReportRow {
@@ -76,22 +70,14 @@ pub(crate) fn report_row(alloc: Global, sections: &[&str]) -> Mem<String> {
 fn jar_of(alloc: Global, gav: &Gav) -> Mem<Option<FileName>> {
     let none = Text::from_str(alloc, "")?;
     let jar = Text::from_str(alloc, "jar")?;
-    let named = valid_group(gav.group.as_bytes())
-        && valid_name(gav.artifact.as_bytes())
-        && valid_version(gav.version.as_bytes())
-        && none.is_empty()
-        && valid_name(jar.as_bytes());
-    if !named {
-        return Ok(None);
-    }
-    Ok(Some(file_of(alloc, gav, &none, &jar)?))
+    file_name(alloc, gav, &none, &jar)
 }
 
 // The jars of demo:NAME:1 for these names.
 fn jars(alloc: Global, names: &str) -> Mem<List<FileName>> {
     let mut list = List::new(alloc);
     for name in names.split_whitespace() {
-        if let Some(jar) = jar_of(alloc, &gav(alloc, name)?)? {
+        if let Some(jar) = jar_of(alloc, &demo(alloc, name)?)? {
             list.push(jar)?;
         }
     }
@@ -115,7 +101,7 @@ fn full_part(alloc: Global, sections: &[&str]) -> Mem<FullPart> {
 pub(crate) fn full_row(alloc: Global, sections: &[&str]) -> Mem<String> {
     let mut notes = List::new(alloc);
     notes.push(text(alloc, section(sections, 4))?)?;
-    let gav = gav(alloc, "a")?;
+    let gav = demo(alloc, "a")?;
     let full = full_part(alloc, sections)?;
     shown(
         alloc,

@@ -1,40 +1,29 @@
 // Files, coordinates and refusals.
+use crate::coordinates::{file_name, gav};
 use crate::word;
 use mvn_base::{
-    Gav, Key, Place, PomId, Refusal, Rule, file_of, key_text, lock_name, valid_group, valid_name,
-    valid_version, version_in,
+    Gav, Key, Place, PomId, Refusal, Rule, key_text, lock_name, valid_group, valid_name, version_in,
 };
 use mvn_shared::{Mem, Shared, Text};
 use std::alloc::Global;
 
-fn gav(group: &Text, artifact: &Text, version: &Text) -> Mem<Gav> {
-    let group = group.clone()?;
-    let artifact = artifact.clone()?;
-    let version = version.clone()?;
-    Ok(Gav {
-        group,
-        artifact,
-        version,
-    })
-}
-
 // Coordinates of a group, an artifact and a version.
 fn shared_gav(alloc: Global, g: &Text, a: &Text, v: &Text) -> Mem<Shared<Gav>> {
-    Shared::new(alloc, gav(g, a, v)?)
+    let gav = gav(alloc, g.as_str(), a.as_str(), v.as_str())?;
+    Shared::new(alloc, gav)
 }
 
-// The name of a file, of valid names alone.
-fn file(alloc: Global, gav: &Gav, classifier: &Text, extension: &Text) -> Mem<String> {
-    let named = valid_group(gav.group.as_bytes())
-        && valid_name(gav.artifact.as_bytes())
-        && valid_version(gav.version.as_bytes())
-        && (classifier.is_empty() || valid_name(classifier.as_bytes()))
-        && valid_name(extension.as_bytes());
-    if !named {
-        return word(alloc, "not valid");
+// The name of a file in a repository.
+fn file_of(alloc: Global, gav: &Gav, classifier: &Text, extension: &Text) -> Mem<String> {
+    match file_name(alloc, gav, classifier, extension)? {
+        Some(name) => Ok(format!(in alloc; "{name}")?),
+        None => word(alloc, "not valid"),
     }
-    let name = file_of(alloc, gav, classifier, extension)?;
-    Ok(format!(in alloc; "{name}")?)
+}
+
+fn file(alloc: Global, g: &Text, a: &Text, v: &Text, c: &Text, extension: &Text) -> Mem<String> {
+    let gav = shared_gav(alloc, g, a, v)?;
+    file_of(alloc, &gav, c, extension)
 }
 
 // The version in the name of a POM.
@@ -61,8 +50,13 @@ fn key(group: &Text, artifact: &Text, kind: &Text, classifier: &Text) -> Mem<Key
     })
 }
 
-fn spelled_key(alloc: Global, key: Key) -> Mem<String> {
-    word(alloc, key_text(alloc, &key)?.as_str())
+fn spelled_key(alloc: Global, key: &Key) -> Mem<String> {
+    word(alloc, key_text(alloc, key)?.as_str())
+}
+
+fn keyed(alloc: Global, g: &Text, a: &Text, kind: &Text, classifier: &Text) -> Mem<String> {
+    let key = key(g, a, kind, classifier)?;
+    spelled_key(alloc, &key)
 }
 
 fn lock(alloc: Global, g: &Text, a: &Text, v: &Text) -> Mem<String> {
@@ -79,9 +73,13 @@ fn rule(name: &Text) -> Rule {
     }
 }
 
+fn spelled_refusal(alloc: Global, refusal: &Refusal) -> Mem<String> {
+    Ok(format!(in alloc; "{refusal}")?)
+}
+
 fn refused(alloc: Global, pom: PomId, rule: Rule, place: Place) -> Mem<String> {
     let refusal = Refusal { pom, rule, place };
-    Ok(format!(in alloc; "{refusal}")?)
+    spelled_refusal(alloc, &refusal)
 }
 
 // A refusal of a project's POM at a name.
@@ -92,18 +90,16 @@ fn at_name(alloc: Global, rule: Rule, path: &Text, name: &Text) -> Mem<String> {
 }
 
 // A refusal of a repository's POM at a byte.
-fn at_byte(alloc: Global, rule: Rule, gav: Gav, byte: &Text) -> Mem<String> {
+fn at_byte(alloc: Global, rule: Rule, g: &Text, a: &Text, v: &Text, byte: &Text) -> Mem<String> {
     let byte = byte.as_str().parse::<u64>().unwrap_or(0);
+    let gav = gav(alloc, g.as_str(), a.as_str(), v.as_str())?;
     refused(alloc, PomId::Gav(gav), rule, Place::Byte(byte))
 }
 
 // What is told of a row of files and coordinates in a repository.
 fn told_in_repository(alloc: Global, kind: &str, texts: &[Text]) -> Mem<String> {
     match (kind, texts) {
-        ("file", [g, a, v, classifier, extension]) => {
-            let gav = shared_gav(alloc, g, a, v)?;
-            file(alloc, &gav, classifier, extension)
-        }
+        ("file", [g, a, v, c, extension]) => file(alloc, g, a, v, c, extension),
         ("version-in", [group, artifact, path]) => named_version(alloc, group, artifact, path),
         _ => word(alloc, "no such row"),
     }
@@ -112,7 +108,7 @@ fn told_in_repository(alloc: Global, kind: &str, texts: &[Text]) -> Mem<String> 
 // What is told of a row of keys and locks.
 fn told_as_key(alloc: Global, kind: &str, texts: &[Text]) -> Mem<String> {
     match (kind, texts) {
-        ("key", [g, a, kind, classifier]) => spelled_key(alloc, key(g, a, kind, classifier)?),
+        ("key", [g, a, kind, classifier]) => keyed(alloc, g, a, kind, classifier),
         ("lock", [g, a, v]) => lock(alloc, g, a, v),
         _ => word(alloc, "no such row"),
     }
@@ -122,7 +118,7 @@ fn told_as_key(alloc: Global, kind: &str, texts: &[Text]) -> Mem<String> {
 fn told_as_refusal(alloc: Global, kind: &str, texts: &[Text]) -> Mem<String> {
     match (kind, texts) {
         ("at-name", [name, path, place]) => at_name(alloc, rule(name), path, place),
-        ("at-byte", [name, g, a, v, byte]) => at_byte(alloc, rule(name), gav(g, a, v)?, byte),
+        ("at-byte", [name, g, a, v, byte]) => at_byte(alloc, rule(name), g, a, v, byte),
         _ => word(alloc, "no such row"),
     }
 }

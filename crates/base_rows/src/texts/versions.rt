@@ -1,4 +1,5 @@
 // Versions and what requirements admit.
+use crate::word;
 use mvn_shared::{Mem, Text};
 use std::alloc::Global;
 use std::cmp::Ordering;
@@ -35,15 +36,15 @@ fn listed(alloc: Global, versions: &[Version]) -> Mem<String> {
     Ok(shown)
 }
 
-/// Versions sorted, those that are equal as they came, with how each compares with the next.
-pub(crate) fn sorted(alloc: Global, texts: &[Text]) -> Mem<String> {
+// Versions sorted, those that are equal as they came, with how each compares with the next.
+fn sorted(alloc: Global, texts: &[Text]) -> Mem<String> {
     let mut versions = versions(alloc, texts)?;
     versions.sort()?;
     listed(alloc, versions.as_slice())
 }
 
-/// How two versions compare.
-pub(crate) fn order(alloc: Global, a: &Text, b: &Text) -> Mem<String> {
+// How two versions compare.
+fn compared(alloc: Global, a: &Text, b: &Text) -> Mem<String> {
     let a = Version::parse(alloc, a)?;
     let b = Version::parse(alloc, b)?;
     let mark = mark(&a, &b);
@@ -68,8 +69,8 @@ fn short_text(alloc: Global, number: u32) -> Mem<Text> {
     Ok(Text::of(text))
 }
 
-/// How a version compares with each of all texts of four bytes of `01a.-`.
-pub(crate) fn among_short(alloc: Global, text: &Text) -> Mem<String> {
+// How a version compares with each of all texts of four bytes of `01a.-`.
+fn among_short(alloc: Global, text: &Text) -> Mem<String> {
     let version = Version::parse(alloc, text)?;
     let mut shown = String::new(alloc);
     for number in 0..625u32 {
@@ -98,8 +99,8 @@ fn marked(alloc: Global, requirement: &Requirement, texts: &[Text]) -> Mem<Strin
     Ok(format!(in alloc; "{kind} {marks}")?)
 }
 
-/// Whether a requirement is hard, and which of the versions it admits; or from where on it is none.
-pub(crate) fn admitted(alloc: Global, requirement: &Text, texts: &[Text]) -> Mem<String> {
+// Whether a requirement is hard, and which of the versions it admits; or from where on it is none.
+fn admitted(alloc: Global, requirement: &Text, texts: &[Text]) -> Mem<String> {
     match Requirement::parse(alloc, requirement) {
         Ok(requirement) => marked(alloc, &requirement, texts),
         Err(error) => Ok(format!(in alloc; "{error}")?),
@@ -108,16 +109,16 @@ pub(crate) fn admitted(alloc: Global, requirement: &Text, texts: &[Text]) -> Mem
 
 fn highest_of(alloc: Global, requirement: &Requirement, versions: &[Version]) -> Mem<String> {
     if versions.len() > 1000 {
-        return Ok(String::from_str(alloc, "too many")?);
+        return word(alloc, "too many");
     }
     match requirement.highest(versions) {
         Some(place) => Ok(format!(in alloc; "{place}")?),
-        None => Ok(String::from_str(alloc, "none")?),
+        None => word(alloc, "none"),
     }
 }
 
-/// The place of the highest version that a requirement admits.
-pub(crate) fn highest(alloc: Global, requirement: &Text, texts: &[Text]) -> Mem<String> {
+// The place of the highest version that a requirement admits.
+fn highest(alloc: Global, requirement: &Text, texts: &[Text]) -> Mem<String> {
     let versions = versions(alloc, texts)?;
     match Requirement::parse(alloc, requirement) {
         Ok(requirement) => highest_of(alloc, &requirement, versions.as_slice()),
@@ -129,10 +130,10 @@ pub(crate) fn highest(alloc: Global, requirement: &Text, texts: &[Text]) -> Mem<
 pub(crate) fn told(alloc: Global, kind: &str, texts: &[Text]) -> Mem<String> {
     match (kind, texts) {
         ("sorted", _) => sorted(alloc, texts),
-        ("order", [a, b]) => order(alloc, a, b),
+        ("compare", [a, b]) => compared(alloc, a, b),
         ("among-short", [text]) => among_short(alloc, text),
         ("admits", [requirement, texts @ ..]) => admitted(alloc, requirement, texts),
         ("highest", [requirement, texts @ ..]) => highest(alloc, requirement, texts),
-        _ => Ok(String::from_str(alloc, "no such row")?),
+        _ => word(alloc, "no such row"),
     }
 }

@@ -1,4 +1,5 @@
 // Command lines.
+use crate::word;
 use cli_words::{CommandLine, Word, options};
 use mvn_base::Pair;
 use mvn_shared::{Bytes, Mem, Text};
@@ -54,14 +55,18 @@ fn push_generated(alloc: Global, shown: &mut String, generated: Option<u32>) -> 
     Ok(())
 }
 
+fn push_workers(alloc: Global, shown: &mut String, workers: u32) -> Mem<()> {
+    if workers != 1 {
+        shown.push_str(format!(in alloc; " T{workers}")?.as_str())?;
+    }
+    Ok(())
+}
+
 // The phase, and how many workers where there are more than one.
 fn head(alloc: Global, line: &CommandLine) -> Mem<String> {
-    let phase = line.phase;
-    let workers = line.workers;
-    if workers == 1 {
-        return Ok(format!(in alloc; "{phase}")?);
-    }
-    Ok(format!(in alloc; "{phase} T{workers}")?)
+    let mut shown = word(alloc, line.phase.name())?;
+    push_workers(alloc, &mut shown, line.workers)?;
+    Ok(shown)
 }
 
 // What a command line asks for.
@@ -84,7 +89,7 @@ fn shown(alloc: Global, line: &CommandLine) -> Mem<String> {
 // What the words ask for, or the first fault.
 fn asked(alloc: Global, words: &[Bytes], hands: u32) -> Mem<String> {
     if words.len() > 1000 || hands == 0 || hands > 16 {
-        return Ok(String::from_str(alloc, "too many")?);
+        return word(alloc, "too many");
     }
     match options(alloc, words, hands) {
         Ok(line) => shown(alloc, &line),
@@ -107,6 +112,6 @@ fn number(digits: &[u8]) -> u32 {
 pub(crate) fn told(alloc: Global, fields: &[Bytes]) -> Mem<String> {
     match fields {
         [hands, words @ ..] => asked(alloc, words, number(hands.as_slice())),
-        [] => Ok(String::from_str(alloc, "no such row")?),
+        [] => word(alloc, "no such row"),
     }
 }

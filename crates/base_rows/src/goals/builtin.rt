@@ -2,6 +2,7 @@
 ghost use Rattle.std.specs.Prelude.{IfOk};
 ghost use Rattle.goal_types.specs.Goals.{HasOwnSlots};
 
+use crate::coordinates::gav;
 use gate_builtin::Builtin;
 use goal_types::{GoalAnswer, GoalCall, GoalRequest, Need, Slot, SourceFile};
 use mvn_base::{Gav, Phase};
@@ -11,14 +12,7 @@ use std::alloc::Global;
 
 // The module demo:app:1.0.
 pub(crate) fn module(alloc: Global) -> Mem<Gav> {
-    let group = Text::from_str(alloc, "demo")?;
-    let artifact = Text::from_str(alloc, "app")?;
-    let version = Text::from_str(alloc, "1.0")?;
-    Ok(Gav {
-        group,
-        artifact,
-        version,
-    })
+    gav(alloc, "demo", "app", "1.0")
 }
 
 // The goal surefire:test.

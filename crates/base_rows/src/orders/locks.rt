@@ -1,5 +1,5 @@
 // Names that workers take and free.
-use crate::numbers::{number, section};
+use crate::orders::numbers::{number, section};
 use mvn_shared::Mem;
 use name_locks::{LockTable, Mode, Tried};
 use std::alloc::Global;

@@ -1,6 +1,6 @@
 // Names, phases, types and settings.
 use crate::word;
-use mvn_base::{Setting, handler, phase_of, valid_group, valid_name, valid_version};
+use mvn_base::{Setting, TypeRule, handler, phase_of, valid_group, valid_name, valid_version};
 use mvn_shared::{List, Mem, Text};
 use std::alloc::Global;
 
@@ -33,14 +33,18 @@ fn phase(alloc: Global, text: &Text) -> Mem<String> {
     }
 }
 
-fn kind(alloc: Global, kind: &Text) -> Mem<String> {
-    let rule = handler(alloc, kind)?;
+fn spelled_rule(alloc: Global, rule: &TypeRule) -> Mem<String> {
     let extension = &rule.extension;
     let classifier = &rule.classifier;
     let classpath = if rule.on_classpath { "on" } else { "off" };
     Ok(format!(in alloc;
         "extension {extension} classifier ({classifier}) {classpath} the classpath"
     )?)
+}
+
+fn kind(alloc: Global, kind: &Text) -> Mem<String> {
+    let rule = handler(alloc, kind)?;
+    spelled_rule(alloc, &rule)
 }
 
 // A setting of this name, with a text.

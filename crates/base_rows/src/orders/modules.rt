@@ -1,5 +1,6 @@
 // The order of modules, the edges that are kept, and the modules that are selected.
-use crate::numbers::{edges, has_word, number, numbers, section};
+use crate::orders::numbers::{edges, has_word, number, numbers, section};
+use crate::word;
 use mvn_shared::Mem;
 use reactor_order::{Cycle, OrderError, edges_below, keep, modules_below, order, select};
 use std::alloc::Global;
@@ -20,23 +21,23 @@ fn listed(alloc: Global, label: &str, list: &[u32]) -> Mem<String> {
 fn cycle(alloc: Global, cycle: &Cycle, whole: bool) -> Mem<String> {
     let list = cycle.list.as_slice();
     if list.is_empty() {
-        return Ok(String::from_str(alloc, "an empty cycle")?);
+        return word(alloc, "an empty cycle");
     }
     if whole {
         return listed(alloc, "cycle", list);
     }
-    Ok(String::from_str(alloc, "cycle")?)
+    word(alloc, "cycle")
 }
 
 // The order of modules, or the cycle.
 fn ordered(alloc: Global, n: u32, edges: &[(u32, u32)], whole: bool) -> Mem<String> {
     if !edges_below(n, edges) {
-        return Ok(String::from_str(alloc, "an edge to no module")?);
+        return word(alloc, "an edge to no module");
     }
     match order(alloc, n, edges) {
         Ok(list) => listed(alloc, "", list.as_slice()),
         Err(OrderError::Cycle(found)) => cycle(alloc, &found, whole),
-        Err(OrderError::Memory) => Ok(String::from_str(alloc, "out of memory")?),
+        Err(OrderError::Memory) => word(alloc, "out of memory"),
     }
 }
 
@@ -59,7 +60,7 @@ fn shown_edges(alloc: Global, edges: &[(u32, u32)]) -> Mem<String> {
 
 fn kept(alloc: Global, n: u32, firm: &[(u32, u32)], soft: &[(u32, u32)]) -> Mem<String> {
     if !edges_below(n, firm) || !edges_below(n, soft) {
-        return Ok(String::from_str(alloc, "an edge to no module")?);
+        return word(alloc, "an edge to no module");
     }
     let list = keep(alloc, n, firm, soft)?;
     shown_edges(alloc, list.as_slice())
@@ -87,7 +88,7 @@ fn selected(
     from: Option<u32>,
 ) -> Mem<String> {
     if order.len() > 1000 {
-        return Ok(String::from_str(alloc, "too many modules")?);
+        return word(alloc, "too many modules");
     }
     let n = order.len() as u32;
     let all = match chosen {
@@ -95,7 +96,7 @@ fn selected(
         Some(chosen) => modules_below(n, chosen),
     };
     if !all || !modules_below(n, order) || !edges_below(n, edges) {
-        return Ok(String::from_str(alloc, "no module")?);
+        return word(alloc, "no module");
     }
     let make = has_word(words, "make");
     let dependents = has_word(words, "dependents");

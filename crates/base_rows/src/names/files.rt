@@ -14,7 +14,7 @@ fn shared_gav(alloc: Global, g: &Text, a: &Text, v: &Text) -> Mem<Shared<Gav>> {
 }
 
 // The name of a file in a repository.
-fn file_of(alloc: Global, gav: &Gav, classifier: &Text, extension: &Text) -> Mem<String> {
+fn file_text(alloc: Global, gav: &Gav, classifier: &Text, extension: &Text) -> Mem<String> {
     match file_name(alloc, gav, classifier, extension)? {
         Some(name) => Ok(format!(in alloc; "{name}")?),
         None => word(alloc, "not valid"),
@@ -23,7 +23,7 @@ fn file_of(alloc: Global, gav: &Gav, classifier: &Text, extension: &Text) -> Mem
 
 fn file(alloc: Global, g: &Text, a: &Text, v: &Text, c: &Text, extension: &Text) -> Mem<String> {
     let gav = shared_gav(alloc, g, a, v)?;
-    file_of(alloc, &gav, c, extension)
+    file_text(alloc, &gav, c, extension)
 }
 
 // The version in the name of a POM.

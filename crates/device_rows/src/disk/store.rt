@@ -1,4 +1,5 @@
 // Rows about repositories: what is published, and what a remote gives.
+use crate::gav;
 use local_repo::{put, settle, stage, sweep};
 use mvn_base::{FileName, Gav, file_of, valid_group, valid_name, valid_version};
 use mvn_outside::{Area, ReadFault, Remote};
@@ -6,15 +7,9 @@ use mvn_shared::{Mem, Text};
 use outside_real::{RealArea, RealRemote, RealShelf};
 use std::alloc::Global;
 
+// An artifact of org.demo in version 1.0.
 fn demo(alloc: Global, artifact: &str) -> Mem<Gav> {
-    let group = Text::from_str(alloc, "org.demo")?;
-    let artifact = Text::from_str(alloc, artifact)?;
-    let version = Text::from_str(alloc, "1.0")?;
-    Ok(Gav {
-        group,
-        artifact,
-        version,
-    })
+    gav(alloc, "org.demo", artifact, "1.0")
 }
 
 // The name of the POM of an artifact of org.demo in version 1.0.

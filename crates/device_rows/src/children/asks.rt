@@ -2,27 +2,16 @@
 ghost use Rattle.std.specs.Prelude.{IfOk};
 ghost use Rattle.goal_types.specs.Goals.{HasOwnSlots};
 
+use crate::gav;
 use child_mem::{ChildScript, MemSpawner};
 use child_outside::ChildRecord;
 use gate_process::ProcessGate;
 use goal_types::{GoalAnswer, GoalCall, GoalRequest, Need, Slot, request_bytes};
-use mvn_base::{Gav, Phase};
+use mvn_base::Phase;
 use mvn_outside::{DeviceFault, Gate};
 use mvn_shared::{Bytes, List, Mem, Text};
 use outside_mem::Calls;
 use std::alloc::Global;
-
-// The module demo:app:1.0.
-fn module(alloc: Global) -> Mem<Gav> {
-    let group = Text::from_str(alloc, "demo")?;
-    let artifact = Text::from_str(alloc, "app")?;
-    let version = Text::from_str(alloc, "1.0")?;
-    Ok(Gav {
-        group,
-        artifact,
-        version,
-    })
-}
 
 // The goal surefire:test.
 fn goal_call(alloc: Global) -> Mem<GoalCall> {
@@ -47,7 +36,7 @@ fn goal_call(alloc: Global) -> Mem<GoalCall> {
 fn request(alloc: Global) -> Mem<GoalRequest>
     ensures { IfOk result (λ request. HasOwnSlots request.own) }
 {
-    let module = module(alloc)?;
+    let module = gav(alloc, "demo", "app", "1.0")?;
     let call = goal_call(alloc)?;
     Ok(GoalRequest {
         module,

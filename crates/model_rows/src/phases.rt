@@ -16,11 +16,15 @@ fn shown_bindings(alloc: Global, bound: &Option<List<Shared<Plugin>>>) -> Mem<St
     }
 }
 
-/// The plugins that a packaging binds.
-pub(crate) fn told_bindings(alloc: Global, packaging: &str) -> Mem<String> {
+fn bound_by(alloc: Global, packaging: &str) -> Mem<String> {
     let packaging = Text::from_str(alloc, packaging)?;
     let bound = bindings(alloc, &packaging)?;
     shown_bindings(alloc, &bound)
+}
+
+/// The plugins that a packaging binds.
+pub(crate) fn told_bindings(alloc: Global, packaging: &str) -> Result<String, ModelError> {
+    Ok(bound_by(alloc, packaging)?)
 }
 
 // The plugins of a POM with those that its packaging binds.

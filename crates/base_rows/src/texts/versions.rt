@@ -1,0 +1,139 @@
+// Versions and what requirements admit.
+use crate::word;
+use mvn_shared::{Mem, Text};
+use std::alloc::Global;
+use std::cmp::Ordering;
+use version_order::{Requirement, Version};
+
+// How two versions compare, asked both ways.
+fn mark(a: &Version, b: &Version) -> char {
+    match (a.order(b), b.order(a)) {
+        (Ordering::Less, Ordering::Greater) => '<',
+        (Ordering::Equal, Ordering::Equal) => '=',
+        (Ordering::Greater, Ordering::Less) => '>',
+        _ => '?',
+    }
+}
+
+fn versions(alloc: Global, texts: &[Text]) -> Mem<Vec<Version>> {
+    let mut versions = Vec::new(alloc);
+    for text in texts {
+        versions.push(Version::parse(alloc, text)?)?;
+    }
+    Ok(versions)
+}
+
+// The versions, with how each compares with the next.
+fn listed(alloc: Global, versions: &[Version]) -> Mem<String> {
+    let mut shown = String::new(alloc);
+    for at in 0..versions.len() {
+        if at > 0 {
+            let mark = mark(&versions[at - 1], &versions[at]);
+            shown.push_str(format!(in alloc; " {mark} ")?.as_str())?;
+        }
+        shown.push_str(versions[at].as_text().as_str())?;
+    }
+    Ok(shown)
+}
+
+// Versions sorted, those that are equal as they came, with how each compares with the next.
+fn sorted(alloc: Global, texts: &[Text]) -> Mem<String> {
+    let mut versions = versions(alloc, texts)?;
+    versions.sort()?;
+    listed(alloc, versions.as_slice())
+}
+
+// How two versions compare.
+fn compared(alloc: Global, a: &Text, b: &Text) -> Mem<String> {
+    let a = Version::parse(alloc, a)?;
+    let b = Version::parse(alloc, b)?;
+    let mark = mark(&a, &b);
+    Ok(format!(in alloc; "{mark}")?)
+}
+
+// Five bytes among which versions split in each way.
+const LETTERS: [char; 5] = ['0', '1', 'a', '.', '-'];
+
+fn push_letter(text: &mut String, number: u32) -> Mem<()> {
+    text.push(LETTERS[(number % 5) as usize])?;
+    Ok(())
+}
+
+// The text of a number below 625: four of these bytes.
+fn short_text(alloc: Global, number: u32) -> Mem<Text> {
+    let mut text = String::new(alloc);
+    push_letter(&mut text, number / 125)?;
+    push_letter(&mut text, number / 25)?;
+    push_letter(&mut text, number / 5)?;
+    push_letter(&mut text, number)?;
+    Ok(Text::of(text))
+}
+
+// How a version compares with each of all texts of four bytes of `01a.-`.
+fn among_short(alloc: Global, text: &Text) -> Mem<String> {
+    let version = Version::parse(alloc, text)?;
+    let mut shown = String::new(alloc);
+    for number in 0..625u32 {
+        let other = Version::parse(alloc, &short_text(alloc, number)?)?;
+        shown.push(mark(&version, &other))?;
+    }
+    Ok(shown)
+}
+
+fn marks(alloc: Global, requirement: &Requirement, versions: &[Version]) -> Mem<String> {
+    let mut shown = String::new(alloc);
+    for version in versions {
+        shown.push_str(word_for(requirement.admits(version), "+", "."))?;
+    }
+    Ok(shown)
+}
+
+fn word_for(holds: bool, yes: &'static str, no: &'static str) -> &'static str {
+    if holds { yes } else { no }
+}
+
+fn marked(alloc: Global, requirement: &Requirement, texts: &[Text]) -> Mem<String> {
+    let versions = versions(alloc, texts)?;
+    let marks = marks(alloc, requirement, versions.as_slice())?;
+    let kind = word_for(requirement.is_hard(), "hard", "soft");
+    Ok(format!(in alloc; "{kind} {marks}")?)
+}
+
+// Whether a requirement is hard, and which of the versions it admits; or from where on it is none.
+fn admitted(alloc: Global, requirement: &Text, texts: &[Text]) -> Mem<String> {
+    match Requirement::parse(alloc, requirement) {
+        Ok(requirement) => marked(alloc, &requirement, texts),
+        Err(error) => Ok(format!(in alloc; "{error}")?),
+    }
+}
+
+fn highest_of(alloc: Global, requirement: &Requirement, versions: &[Version]) -> Mem<String> {
+    if versions.len() > 1000 {
+        return word(alloc, "too many");
+    }
+    match requirement.highest(versions) {
+        Some(place) => Ok(format!(in alloc; "{place}")?),
+        None => word(alloc, "none"),
+    }
+}
+
+// The place of the highest version that a requirement admits.
+fn highest(alloc: Global, requirement: &Text, texts: &[Text]) -> Mem<String> {
+    let versions = versions(alloc, texts)?;
+    match Requirement::parse(alloc, requirement) {
+        Ok(requirement) => highest_of(alloc, &requirement, versions.as_slice()),
+        Err(error) => Ok(format!(in alloc; "{error}")?),
+    }
+}
+
+/// What is told of a row of versions.
+pub(crate) fn told(alloc: Global, kind: &str, texts: &[Text]) -> Mem<String> {
+    match (kind, texts) {
+        ("sorted", _) => sorted(alloc, texts),
+        ("compare", [a, b]) => compared(alloc, a, b),
+        ("among-short", [text]) => among_short(alloc, text),
+        ("admits", [requirement, texts @ ..]) => admitted(alloc, requirement, texts),
+        ("highest", [requirement, texts @ ..]) => highest(alloc, requirement, texts),
+        _ => word(alloc, "no such row"),
+    }
+}

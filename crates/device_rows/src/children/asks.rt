@@ -1,0 +1,153 @@
+// The gate over children in memory.
+ghost use Rattle.std.specs.Prelude.{IfOk};
+ghost use Rattle.goal_types.specs.Goals.{HasOwnSlots};
+
+use crate::gav;
+use child_mem::{ChildScript, MemSpawner};
+use child_outside::ChildRecord;
+use gate_process::ProcessGate;
+use goal_types::{GoalAnswer, GoalCall, GoalRequest, Need, Slot, request_bytes};
+use mvn_base::Phase;
+use mvn_outside::{DeviceFault, Gate};
+use mvn_shared::{Bytes, List, Mem, Text};
+use outside_mem::Calls;
+use std::alloc::Global;
+
+// The goal surefire:test.
+fn goal_call(alloc: Global) -> Mem<GoalCall> {
+    let group = Text::from_str(alloc, "org.apache.maven.plugins")?;
+    let artifact = Text::from_str(alloc, "maven-surefire-plugin")?;
+    let version = Text::from_str(alloc, "")?;
+    let goal = Text::from_str(alloc, "test")?;
+    let execution = Text::from_str(alloc, "default-test")?;
+    Ok(GoalCall {
+        group,
+        artifact,
+        version,
+        goal,
+        execution,
+        phase: Phase::Test,
+        configuration: List::new(alloc),
+        slot: Slot::Nowhere,
+        need: Need::Test,
+    })
+}
+
+fn request(alloc: Global) -> Mem<GoalRequest>
+    ensures { IfOk result (λ request. HasOwnSlots request.own) }
+{
+    let module = gav(alloc, "demo", "app", "1.0")?;
+    let call = goal_call(alloc)?;
+    Ok(GoalRequest {
+        module,
+        call,
+        sources: List::new(alloc),
+        own: List::new(alloc),
+        classpath: List::new(alloc),
+    })
+}
+
+// What the gate answered, in words.
+fn said(alloc: Global, answer: &Result<GoalAnswer, DeviceFault>) -> Mem<String> {
+    match answer {
+        Ok(GoalAnswer::Done) => Ok(String::from_str(alloc, "done")?),
+        Ok(GoalAnswer::Produced(bytes)) => {
+            let len = bytes.len();
+            Ok(format!(in alloc; "produced {len}")?)
+        }
+        Ok(GoalAnswer::Failed(text)) => Ok(format!(in alloc; "failed {text}")?),
+        Err(fault) => Ok(format!(in alloc; "{fault}")?),
+    }
+}
+
+// What is told of the children: whether each was given the request, whether its input is closed, and how many bytes were read.
+fn told(alloc: Global, wanted: &[u8], records: &[ChildRecord]) -> Mem<String> {
+    let mut out = String::new(alloc);
+    for child in records {
+        let given = child.given.as_slice() == wanted;
+        let closed = child.closed;
+        let taken = child.taken;
+        out.push_str(&format!(in alloc; " given {given} closed {closed} read {taken}")?)?;
+    }
+    Ok(out)
+}
+
+// A spawner of one child, some of whose calls fail.
+fn spawner(alloc: Global, script: ChildScript, failing: &List<u64>) -> Mem<MemSpawner<Calls>> {
+    let mut scripts = List::new(alloc);
+    scripts.push(script)?;
+    MemSpawner::new(alloc, scripts, failing)
+}
+
+// What is told of an answer, of the children, and of how many are left.
+fn shown(
+    alloc: Global,
+    answer: &Result<GoalAnswer, DeviceFault>,
+    wanted: &[u8],
+    spawner: &MemSpawner<Calls>,
+) -> Mem<Bytes> {
+    let said = said(alloc, answer)?;
+    let told = told(alloc, wanted, spawner.records())?;
+    let left = spawner.children();
+    let shown = format!(in alloc; "{said};{told} left {left}")?;
+    Bytes::from_slice(alloc, shown.as_bytes())
+}
+
+// What a call of the gate comes to.
+fn asked(alloc: Global, script: ChildScript, failing: &List<u64>) -> Mem<Bytes> {
+    let spawner = spawner(alloc, script, failing)?;
+    let request = request(alloc)?;
+    let wanted = request_bytes(alloc, &request)?;
+    let mut gate = ProcessGate::new(alloc, spawner);
+    let answer = gate.call(&request);
+    shown(alloc, &answer, wanted.as_slice(), gate.spawner())
+}
+
+/// The gate's answer to an output and a status.
+pub(crate) fn ask(alloc: Global, fields: &[Bytes]) -> Mem<Bytes> {
+    let (status, output) = match fields {
+        [status, output] => (status.as_slice(), output.clone()?),
+        [status] => (status.as_slice(), Bytes::of(Vec::new(alloc))),
+        _ => return Bytes::from_slice(alloc, b"no such row"),
+    };
+    let status = std::str::from_utf8(status)
+        .unwrap_or("")
+        .parse::<i32>()
+        .unwrap_or(0);
+    asked(alloc, ChildScript { output, status }, &List::new(alloc))
+}
+
+/// The gate's answer where one call of the spawner fails.
+pub(crate) fn fail(alloc: Global, number: &str) -> Mem<Bytes> {
+    let mut failing = List::new(alloc);
+    failing.push(number.parse::<u64>().unwrap_or(0))?;
+    let output = Bytes::from_slice(alloc, b"{\"answer\":\"done\"}\n")?;
+    asked(alloc, ChildScript { output, status: 0 }, &failing)
+}
+
+// So many bytes behind a text.
+fn lengthened(alloc: Global, front: &str, count: &str) -> Mem<Bytes> {
+    let count = count.parse::<usize>().unwrap_or(0);
+    let bytes = vec![in alloc; b'x'; count]?;
+    let mut all = Vec::from_slice(alloc, front.as_bytes())?;
+    all.extend_from_slice(&bytes)?;
+    Ok(Bytes::of(all))
+}
+
+/// The gate's answer to an answer with an output of so many bytes.
+pub(crate) fn produced(alloc: Global, count: &str) -> Mem<Bytes> {
+    let line = format!(in alloc; "{{\"answer\":\"produced\",\"length\":{count}}}\n")?;
+    let output = lengthened(alloc, &line, count)?;
+    asked(alloc, ChildScript { output, status: 0 }, &List::new(alloc))
+}
+
+/// The gate's answer to so many bytes that are none, of a child that ends with 7; with a second number, where that call of the spawner fails.
+pub(crate) fn long(alloc: Global, numbers: &str) -> Mem<Bytes> {
+    let (count, call) = numbers.split_once(' ').unwrap_or((numbers, ""));
+    let output = lengthened(alloc, "", count)?;
+    let mut failing = List::new(alloc);
+    if let Ok(call) = call.parse::<u64>() {
+        failing.push(call)?;
+    }
+    asked(alloc, ChildScript { output, status: 7 }, &failing)
+}

@@ -1,14 +1,14 @@
 // The modules of projects in order, and those that are selected.
-use crate::project::Project;
+use crate::discovery::project::Project;
+use crate::given::line;
 use build_order::{BuildOrder, build_order};
-use cli_words::{CommandLine, WordError, options};
 use effective::effective;
 use model_types::Model;
 use module_discovery::{ModulePom, discover};
 use module_edges::{ModuleIndex, push_firm, soft_edges};
 use module_selection::{SelectionFault, selected};
 use mvn_base::{ModelError, PomId};
-use mvn_shared::{Bytes, List, Mem, OutOfMemory, Shared};
+use mvn_shared::{List, Mem, OutOfMemory, Shared};
 use pom_lineage::Store;
 use pom_source::{BuildFault, Given};
 use reactor_order::{edges_below, modules_below};
@@ -80,21 +80,6 @@ pub(crate) fn ordered(alloc: Global, models: &[Shared<Model>]) -> Result<BuildOr
         return Err(ModelError::Memory);
     }
     build_order(alloc, models, &edges.firm, &edges.soft)
-}
-
-// The words of a field.
-fn words_of(alloc: Global, words: &str) -> Mem<Vec<Bytes>> {
-    let mut list = Vec::new(alloc);
-    for word in words.split_whitespace() {
-        list.push(Bytes::from_slice(alloc, word.as_bytes())?)?;
-    }
-    Ok(list)
-}
-
-// What words ask for.
-fn line(alloc: Global, words: &str) -> Result<CommandLine, WordError> {
-    let list = words_of(alloc, words)?;
-    options(alloc, &list, 16)
 }
 
 /// The modules that words select.

@@ -1,16 +1,19 @@
-// What is told of projects.
-use crate::given::given;
-use crate::ordering::{chosen, models, ordered};
-use crate::project::{Project, empty, put_all_named, put_deep, put_fields, put_wide};
+// The POMs that are found in projects, and the modules that are selected.
+mod ordering;
+mod project;
+
+use crate::given::given_on;
 use build_order::BuildOrder;
 use model_types::Model;
 use module_discovery::{ModulePom, discover};
 use module_selection::SelectionFault;
 use mvn_base::ModelError;
 use mvn_shared::{List, Mem, Shared};
+use ordering::{chosen, models, ordered};
 use pom_lineage::Store;
 use pom_source::BuildFault;
-use row_models::field;
+use project::{Project, empty, put_all_named, put_deep, put_fields, put_wide};
+use row_models::{field, split_row};
 use std::alloc::Global;
 
 // The paths of POMs, with a space between two.
@@ -39,7 +42,7 @@ fn fault_text(alloc: Global, fault: &BuildFault) -> Mem<String> {
 type Found = Result<List<ModulePom>, BuildFault>;
 
 fn found(alloc: Global, project: &mut Project, ids: &str) -> Found {
-    let given = given(alloc, ids)?;
+    let given = given_on(alloc, ids)?;
     let mut store = Store::new(alloc);
     discover(alloc, &mut store, project, &given)
 }
@@ -51,7 +54,7 @@ fn found_text(alloc: Global, found: &Found) -> Mem<String> {
     }
 }
 
-fn told(alloc: Global, project: &mut Project, ids: &str) -> Mem<String> {
+fn told_of(alloc: Global, project: &mut Project, ids: &str) -> Mem<String> {
     let found = found(alloc, project, ids);
     found_text(alloc, &found)
 }
@@ -72,36 +75,36 @@ fn counted(alloc: Global, project: &mut Project) -> Mem<String> {
     count_text(alloc, &found)
 }
 
-/// What is told of a project that is spelled, with profiles switched on.
-pub(crate) fn spelled(alloc: Global, fields: &[&str]) -> Mem<String> {
+// What is told of a project that is spelled, with profiles switched on.
+fn spelled(alloc: Global, fields: &[&str]) -> Mem<String> {
     let mut project = empty(alloc, &List::new(alloc))?;
     if let Some((ids, files)) = fields.split_first() {
         put_fields(alloc, &mut project, files)?;
-        return told(alloc, &mut project, *ids);
+        return told_of(alloc, &mut project, *ids);
     }
-    told(alloc, &mut project, "")
+    told_of(alloc, &mut project, "")
 }
 
-/// What is told where a call fails.
-pub(crate) fn failing(alloc: Global, fields: &[&str]) -> Mem<String> {
+// What is told where a call fails.
+fn failing(alloc: Global, fields: &[&str]) -> Mem<String> {
     let mut numbers = List::new(alloc);
     numbers.push(field(fields, 0).parse::<u64>().unwrap_or(0))?;
     let mut project = empty(alloc, &numbers)?;
     if let Some((_, files)) = fields.split_first() {
         put_fields(alloc, &mut project, files)?;
     }
-    told(alloc, &mut project, "")
+    told_of(alloc, &mut project, "")
 }
 
-/// How many POMs there are where each lists the next.
-pub(crate) fn deep(alloc: Global, row: &str) -> Mem<String> {
+// How many POMs there are where each lists the next.
+fn deep(alloc: Global, row: &str) -> Mem<String> {
     let mut project = empty(alloc, &List::new(alloc))?;
     put_deep(alloc, &mut project, row.parse::<u32>().unwrap_or(0))?;
     counted(alloc, &mut project)
 }
 
-/// How many there are where the root lists all.
-pub(crate) fn wide(alloc: Global, row: &str) -> Mem<String> {
+// How many there are where the root lists all.
+fn wide(alloc: Global, row: &str) -> Mem<String> {
     let mut project = empty(alloc, &List::new(alloc))?;
     put_wide(alloc, &mut project, row.parse::<u32>().unwrap_or(0))?;
     counted(alloc, &mut project)
@@ -158,17 +161,29 @@ fn models_text(
 
 // The same of a project.
 fn selected_text(alloc: Global, project: &mut Project, words: &str) -> Mem<String> {
-    let given = given(alloc, "")?;
+    let given = given_on(alloc, "")?;
     let models = models(alloc, project, &given);
     models_text(alloc, &models, words)
 }
 
-/// The modules that words select, in the order in which they are built.
-pub(crate) fn selected(alloc: Global, fields: &[&str]) -> Mem<String> {
+// The modules that words select, in the order in which they are built.
+fn selected(alloc: Global, fields: &[&str]) -> Mem<String> {
     let mut project = empty(alloc, &List::new(alloc))?;
     if let Some((words, files)) = fields.split_first() {
         put_all_named(alloc, &mut project, files)?;
         return selected_text(alloc, &mut project, *words);
     }
     selected_text(alloc, &mut project, "validate")
+}
+
+/// What is told of a row about the POMs of a project.
+pub(crate) fn told(alloc: Global, kind: &str, row: &str) -> Mem<String> {
+    let fields = split_row(alloc, row)?;
+    match kind {
+        "discover" => spelled(alloc, fields.as_slice()),
+        "discover-failing" => failing(alloc, fields.as_slice()),
+        "select" => selected(alloc, fields.as_slice()),
+        "discover-deep" => deep(alloc, row),
+        _ => wide(alloc, row),
+    }
 }

@@ -1,5 +1,5 @@
 // What is told of a plan.
-use crate::modules::{push_module, push_numbers};
+use crate::plans::modules::{push_module, push_numbers};
 use build_core::{Plan, PlanModule};
 use mvn_base::FileName;
 use mvn_shared::{Mem, Text};

@@ -1,7 +1,7 @@
 // The plan of a project in memory.
 use crate::given::{given, line};
-use crate::project::Files;
-use crate::shown::{Shown, plan_text};
+use crate::plans::project::Files;
+use crate::plans::shown::{Shown, plan_text};
 use build_plan::{PlanFault, Planning, plan_build};
 use cli_words::CommandLine;
 use goal_types::SourceFile;
@@ -118,7 +118,7 @@ fn line_text(
 }
 
 /// What is told of the plan for the words of a command line, or why there is none.
-pub(crate) fn told(
+pub(crate) fn plan_told(
     alloc: Global,
     files: Files,
     words: &str,

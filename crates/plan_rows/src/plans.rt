@@ -1,26 +1,31 @@
-// What is told of rows.
-use crate::planning::{Failing, NONE, told};
-use crate::project::{Files, files_of, no_files, put_file, put_module};
-use crate::shown::Shown;
+// The plans of projects.
+mod modules;
+mod planning;
+mod project;
+mod shown;
+
 use mvn_shared::{Bytes, Mem};
-use row_models::field;
+use planning::{Failing, NONE, plan_told};
+use project::{Files, files_of, no_files, put_file, put_module};
+use row_models::{field, split_row};
+use shown::Shown;
 use std::alloc::Global;
 
-/// What is told of the plan of a row's files for its words, or why there is none.
-pub(crate) fn planned(alloc: Global, fields: &[&str], shown: Shown) -> Mem<String> {
+// What is told of the plan of a row's files for its words, or why there is none.
+fn planned(alloc: Global, fields: &[&str], shown: Shown) -> Mem<String> {
     match fields.split_first() {
-        Some((words, files)) => told(alloc, files_of(alloc, files)?, *words, NONE, shown),
-        None => told(alloc, no_files(alloc), "", NONE, shown),
+        Some((words, files)) => plan_told(alloc, files_of(alloc, files)?, *words, NONE, shown),
+        None => plan_told(alloc, no_files(alloc), "", NONE, shown),
     }
 }
 
 // The modules in their order, for words, where a device's call fails.
 fn failing_text(alloc: Global, words: &str, files: &[&str], failing: Failing) -> Mem<String> {
-    told(alloc, files_of(alloc, files)?, words, failing, Shown::Order)
+    plan_told(alloc, files_of(alloc, files)?, words, failing, Shown::Order)
 }
 
-/// The modules in their order where a call fails: the first field is the device, the call's number, and the words.
-pub(crate) fn failing(alloc: Global, fields: &[&str]) -> Mem<String> {
+// The modules in their order where a call fails: the first field is the device, the call's number, and the words.
+fn failing(alloc: Global, fields: &[&str]) -> Mem<String> {
     let first = field(fields, 0);
     let (device, rest) = first.split_once(' ').unwrap_or((first, ""));
     let (number, words) = rest.split_once(' ').unwrap_or((rest, ""));
@@ -43,8 +48,8 @@ fn faults_text(alloc: Global, words: &str, files: &[&str], device: &str) -> Mem<
     Ok(wanted)
 }
 
-/// How many calls of a device there are: each fails in turn, and is named; and the modules in their order after that.
-pub(crate) fn faults(alloc: Global, fields: &[&str]) -> Mem<String> {
+// How many calls of a device there are: each fails in turn, and is named; and the modules in their order after that.
+fn faults(alloc: Global, fields: &[&str]) -> Mem<String> {
     let first = field(fields, 0);
     let (device, words) = first.split_once(' ').unwrap_or((first, ""));
     match fields.split_first() {
@@ -83,11 +88,11 @@ fn wide_files(alloc: Global, count: u32) -> Mem<Files> {
     Ok(files)
 }
 
-/// The counts of the plan of a root and so many modules.
-pub(crate) fn wide(alloc: Global, row: &str) -> Mem<String> {
+// The counts of the plan of a root and so many modules.
+fn wide(alloc: Global, row: &str) -> Mem<String> {
     let (number, words) = row.split_once(' ').unwrap_or((row, ""));
     let files = wide_files(alloc, number.parse::<u32>().unwrap_or(0))?;
-    told(alloc, files, words, NONE, Shown::Counts)
+    plan_told(alloc, files, words, NONE, Shown::Counts)
 }
 
 fn put_source(alloc: Global, files: &mut Files, number: u32) -> Mem<()> {
@@ -110,9 +115,23 @@ fn many_files(alloc: Global, count: u32) -> Mem<Files> {
     Ok(files)
 }
 
-/// The modules in their order, of a project with so many sources.
-pub(crate) fn many(alloc: Global, row: &str) -> Mem<String> {
+// The modules in their order, of a project with so many sources.
+fn many(alloc: Global, row: &str) -> Mem<String> {
     let (number, words) = row.split_once(' ').unwrap_or((row, ""));
     let files = many_files(alloc, number.parse::<u32>().unwrap_or(0))?;
-    told(alloc, files, words, NONE, Shown::Order)
+    plan_told(alloc, files, words, NONE, Shown::Order)
+}
+
+/// What is told of a row about a plan.
+pub(crate) fn told(alloc: Global, kind: &str, row: &str) -> Mem<String> {
+    let fields = split_row(alloc, row)?;
+    match kind {
+        "order" => planned(alloc, fields.as_slice(), Shown::Order),
+        "plan" => planned(alloc, fields.as_slice(), Shown::Whole),
+        "count" => planned(alloc, fields.as_slice(), Shown::Counts),
+        "failing" => failing(alloc, fields.as_slice()),
+        "faults" => faults(alloc, fields.as_slice()),
+        "wide" => wide(alloc, row),
+        _ => many(alloc, row),
+    }
 }

@@ -92,7 +92,7 @@ def called(crate, pattern, files, defined=None):
 def read(crates):
     """The files of crates, without comments."""
     return [(os.path.relpath(path, TOP), without_comments(open(path).read()))
-            for crate in crates for path in sorted(glob.glob(os.path.join(TOP, crate, "src", "*.rt")))]
+            for crate in crates for path in sorted(glob.glob(os.path.join(TOP, crate, "src", "**", "*.rt"), recursive=True))]
 
 
 def main():

@@ -1,13 +1,14 @@
 // A build of a project by a number of workers.
 ghost use Rattle.std.specs.Prelude.{◌≤◌, length};
 
-use crate::faults::{Device, Faults, calls};
-use crate::waiting::{Meeting, WaitingGate, WaitingRemote};
+use crate::call::{machine, words};
+use crate::crews::faults::{Device, Faults, calls};
+use crate::crews::waiting::{Meeting, WaitingGate, WaitingRemote};
 use build_core::Answered;
 use gate_builtin::Builtin;
 use mvn_base::{FileName, Machine};
 use mvn_outside::{Hand, ReadFault, Shelf};
-use mvn_shared::{Bytes, List, Mem, OutOfMemory, Text};
+use mvn_shared::{Bytes, List, Mem, OutOfMemory};
 use mvn_top::{Ended, mvn};
 use outside_mem::{Calls, MemArea, MemRemote, MemShelf, MemSink, MemTree};
 use random_projects::Project;
@@ -77,37 +78,6 @@ fn workers<'a>(alloc: Global, project: &Project, manner: &Manner<'a>) -> Mem<Vec
     Ok(hands)
 }
 
-// A machine of which the folder of the project alone is known.
-fn machine(alloc: Global) -> Mem<Machine> {
-    let root = Text::from_str(alloc, "/w")?;
-    Ok(Machine {
-        root,
-        env: List::new(alloc),
-        system: List::new(alloc),
-        jdk: Text::of(String::new(alloc)),
-        os_name: Text::of(String::new(alloc)),
-        os_family: Text::of(String::new(alloc)),
-        os_arch: Text::of(String::new(alloc)),
-        os_version: Text::of(String::new(alloc)),
-    })
-}
-
-fn push_word(alloc: Global, words: &mut Vec<Bytes>, word: &str) -> Mem<()> {
-    let word = Bytes::from_slice(alloc, word.as_bytes())?;
-    words.push(word)?;
-    Ok(())
-}
-
-// The words `install -T N`.
-fn words(alloc: Global, workers: u32) -> Mem<Vec<Bytes>> {
-    let number = format!(in alloc; "{workers}")?;
-    let mut words = Vec::new(alloc);
-    push_word(alloc, &mut words, "install")?;
-    push_word(alloc, &mut words, "-T")?;
-    push_word(alloc, &mut words, number.as_str())?;
-    Ok(words)
-}
-
 // The repository, with the files that it has before.
 fn shelf(alloc: Global, project: &Project, manner: &Manner) -> Mem<MemShelf<Calls>> {
     let failing = calls(alloc, manner.faults, Device::Shelf)?;
@@ -144,7 +114,7 @@ fn installed<W: Threads + Wait + Sync>(
     manner: &Manner,
     sink: &mut MemSink<Calls>,
 ) -> Mem<Ended<MemShelf<Calls>>> {
-    let words = words(alloc, manner.workers)?;
+    let words = words(alloc, manner.workers as usize)?;
     let machine = machine(alloc)?;
     let mut tree = tree(alloc, project)?;
     let mut hands = workers(alloc, project, manner)?;

@@ -1,6 +1,6 @@
 // What stands in repositories, and whether it is the same.
-use crate::builds::{Left, build, hands};
-use crate::project::Project;
+use crate::stops::builds::{Left, build, hands};
+use crate::stops::project::Project;
 use mvn_base::FileName;
 use mvn_outside::Shelf;
 use mvn_shared::{Bytes, Mem, OutOfMemory};

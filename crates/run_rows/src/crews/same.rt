@@ -1,5 +1,5 @@
 // Whether two builds left the same.
-use crate::run::Left;
+use crate::crews::run::Left;
 use build_core::Answered;
 use goal_types::GoalAnswer;
 

@@ -1,11 +1,12 @@
 // Builds of a project over objects in memory.
 ghost use Rattle.std.specs.Prelude.{◌≤◌, length};
 
-use crate::project::Project;
+use crate::call::{machine, words};
+use crate::stops::project::Project;
 use gate_builtin::Builtin;
 use mvn_base::Machine;
 use mvn_outside::Hand;
-use mvn_shared::{Bytes, List, Mem, OutOfMemory, Text};
+use mvn_shared::{Bytes, Mem, OutOfMemory};
 use mvn_top::{Ended, mvn};
 use outside_mem::{Failures, MemArea, MemRemote, MemShelf, MemSink, MemTree, NoFailures};
 use std::alloc::Global;
@@ -21,31 +22,6 @@ pub(crate) struct Left<F> {
     pub(crate) status: u8,
     pub(crate) text: Bytes,
     pub(crate) shelf: MemShelf<F>,
-}
-
-// A machine of which the folder of the project alone is known.
-fn machine(alloc: Global) -> Mem<Machine> {
-    let root = Text::from_str(alloc, "/w")?;
-    Ok(Machine {
-        root,
-        env: List::new(alloc),
-        system: List::new(alloc),
-        jdk: Text::of(String::new(alloc)),
-        os_name: Text::of(String::new(alloc)),
-        os_family: Text::of(String::new(alloc)),
-        os_arch: Text::of(String::new(alloc)),
-        os_version: Text::of(String::new(alloc)),
-    })
-}
-
-// The words of an install by so many workers.
-fn words(alloc: Global, workers: usize) -> Mem<Vec<Bytes>> {
-    let number = format!(in alloc; "{workers}")?;
-    let mut words = Vec::new(alloc);
-    for word in ["install", "-T", number.as_str()] {
-        words.push(Bytes::from_slice(alloc, word.as_bytes())?)?;
-    }
-    Ok(words)
 }
 
 /// A hand with this area, whose remote has the project's remote files.

@@ -1,7 +1,7 @@
 // Builds of projects that are made from numbers.
-use crate::run::{Left, Manner, build};
-use crate::same::leave_same;
-use crate::touched::is_untouched;
+use crate::crews::run::{Left, Manner, build};
+use crate::crews::same::leave_same;
+use crate::crews::touched::is_untouched;
 use mvn_shared::Mem;
 use random_projects::{Project, random_project};
 use std::alloc::Global;

@@ -1,16 +1,20 @@
-// What is told of rows.
-use crate::builds::{Left, Worker, build, hands, worker};
-use crate::compared::{Tally, Undisturbed, found, look};
-use crate::project::Project;
+// Builds that a stop cut short.
+mod builds;
+mod compared;
+mod project;
+
+use builds::{Left, Worker, build, hands, worker};
+use compared::{Tally, Undisturbed, found, look};
 use mvn_shared::{Bytes, List, Mem};
 use outside_mem::{Calls, Failures, MemArea, MemShelf, NoFailures};
+use project::{Project, project_of};
 use row_fields::escaped;
-use std::alloc::Global;
+use std::alloc::{AllocError, Global};
 use std::sync::Wait;
 use std::thread::Threads;
 
-/// The numbers of a field.
-pub(crate) fn numbers(alloc: Global, field: &str) -> Mem<Vec<usize>> {
+// The numbers of a field.
+fn numbers(alloc: Global, field: &str) -> Mem<Vec<usize>> {
     let mut numbers = Vec::new(alloc);
     for word in field.split_whitespace() {
         numbers.push(word.parse::<usize>().unwrap_or(0))?;
@@ -32,7 +36,7 @@ fn pieces_left<F>(hands: &[Worker<F>]) -> u64 {
 }
 
 // What is told of a build.
-fn told<F>(alloc: Global, left: &Left<F>, pieces: u64) -> Mem<String> {
+fn left_text<F>(alloc: Global, left: &Left<F>, pieces: u64) -> Mem<String> {
     let status = left.status;
     let names = left.shelf.names();
     let text = escaped(alloc, left.text.as_slice())?;
@@ -59,11 +63,11 @@ fn told_of<W: Threads + Wait + Sync>(
     let shelf = MemShelf::new(alloc, project.local.clone()?, &List::new(alloc))?;
     let left = build(rt, alloc, project, workers, shelf, hands)?;
     let pieces = pieces_left(hands.as_slice());
-    told(alloc, &left, pieces)
+    left_text(alloc, &left, pieces)
 }
 
-/// What is told of a build by hands in whose areas pieces are left.
-pub(crate) fn leftovers<W: Threads + Wait + Sync>(
+// What is told of a build by hands in whose areas pieces are left.
+fn leftovers<W: Threads + Wait + Sync>(
     rt: &W,
     alloc: Global,
     project: &Project,
@@ -87,8 +91,8 @@ fn area_of(alloc: Global, fails: bool) -> Mem<MemArea<Calls>> {
     MemArea::new(alloc, &failing)
 }
 
-/// What is told of a build where the first call to a hand's area fails.
-pub(crate) fn area<W: Threads + Wait + Sync>(
+// What is told of a build where the first call to a hand's area fails.
+fn area<W: Threads + Wait + Sync>(
     rt: &W,
     alloc: Global,
     project: &Project,
@@ -150,8 +154,8 @@ fn undisturbed<W: Threads + Wait + Sync>(
     Ok(Undisturbed { old, new, left })
 }
 
-/// What is told of a build, and of another over each image of each moment of its repository.
-pub(crate) fn images<W: Threads + Wait + Sync>(
+// What is told of a build, and of another over each image of each moment of its repository.
+fn images<W: Threads + Wait + Sync>(
     rt: &W,
     alloc: Global,
     project: &Project,
@@ -175,11 +179,34 @@ pub(crate) fn images<W: Threads + Wait + Sync>(
             tally,
         )?;
     }
-    let told = told(alloc, &undisturbed.left, 0)?;
+    let told = left_text(alloc, &undisturbed.left, 0)?;
     let Tally {
         images,
         whole,
         alike,
     } = tally;
     Ok(format!(in alloc; "{told} moments {moments} images {images} whole {whole} alike {alike}")?)
+}
+
+// The files of a row, with a bar between two of them.
+fn split<'a>(alloc: Global, files: &'a str) -> Result<Vec<&'a str>, AllocError> {
+    files.split('|').collect(alloc)
+}
+
+/// What is told of a row about a build that a stop cut short.
+pub(crate) fn told<W: Threads + Wait + Sync>(
+    rt: &W,
+    alloc: Global,
+    kind: &str,
+    row: &str,
+) -> Mem<String> {
+    let (front, files) = row.split_once('|').unwrap_or((row, ""));
+    let numbers = numbers(alloc, front)?;
+    let files = split(alloc, files)?;
+    let project = project_of(alloc, files.as_slice())?;
+    match kind {
+        "leftovers" => leftovers(rt, alloc, &project, numbers.as_slice()),
+        "area" => area(rt, alloc, &project, numbers.as_slice()),
+        _ => images(rt, alloc, &project, numbers.as_slice()),
+    }
 }

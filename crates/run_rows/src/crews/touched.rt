@@ -1,6 +1,6 @@
 // What a build with faults may leave, beside one without.
-use crate::run::Left;
-use crate::same::all_stand;
+use crate::crews::run::Left;
+use crate::crews::same::all_stand;
 use mvn_base::FileName;
 use mvn_shared::{Bytes, Mem};
 use outside_mem::MemFile;

@@ -1,7 +1,7 @@
 // What is told of the worked rows.
-use crate::run::{Left, Manner, build};
-use crate::waiting::Meeting;
-use crate::worked::{failing, fetching, independent};
+use crate::crews::run::{Left, Manner, build};
+use crate::crews::waiting::Meeting;
+use crate::crews::worked::{failing, fetching, independent};
 use mvn_base::FileName;
 use mvn_shared::{Bytes, Mem};
 use random_projects::Project;

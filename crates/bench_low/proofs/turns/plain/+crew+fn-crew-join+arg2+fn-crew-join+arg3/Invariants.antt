@@ -1,5 +1,5 @@
 use Rattle.std.specs.Prelude.{◌+◌, ◌-◌, ◌*◌}
-use Rattle.bench_turns.proofs.plain.+crew+fn-crew-join+arg2+fn-crew-join+arg3.Given as goal
+use Rattle.bench_low.proofs.turns.plain.+crew+fn-crew-join+arg2+fn-crew-join+arg3.Given as goal
 
 -- half of the workers in each call, and a call in each closure
 abbrev pub decreases-crew : goal.decreases-crew

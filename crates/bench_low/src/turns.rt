@@ -1,12 +1,4 @@
-//! Counts what workers note under a turn lock, each worker in a thread of its own. Each line of standard input is a number of workers, from 1 to
-//! 16, a number of notes for each, and a way or none; prints how many notes there are, and how many of them stand in their worker's order. The ways:
-//! `rounds`, each rests until all before it in its round have noted; `idle`, the same, and each sleeps for 100 ms before it notes; `held`, each sleeps
-//! for 100 ms in a turn of its own before it notes; `turns`, as with none, and their order isn't looked at (it prints 0); `mutex`, the same under a
-//! plain mutex in place of the lock. With `idle` and `held` it prints too whether the process used less than half of one processor while it ran
-//! (`parked`), so that threads that wait do nothing, or not (`busy`). The sleeps follow one another, so there is a hundredth of that to do: a host
-//! that takes the processors away for most of the time doesn't make it half of one.
-#![tactic(auto)]
-
+// What workers note under a turn lock.
 mod plain;
 
 use mvn_shared::Mem;
@@ -109,28 +101,35 @@ fn effort(line: &Line, before: Times, after: Times) -> &'static str {
     }
 }
 
-fn print_counts(
-    rt: &HostRuntime,
-    line: &str,
-    counted: Mem<(usize, u64)>,
-    effort: &str,
-) -> anyhow::Result<()> {
+// What is printed of what was counted.
+fn counts_text(alloc: Global, line: &str, counted: Mem<(usize, u64)>, effort: &str) -> Mem<String> {
     match counted {
-        Ok((notes, ordered)) => println!(rt; "{line}: {notes} {ordered}{effort}")?,
-        Err(_) => println!(rt; "out of memory")?,
+        Ok((notes, ordered)) => { Ok(format!(in alloc; "{line}: {notes} {ordered}{effort}\n")?) }
+        Err(_) => Ok(String::from_str(alloc, "out of memory\n")?),
     }
-    Ok(())
 }
 
-fn main(rt: HostRuntime) -> anyhow::Result<()> {
-    for line in rt.lines(rt.alloc()) {
-        let line = line?;
-        if let Some(words) = read(line.as_str()) {
-            let before = until_now(&rt)?;
-            let counted = counts(&rt, rt.alloc(), &words);
-            let after = until_now(&rt)?;
-            print_counts(&rt, line.as_str(), counted, effort(&words, before, after))?;
-        }
+// What is printed for the words of a line.
+fn words_text<R: Threads + Wait + Clock + CpuClock + Sync>(
+    rt: &R,
+    alloc: Global,
+    line: &str,
+    words: &Line,
+) -> anyhow::Result<String> {
+    let before = until_now(rt)?;
+    let counted = counts(rt, alloc, words);
+    let after = until_now(rt)?;
+    Ok(counts_text(alloc, line, counted, effort(words, before, after))?)
+}
+
+/// What is printed for a line: workers, notes, and a way or none.
+pub(crate) fn told<R: Threads + Wait + Clock + CpuClock + Sync>(
+    rt: &R,
+    alloc: Global,
+    line: &str,
+) -> anyhow::Result<String> {
+    match read(line) {
+        Some(words) => words_text(rt, alloc, line, &words),
+        None => Ok(String::new(alloc)),
     }
-    Ok(())
 }

@@ -1,7 +1,7 @@
 // Walks through builds.
-use crate::answers::{KINDS, answer_at, event_at, told_of};
-use crate::builds::{linked, small, wide};
-use crate::draws::Draws;
+use crate::events::answers::{KINDS, answer_at, event_at, told_of};
+use crate::events::builds::{linked, small, wide};
+use crate::events::draws::Draws;
 use build_core::{Ending, Event};
 use event_core::{Core, Outline};
 use mvn_shared::{Mem, OutOfMemory};

@@ -1,8 +1,4 @@
-//! Tells in which order modules are built. The first line of standard input is their number, each further one an edge: a
-//! module and an upstream of it, with a space between. A line `soft K` gives each module K soft edges, to the modules that
-//! come behind it, the first again behind the last. Prints the order, or the cycle, on one line.
-#![tactic(auto)]
-
+// In which order modules are built.
 use mvn_shared::List;
 use reactor_order::{OrderError, edges_below, keep, order};
 use std::alloc::{AllocError, Global};
@@ -65,27 +61,51 @@ fn print_order(rt: &HostRuntime, n: u32, edges: &[(u32, u32)]) -> anyhow::Result
     }
 }
 
-fn main(rt: HostRuntime) -> anyhow::Result<()> {
-    let mut number = None;
-    let mut edges = Vec::new(rt.alloc());
-    let mut soft = 0;
-    for line in rt.lines(rt.alloc()) {
-        let line = line?;
-        match number {
-            None => number = line.as_str().parse::<u32>().ok(),
-            Some(_) => {
-                if let Some(count) = line.as_str().strip_prefix("soft ") {
-                    soft = count.parse::<u32>().unwrap_or(0);
-                } else if let Some(edge) = edge(line.as_str()) {
-                    edges.push(edge)?;
-                }
-            }
+/// The number of modules, the edges, and how many soft ones each module has.
+#[derive(Drop)]
+pub(crate) struct Graph {
+    number: Option<u32>,
+    edges: Vec<(u32, u32)>,
+    soft: u32,
+}
+
+impl Graph {
+    pub(crate) fn new(alloc: Global) -> Graph {
+        Graph {
+            number: None,
+            edges: Vec::new(alloc),
+            soft: 0,
         }
     }
-    let n = number.unwrap_or(0);
-    if soft == 0 {
-        return print_order(&rt, n, &edges);
+
+    // One line more behind the number.
+    fn read_edge(&mut self, line: &str) -> anyhow::Result<()> {
+        if let Some(count) = line.strip_prefix("soft ") {
+            self.soft = count.parse::<u32>().unwrap_or(0);
+        } else if let Some(edge) = edge(line) {
+            self.edges.push(edge)?;
+        }
+        Ok(())
     }
-    let kept = kept(rt.alloc(), n, &edges, soft)?;
-    print_order(&rt, n, kept.as_slice())
+
+    /// One line more: the number of modules, an edge, or `soft K`.
+    pub(crate) fn read(&mut self, line: &str) -> anyhow::Result<()> {
+        match self.number {
+            None => {
+                self.number = line.parse::<u32>().ok();
+                Ok(())
+            }
+            Some(_) => self.read_edge(line),
+        }
+    }
+
+    /// Prints the order, or the cycle, on one line.
+    pub(crate) fn print(&self, rt: &HostRuntime) -> anyhow::Result<()> {
+        let n = self.number.unwrap_or(0);
+        if self.soft == 0 {
+            return print_order(rt, n, &self.edges);
+        }
+        let kept = kept(rt.alloc(), n, &self.edges, self.soft)?;
+        print_order(rt, n, kept.as_slice())
+    }
 }

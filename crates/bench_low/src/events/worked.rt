@@ -1,7 +1,7 @@
 // A build worked out by hand: three modules, of which the second builds on the first. The first needs the file 0 under the name 0 and is
 // installed as the files 1 and 2 under the name 1; the second has nothing but its POM, the file 3, under the name 2; the third has nothing.
-use crate::answers::{event_at, number_of, told_of};
-use crate::walks::begun;
+use crate::events::answers::{event_at, number_of, told_of};
+use crate::events::walks::begun;
 use build_core::Event;
 use event_core::{Core, ModuleOutline, Outline};
 use mvn_shared::{List, Mem};

@@ -1,12 +1,12 @@
 #!/usr/bin/env bash
-# Builds projects that are made from numbers by 1 to 16 workers at once, over objects in memory, with the built program crew_rows, and looks
+# Builds projects that are made from numbers by 1 to 16 workers at once, over objects in memory, with the built program run_rows, and looks
 # whether they leave what one worker leaves: COUNT projects without faults, and as many in which calls of the objects fail. The stored output
 # of the program has others, and the rows of goals that wait for one another. usage: crew_rows.sh [COUNT [FIRST]]
 . "$(dirname "$0")/cases.sh"
-program=crates/crew_rows/out/crew_rows
+program=crates/run_rows/out/run_rows
 count=${1-60}
 first=${2-1001}
-[ -x "$program" ] || stop "no $program here: call rt ci, or (cd crates/crew_rows && rt run) first"
+[ -x "$program" ] || stop "no $program here: call rt ci, or (cd crates/run_rows && rt run) first"
 
 # CASE, KIND, WHAT IS TOLD
 tried() {

@@ -1,17 +1,19 @@
 #!/usr/bin/env bash
 # Tries, by hand and with no proof, bodies of the turn lock that wake nobody, wake too few, or wait without parking. No contract refuses them, since nothing
-# is promised about waiting; the stored run of bench_turns has to. Each is built by `rt try` from a copy, and given the lines of that run one by
+# is promised about waiting; the stored run of bench_low has to. Each is built by `rt try` from a copy, and given that run's lines about turns one by
 # one: it is caught where a line isn't answered as it is stored, or not within 15 seconds. It takes one to four minutes for each. usage:
 # turn_wrongs.sh [NAME ..], of the names below; all if absent.
 . "$(dirname "$0")/cases.sh"
 . tests/wrong_bodies.sh
-stored=bench_turns
+stored=bench_low
 cases=$work/lines
 seconds=15
 mkdir "$cases"
-paste -d'|' crates/bench_turns/stdin crates/bench_turns/stdout | while IFS='|' read -r line told; do
+# they come last, and each is answered by a line
+sed '1,/^measure turns$/d' crates/bench_low/stdin > "$work/given"
+tail -n "$(wc -l < "$work/given")" crates/bench_low/stdout | paste -d'|' "$work/given" - | while IFS='|' read -r line told; do
   name=${line// /_}
-  printf '%s\n' "$line" > "$cases/$name"
+  printf 'measure turns\n%s\n' "$line" > "$cases/$name"
   printf '%s\n' "$told" > "$cases/$name.stdout"
 done
 

@@ -1,8 +1,9 @@
 // What the machine gives, and what the words of a command line ask for.
 use cli_words::{CommandLine, WordError, options};
-use mvn_base::Machine;
+use mvn_base::{Choice, Machine};
 use mvn_shared::{Bytes, List, Mem, Text};
 use pom_source::Given;
+use row_models::words;
 use std::alloc::Global;
 
 fn linux(alloc: Global, root: Text, jdk: Text) -> Mem<Machine> {
@@ -42,17 +43,31 @@ pub(crate) fn given(alloc: Global, line: CommandLine) -> Mem<Given> {
     Ok(given_of(machine, line))
 }
 
+/// The same machine, and profiles with these ids that are switched on.
+pub(crate) fn given_on(alloc: Global, ids: &str) -> Mem<Given> {
+    let on = words(alloc, ids)?;
+    let machine = machine(alloc)?;
+    Ok(Given {
+        machine,
+        defines: List::new(alloc),
+        choice: Choice {
+            on,
+            off: List::new(alloc),
+        },
+    })
+}
+
 // The words of a field.
-fn words_of(alloc: Global, words: &str) -> Mem<Vec<Bytes>> {
+fn words_of(alloc: Global, field: &str) -> Mem<Vec<Bytes>> {
     let mut list = Vec::new(alloc);
-    for word in words.split_whitespace() {
+    for word in field.split_whitespace() {
         list.push(Bytes::from_slice(alloc, word.as_bytes())?)?;
     }
     Ok(list)
 }
 
 /// What words ask for.
-pub(crate) fn line(alloc: Global, words: &str) -> Result<CommandLine, WordError> {
-    let list = words_of(alloc, words)?;
+pub(crate) fn line(alloc: Global, field: &str) -> Result<CommandLine, WordError> {
+    let list = words_of(alloc, field)?;
     options(alloc, &list, 16)
 }

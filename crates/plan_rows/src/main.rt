@@ -1,5 +1,17 @@
-//! Rows about the plans of projects, over objects in memory. A line of standard input is a word, the words of a command line, and files,
-//! with a bar between two of these; a line that begins with `#` is printed as it stands. A field is spelled as `row_fields` says.
+//! Rows about projects over objects in memory: their POMs, the modules that are selected, and their plans. A line of standard input is a
+//! word and fields, with a bar between two of these; a line that begins with `#` is printed as it stands. A field is spelled as
+//! `row_models` says.
+//!
+//! Of the POMs that are found; the answer is printed as one line, the paths of the POMs in order or why there are none:
+//!
+//! - `discover IDS|PATH POM|PATH POM ..`: the project of these files, with these profiles switched on. A POM stands behind the coordinates
+//!   g:a:1
+//! - `discover-failing N|PATH POM ..`: the same, where the call with this number fails
+//! - `discover-wide N`: how many POMs there are of a root that lists N modules; `discover-deep N`: of N POMs of which each lists the next
+//! - `select WORDS|PATH ARTIFACT POM|..`: the artifacts of the modules that the words of a command line select, in the order in which they
+//!   are built; a POM stands behind the coordinates demo:ARTIFACT:1.0
+//!
+//! Of plans; the first field has the words of a command line, and each further one a file:
 //!
 //! - `order WORDS|FILE|..`: the artifacts of the modules that are built, in their order, each with the places of those that it stands on
 //! - `plan WORDS|FILE|..`: the names and the files of the plan, with a star behind each file that is there at the start, and a line for
@@ -10,7 +22,7 @@
 //! - `wide N WORDS`: the counts of a project with a root and N modules, of which each depends on the first
 //! - `many N WORDS`: the first of these, of a root and the modules `a` and `b`, where `b` has N sources
 //!
-//! A file is one of these:
+//! A file of a plan's project is one of these:
 //!
 //! - `m PATH ARTIFACT POM`: a POM of the project, behind the coordinates demo:ARTIFACT:1.0; `f PATH BYTES`: any file of the project
 //! - `l GROUP ARTIFACT VERSION POM`, `r GROUP ARTIFACT VERSION POM`: a POM of the local or of the remote repository, behind these
@@ -19,29 +31,20 @@
 //! Where there is no plan, the answer is the refusal, `word N UnknownModule`, or the device that failed.
 #![tactic(auto)]
 
-mod answers;
+mod discovery;
 mod given;
-mod modules;
-mod planning;
-mod project;
-mod shown;
+mod plans;
 
 use mvn_shared::Mem;
-use row_models::split_row;
-use shown::Shown;
 use std::alloc::Global;
 
 // What is told of a row.
 fn told(alloc: Global, kind: &str, row: &str) -> Mem<String> {
-    let fields = split_row(alloc, row)?;
     match kind {
-        "order" => answers::planned(alloc, fields.as_slice(), Shown::Order),
-        "plan" => answers::planned(alloc, fields.as_slice(), Shown::Whole),
-        "count" => answers::planned(alloc, fields.as_slice(), Shown::Counts),
-        "failing" => answers::failing(alloc, fields.as_slice()),
-        "faults" => answers::faults(alloc, fields.as_slice()),
-        "wide" => answers::wide(alloc, row),
-        _ => answers::many(alloc, row),
+        "discover" | "discover-failing" | "discover-wide" | "discover-deep" | "select" => {
+            discovery::told(alloc, kind, row)
+        }
+        _ => plans::told(alloc, kind, row),
     }
 }
 

@@ -1,0 +1,112 @@
+//! Programs of `bench/` over the lowest libraries. A line `measure KIND` of standard input begins a part, which goes up to the next such line
+//! or to the end.
+//!
+//! - `measure versions`: which versions a requirement admits. The requirement is the first line, a version each further one. Prints the
+//!   admitted ones in ascending order, and the highest, at the end of the part
+//! - `measure modules`: in which order modules are built. The first line is their number, each further one an edge: a module and an upstream
+//!   of it, with a space between. A line `soft K` gives each module K soft edges, to the modules that come behind it, the first again behind
+//!   the last. Prints the order, or the cycle, on one line, at the end of the part
+//! - `measure events`: walks through builds that are made from numbers, and what the event core answers. Each line is a word and a number:
+//!   `walk`, a build of at most three modules that is made from the number, of which at each moment every event is asked for and one that
+//!   may come is taken; prints a sum over all answers, and the number of events. `long`, so many events of a build of modules that have
+//!   nothing but their POM; prints how many were taken. `front`, a build of so many modules, each with the four before it as upstreams, of
+//!   which the first that may begin is built, again and again; prints how many were built. Or a line is a word and events of a build that was
+//!   worked out by hand, each a kind, a worker and a number with dots between: `worked` prints what is answered to each, 0 where it is taken;
+//!   `stands` where the build then stands: the first module that may begin, the first that is to be skipped, whether all are over, how
+//!   three modules stand, and which of four files there are
+//! - `measure turns`: what workers note under a turn lock, each worker in a thread of its own. Each line is a number of workers, from 1 to
+//!   16, a number of notes for each, and a way or none; prints how many notes there are, and how many of them stand in their worker's order.
+//!   The ways: `rounds`, each rests until all before it in its round have noted; `idle`, the same, and each sleeps for 100 ms before it notes;
+//!   `held`, each sleeps for 100 ms in a turn of its own before it notes; `turns`, as with none, and their order isn't looked at (it prints 0);
+//!   `mutex`, the same under a plain mutex in place of the lock. With `idle` and `held` it prints too whether the process used less than half
+//!   of one processor while it ran (`parked`), so that threads that wait do nothing, or not (`busy`). The sleeps follow one another, so there
+//!   is a hundredth of that to do: a host that takes the processors away for most of the time doesn't make it half of one
+#![tactic(auto)]
+
+mod events;
+mod modules;
+mod turns;
+mod versions;
+
+use modules::Graph;
+use std::alloc::Global;
+use versions::Versions;
+
+// What a part measures.
+#[derive(Clone, Copy)]
+enum Kind {
+    Nothing,
+    Versions,
+    Modules,
+    Events,
+    Turns,
+}
+
+// What a line says that begins a part.
+fn kind_of(line: &str) -> Kind {
+    match line {
+        "measure versions" => Kind::Versions,
+        "measure modules" => Kind::Modules,
+        "measure events" => Kind::Events,
+        "measure turns" => Kind::Turns,
+        _ => Kind::Nothing,
+    }
+}
+
+// A part, with what was read of it where it is told at its end.
+#[derive(Drop)]
+struct Part {
+    kind: Kind,
+    versions: Versions,
+    graph: Graph,
+}
+
+fn begun(alloc: Global, kind: Kind) -> Part {
+    Part {
+        kind,
+        versions: Versions::new(alloc),
+        graph: Graph::new(alloc),
+    }
+}
+
+// One line more of a part, but one about turns.
+fn read(rt: &HostRuntime, part: &mut Part, line: String) -> anyhow::Result<()> {
+    match part.kind {
+        Kind::Versions => part.versions.read(rt.alloc(), line),
+        Kind::Modules => part.graph.read(line.as_str()),
+        Kind::Events => events::print_row(rt, line.as_str()),
+        _ => Ok(()),
+    }
+}
+
+// A text, where there was memory for it.
+fn print_text(rt: &HostRuntime, text: anyhow::Result<String>) -> anyhow::Result<()> {
+    let text = text?;
+    print!(rt; "{text}")?;
+    Ok(())
+}
+
+// The end of a part.
+fn end(rt: &HostRuntime, part: &Part) -> anyhow::Result<()> {
+    match part.kind {
+        Kind::Versions => part.versions.print(rt),
+        Kind::Modules => part.graph.print(rt),
+        _ => Ok(()),
+    }
+}
+
+fn main(rt: HostRuntime) -> anyhow::Result<()> {
+    let mut part = begun(rt.alloc(), Kind::Nothing);
+    for line in rt.lines(rt.alloc()) {
+        let line = line?;
+        if line.as_str().starts_with("measure ") {
+            end(&rt, &part)?;
+            part = begun(rt.alloc(), kind_of(line.as_str()));
+        } else if matches!(part.kind, Kind::Turns) {
+            print_text(&rt, turns::told(&rt, rt.alloc(), line.as_str()))?;
+        } else {
+            read(&rt, &mut part, line)?;
+        }
+    }
+    end(&rt, &part)
+}

@@ -1,0 +1,43 @@
+// Whether two builds left the same.
+use crate::crews::run::Left;
+use build_core::Answered;
+use goal_types::GoalAnswer;
+
+fn same_answer(a: &GoalAnswer, b: &GoalAnswer) -> bool {
+    match (a, b) {
+        (GoalAnswer::Done, GoalAnswer::Done) => true,
+        (GoalAnswer::Produced(x), GoalAnswer::Produced(y)) => x == y,
+        (GoalAnswer::Failed(x), GoalAnswer::Failed(y)) => x == y,
+        _ => false,
+    }
+}
+
+// Whether an answer stands among these.
+fn stands(one: &Answered, answers: &[Answered]) -> bool {
+    for other in answers {
+        if other.module == one.module && other.goal == one.goal {
+            return same_answer(&one.answer, &other.answer);
+        }
+    }
+    false
+}
+
+/// Whether each of the answers stands among the others.
+pub(crate) fn all_stand(answers: &[Answered], others: &[Answered]) -> bool {
+    for one in answers {
+        if !stands(one, others) {
+            return false;
+        }
+    }
+    true
+}
+
+/// Whether two builds left the same status, report and files, and were answered the same, in any order.
+pub(crate) fn leave_same(one: &Left, many: &Left) -> bool {
+    one.status == many.status
+        && one.report == many.report
+        && one.count == many.count
+        && one.files.as_slice() == many.files.as_slice()
+        && one.answers.len() == many.answers.len()
+        && all_stand(one.answers.as_slice(), many.answers.as_slice())
+}

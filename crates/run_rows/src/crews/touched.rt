@@ -1,0 +1,185 @@
+// What a build with faults may leave, beside one without.
+use crate::crews::run::Left;
+use crate::crews::same::all_stand;
+use mvn_base::FileName;
+use mvn_shared::{Bytes, Mem};
+use outside_mem::MemFile;
+use random_projects::Project;
+use std::alloc::{AllocError, Global};
+
+// The bytes that a repository had under a name.
+fn bytes_of<'a>(files: &'a [MemFile], name: &FileName) -> Option<&'a Bytes> {
+    for file in files {
+        if file.name == *name {
+            return Some(&file.bytes);
+        }
+    }
+    None
+}
+
+// Whether a name has what it had before, or what the build without faults gave it.
+fn is_whole(before: Option<&Bytes>, calm: &Option<Bytes>, now: &Option<Bytes>) -> bool {
+    match (before, now) {
+        (None, None) => true,
+        (Some(old), Some(new)) if old == new => true,
+        _ => now.is_some() && now == calm,
+    }
+}
+
+// The same of all names.
+fn are_whole(project: &Project, calm: &Left, left: &Left) -> bool {
+    let names = project.names.as_slice();
+    for at in 0..names.len() {
+        let before = bytes_of(project.local.as_slice(), &names[at]);
+        match (calm.files.get(at), left.files.get(at)) {
+            (Some(calm), Some(now)) if is_whole(before, calm, now) => {}
+            _ => return false,
+        }
+    }
+    true
+}
+
+// How many names have a file.
+fn count(left: &Left) -> u64 {
+    let mut count = 0u64;
+    for file in left.files.as_slice() {
+        if file.is_some() {
+            count = count.wrapping_add(1);
+        }
+    }
+    count
+}
+
+// The coordinates in a line of a report, behind its first word.
+fn coordinates(line: &str) -> &str {
+    let (_, rest) = line.split_once(' ').unwrap_or(("", line));
+    let (coordinates, _) = rest.split_once(' ').unwrap_or((rest, ""));
+    coordinates
+}
+
+// Whether the lines of these coordinates differ.
+fn differ(calm: &[&str], left: &[&str], wanted: &str) -> bool {
+    for at in 0..calm.len() {
+        if at < left.len() && coordinates(calm[at]) == wanted {
+            return calm[at] != left[at];
+        }
+    }
+    false
+}
+
+// Whether a module's line may differ from that without faults: it ended by a fault, or a module that it needs has another line too.
+fn may_differ(calm: &[&str], left: &[&str], line: &str) -> bool {
+    if line.starts_with("total ") {
+        return true;
+    }
+    if line.starts_with("failed ") {
+        return line.contains(" fault ");
+    }
+    match line.split_once(" after ") {
+        Some((_, needed)) => line.starts_with("skipped ") && differ(calm, left, needed),
+        None => false,
+    }
+}
+
+// The same of all lines.
+fn lines_are_whole(calm: &[&str], left: &[&str]) -> bool {
+    for at in 0..calm.len() {
+        if at >= left.len() {
+            return false;
+        }
+        if calm[at] != left[at] && !may_differ(calm, left, left[at]) {
+            return false;
+        }
+    }
+    calm.len() == left.len()
+}
+
+fn lines(alloc: Global, text: &str) -> Result<Vec<&str>, AllocError> {
+    text.lines().collect(alloc)
+}
+
+// The lines before one that says that the repository isn't settled.
+fn before_settle<'a>(text: &'a str) -> &'a str {
+    text.strip_suffix("fault settle\n").unwrap_or(text)
+}
+
+// Whether a report may stand where the other stands without faults.
+fn is_report(alloc: Global, calm: &str, left: &str) -> Mem<bool> {
+    let calm = lines(alloc, calm)?;
+    let left = lines(alloc, before_settle(left))?;
+    Ok(lines_are_whole(&calm, &left))
+}
+
+// Whether the name at this place has the same in both.
+fn have_same(calm: &Left, left: &Left, at: usize) -> bool {
+    match (calm.files.get(at), left.files.get(at)) {
+        (Some(one), Some(other)) => one == other,
+        _ => false,
+    }
+}
+
+// Whether all files of a module are those of the build without faults.
+fn are_installed(project: &Project, calm: &Left, left: &Left, folder: &str) -> bool {
+    let names = project.names.as_slice();
+    for at in 0..names.len() {
+        let name = names[at].as_text().as_str();
+        if name.starts_with(folder) && !have_same(calm, left, at) {
+            return false;
+        }
+    }
+    true
+}
+
+// The same of each module that is built, by its line in the report.
+fn built_are_installed(
+    alloc: Global,
+    project: &Project,
+    calm: &Left,
+    left: &Left,
+    report: &str,
+) -> Mem<bool> {
+    for line in report.lines() {
+        if let Some(rest) = line.strip_prefix("built demo:") {
+            let (artifact, _) = rest.split_once(':').unwrap_or((rest, ""));
+            let folder = format!(in alloc; "demo/{artifact}/")?;
+            if !are_installed(project, calm, left, folder.as_str()) {
+                return Ok(false);
+            }
+        }
+    }
+    Ok(true)
+}
+
+fn text_of(bytes: &Bytes) -> &str {
+    match std::str::from_utf8(bytes.as_slice()) {
+        Ok(text) => text,
+        Err(_) => "no text",
+    }
+}
+
+// Whether files and answers are as they may be, whatever the report says.
+fn parts_are_whole(project: &Project, calm: &Left, left: &Left) -> bool {
+    are_whole(project, calm, left)
+        && count(left) == left.count
+        && all_stand(left.answers.as_slice(), calm.answers.as_slice())
+}
+
+/// Whether a build with faults left each name whole, and each module as without them that no fault touched.
+pub(crate) fn is_untouched(
+    alloc: Global,
+    project: &Project,
+    calm: &Left,
+    left: &Left,
+) -> Mem<bool> {
+    if !parts_are_whole(project, calm, left) {
+        return Ok(false);
+    }
+    let report = text_of(&left.report);
+    if report.starts_with("fault ") {
+        return Ok(left.status == 3 && left.count == project.local.len() as u64);
+    }
+    if !built_are_installed(alloc, project, calm, left, report)? {
+        return Ok(false);
+    }
+    is_report(alloc, text_of(&calm.report), report)
+}

@@ -24,7 +24,8 @@ fn told<W: Threads + Wait + Sync>(rt: &W, alloc: Global, line: &str) -> Mem<u64>
     let (modules, rest) = line.split_once(' ').unwrap_or((line, ""));
     let (workers, times) = rest.split_once(' ').unwrap_or((rest, ""));
     let poms = poms(alloc, number(modules))?;
-    let plan = plan(alloc, poms, List::new(alloc), List::new(alloc), workers)?;
+    let none = List::new(alloc);
+    let plan = plan(alloc, &poms, &none, &none, number(workers))?;
     events(rt, alloc, &plan, number(times))
 }
 

@@ -62,11 +62,13 @@ fn planned(alloc: Global, project: &Project, seed: u32) -> Mem<Plan>
     ensures present { IfOk result (λ plan. IsPresent plan (files_named project.now.local)) }
 {
     let workers = 1 + seed % 4;
-    let workers = format!(in alloc; "{workers}")?;
-    let tree = project.tree.clone()?;
-    let local = project.local.clone()?;
-    let remote = project.remote.clone()?;
-    plan(alloc, tree, local, remote, workers.as_str())
+    plan(
+        alloc,
+        &project.tree,
+        &project.local,
+        &project.remote,
+        workers,
+    )
 }
 
 // A build compared with that by one hand.

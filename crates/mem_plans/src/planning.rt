@@ -17,18 +17,33 @@ use plan_numbers::Planned;
 use pom_source::Given;
 use std::alloc::Global;
 
-// A machine of which nothing is known.
-fn machine(alloc: Global) -> Machine {
+fn no_text(alloc: Global) -> Text {
+    Text::of(String::new(alloc))
+}
+
+// A machine of which these alone may be known.
+fn machine_of(alloc: Global, root: Text, jdk: Text, os_name: Text, os_family: Text) -> Machine {
     Machine {
-        root: Text::of(String::new(alloc)),
+        root,
         env: List::new(alloc),
         system: List::new(alloc),
-        jdk: Text::of(String::new(alloc)),
-        os_name: Text::of(String::new(alloc)),
-        os_family: Text::of(String::new(alloc)),
-        os_arch: Text::of(String::new(alloc)),
-        os_version: Text::of(String::new(alloc)),
+        jdk,
+        os_name,
+        os_family,
+        os_arch: no_text(alloc),
+        os_version: no_text(alloc),
     }
+}
+
+// A machine of which nothing is known.
+fn machine(alloc: Global) -> Machine {
+    machine_of(
+        alloc,
+        no_text(alloc),
+        no_text(alloc),
+        no_text(alloc),
+        no_text(alloc),
+    )
 }
 
 // No profile is switched on or off.

@@ -23,12 +23,11 @@ fn worker(alloc: Global) -> Mem<Worker> {
     })
 }
 
-fn workers(alloc: Global, count: u32) -> Mem<Vec<Worker>> {
-    let mut hands = Vec::new(alloc);
+fn put_workers(alloc: Global, hands: &mut Vec<Worker>, count: u32) -> Mem<()> {
     for _ in 0..count {
         hands.push(worker(alloc)?)?;
     }
-    Ok(hands)
+    Ok(())
 }
 
 // How many events a build has.
@@ -39,11 +38,12 @@ fn build<W: Threads + Wait + Sync>(rt: &W, alloc: Global, plan: &Plan) -> Mem<u6
     requires names { length plan.now.names < 2 ^ 32 }
     requires present { IsPresent plan.now (files_named []) }
 {
-    let shelf = MemShelf::<NoFailures>::without_failures(alloc, List::new(alloc))?;
-    let mut hands = workers(alloc, plan.workers)?;
+    let mut hands = Vec::new(alloc);
+    put_workers(alloc, &mut hands, plan.workers)?;
     if hands.len() != plan.workers as usize {
         return Err(OutOfMemory);
     }
+    let shelf = MemShelf::<NoFailures>::without_failures(alloc, List::new(alloc))?;
     match build_all(rt, alloc, plan, shelf, &mut hands) {
         Ok(left) => Ok(left.trace.len() as u64),
         Err(_) => Err(OutOfMemory),

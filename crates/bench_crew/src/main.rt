@@ -9,7 +9,7 @@ mod project;
 use building::events;
 use mem_plans::plan;
 use mvn_shared::{List, Mem};
-use project::poms;
+use project::put_poms;
 use std::alloc::Global;
 use std::sync::Wait;
 use std::thread::Threads;
@@ -23,8 +23,10 @@ fn number(word: &str) -> u32 {
 fn told<W: Threads + Wait + Sync>(rt: &W, alloc: Global, line: &str) -> Mem<u64> {
     let (modules, rest) = line.split_once(' ').unwrap_or((line, ""));
     let (workers, times) = rest.split_once(' ').unwrap_or((rest, ""));
-    let poms = poms(alloc, number(modules))?;
-    let plan = plan(alloc, poms, List::new(alloc), List::new(alloc), workers)?;
+    let mut poms = List::new(alloc);
+    put_poms(alloc, &mut poms, number(modules))?;
+    let none = List::new(alloc);
+    let plan = plan(alloc, &poms, &none, &none, number(workers))?;
     events(rt, alloc, &plan, number(times))
 }
 

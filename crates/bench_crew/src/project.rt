@@ -10,17 +10,28 @@ fn put(alloc: Global, files: &mut List<SourceFile>, path: &str, pom: &str) -> Me
     Ok(())
 }
 
-// The POM of an artifact of packaging `pom`, with these modules.
-fn pom_of(alloc: Global, artifact: &str, modules: &str) -> Mem<String> {
+// The path of a module's POM.
+fn path_of(alloc: Global, number: u32) -> Mem<String> {
+    Ok(format!(in alloc; "m{number}/pom.xml")?)
+}
+
+// The POM of a module without modules of its own.
+fn module_pom(alloc: Global, number: u32) -> Mem<String> {
     Ok(format!(in alloc;
-        "<project><modelVersion>4.0.0</modelVersion><groupId>g</groupId><artifactId>{artifact}</artifactId><version>1</version><packaging>pom</packaging><modules>{modules}</modules></project>"
+        "<project><modelVersion>4.0.0</modelVersion><groupId>g</groupId><artifactId>m{number}</artifactId><version>1</version><packaging>pom</packaging><modules></modules></project>"
+    )?)
+}
+
+// The POM of the root, with these modules.
+fn root_pom(alloc: Global, modules: &str) -> Mem<String> {
+    Ok(format!(in alloc;
+        "<project><modelVersion>4.0.0</modelVersion><groupId>g</groupId><artifactId>root</artifactId><version>1</version><packaging>pom</packaging><modules>{modules}</modules></project>"
     )?)
 }
 
 fn put_module(alloc: Global, files: &mut List<SourceFile>, number: u32) -> Mem<()> {
-    let artifact = format!(in alloc; "m{number}")?;
-    let path = format!(in alloc; "{artifact}/pom.xml")?;
-    let pom = pom_of(alloc, artifact.as_str(), "")?;
+    let path = path_of(alloc, number)?;
+    let pom = module_pom(alloc, number)?;
     put(alloc, files, path.as_str(), pom.as_str())
 }
 
@@ -30,15 +41,24 @@ fn push_listed(alloc: Global, modules: &mut String, number: u32) -> Mem<()> {
     Ok(())
 }
 
-/// The POMs of a root and so many modules.
-pub(crate) fn poms(alloc: Global, count: u32) -> Mem<List<SourceFile>> {
-    let mut files = List::new(alloc);
-    let mut modules = String::new(alloc);
+// The POMs of so many modules, and what lists them in the root's.
+fn put_modules(
+    alloc: Global,
+    files: &mut List<SourceFile>,
+    modules: &mut String,
+    count: u32,
+) -> Mem<()> {
     for number in 0..count {
-        push_listed(alloc, &mut modules, number)?;
-        put_module(alloc, &mut files, number)?;
+        push_listed(alloc, modules, number)?;
+        put_module(alloc, files, number)?;
     }
-    let root = pom_of(alloc, "root", modules.as_str())?;
-    put(alloc, &mut files, "pom.xml", root.as_str())?;
-    Ok(files)
+    Ok(())
+}
+
+/// The POMs of so many modules and their root, behind the files that are there.
+pub(crate) fn put_poms(alloc: Global, files: &mut List<SourceFile>, count: u32) -> Mem<()> {
+    let mut modules = String::new(alloc);
+    put_modules(alloc, files, &mut modules, count)?;
+    let root = root_pom(alloc, modules.as_str())?;
+    put(alloc, files, "pom.xml", root.as_str())
 }

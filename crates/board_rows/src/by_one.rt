@@ -8,6 +8,7 @@ use mvn_shared::{Bytes, List, Mem};
 use outside_mem::MemFile;
 use random_projects::Project;
 use std::alloc::Global;
+use std::mem::replace;
 
 /// What a build leaves: how its modules ended, its files by their places in the plan, and its answers.
 #[derive(Drop)]
@@ -34,13 +35,12 @@ fn copy_of(bytes: Option<&Bytes>) -> Mem<Option<Bytes>> {
     }
 }
 
-// The files that are there at the start.
-fn opening(alloc: Global, plan: &Plan, project: &Project) -> Mem<Vec<Option<Bytes>>> {
-    let mut files = Vec::new(alloc);
+// The files that are there at the start, behind those that are there.
+fn put_opening(plan: &Plan, project: &Project, files: &mut Vec<Option<Bytes>>) -> Mem<()> {
     for name in plan.files.as_slice() {
         files.push(copy_of(bytes_of(project.local.as_slice(), name))?)?;
     }
-    Ok(files)
+    Ok(())
 }
 
 fn is_there(files: &[Option<Bytes>], file: u32) -> bool {
@@ -83,12 +83,6 @@ fn fetch(
     Ok(None)
 }
 
-// What goals left: the outputs that are kept, or how the module ends.
-enum Goals {
-    Kept(List<OwnBytes>),
-    Ends(Ending),
-}
-
 // Whether the outputs have at most so many bytes, with these in the slot.
 fn fits(own: &[OwnBytes], slot: Slot, bytes: &Bytes, budget: u64) -> bool {
     let mut room = budget;
@@ -104,64 +98,81 @@ fn fits(own: &[OwnBytes], slot: Slot, bytes: &Bytes, budget: u64) -> bool {
     bytes.len() as u64 <= room
 }
 
-// An answer to a goal, with the outputs that were kept before it.
-fn kept_with(
+// Bytes of a goal kept in a slot, in place of any that were there. The ending of the module, where they are too many.
+fn keep(
     alloc: Global,
     module: &PlanModule,
     goal: u32,
     slot: Slot,
-    answer: GoalAnswer,
-    own: List<OwnBytes>,
-) -> Mem<Goals> {
+    bytes: &Bytes,
+    own: &mut List<OwnBytes>,
+) -> Mem<Option<Ending>> {
+    if slot == Slot::Nowhere {
+        return Ok(None);
+    }
+    if !fits(own.as_slice(), slot, bytes, module.budget) {
+        return Ok(Some(Ending::OutputTooLarge(goal)));
+    }
+    let bytes = bytes.clone()?;
+    *own = with_output(alloc, replace(own, List::new(alloc)), slot, bytes)?;
+    Ok(None)
+}
+
+// The outputs with an answer to a goal, or how the module ends.
+fn keep_answer(
+    alloc: Global,
+    module: &PlanModule,
+    goal: u32,
+    slot: Slot,
+    answer: &GoalAnswer,
+    own: &mut List<OwnBytes>,
+) -> Mem<Option<Ending>> {
     match answer {
-        GoalAnswer::Done => Ok(Goals::Kept(own)),
-        GoalAnswer::Failed(_) => Ok(Goals::Ends(Ending::Goal(goal))),
-        GoalAnswer::Produced(_) if slot == Slot::Nowhere => Ok(Goals::Kept(own)),
-        GoalAnswer::Produced(bytes) => {
-            if fits(own.as_slice(), slot, &bytes, module.budget) {
-                Ok(Goals::Kept(with_output(alloc, own, slot, bytes)?))
-            } else {
-                Ok(Goals::Ends(Ending::OutputTooLarge(goal)))
-            }
-        }
+        GoalAnswer::Done => Ok(None),
+        GoalAnswer::Failed(_) => Ok(Some(Ending::Goal(goal))),
+        GoalAnswer::Produced(bytes) => keep(alloc, module, goal, slot, bytes, own),
     }
 }
 
 // A goal answered, and its answer kept.
-fn answered(
+fn run_goal(
     alloc: Global,
     world: &World,
     number: u32,
+    module: &PlanModule,
     goal: u32,
+    slot: Slot,
     answers: &mut List<Answered>,
-) -> Mem<GoalAnswer> {
+    own: &mut List<OwnBytes>,
+) -> Mem<Option<Ending>> {
     let answer = world.answer(alloc, number, goal)?;
+    let ending = keep_answer(alloc, module, goal, slot, &answer, own)?;
     answers.push(Answered {
         module: number,
         goal,
-        answer: answer.clone()?,
+        answer,
     })?;
-    Ok(answer)
+    Ok(ending)
 }
 
+// The goals up to the first that ends the module.
 fn run_goals(
     alloc: Global,
     world: &World,
     number: u32,
     module: &PlanModule,
     answers: &mut List<Answered>,
-) -> Mem<Goals> {
-    let mut own = List::new(alloc);
+    own: &mut List<OwnBytes>,
+) -> Mem<Option<Ending>> {
     let mut goal = 0u32;
     for call in module.goals.as_slice() {
-        let answer = answered(alloc, world, number, goal, answers)?;
-        match kept_with(alloc, module, goal, call.slot, answer, own)? {
-            Goals::Kept(kept) => own = kept,
-            Goals::Ends(ending) => return Ok(Goals::Ends(ending)),
+        let ending = run_goal(alloc, world, number, module, goal, call.slot, answers, own)?;
+        if ending.is_some() {
+            return Ok(ending);
         }
         goal = goal.saturating_add(1);
     }
-    Ok(Goals::Kept(own))
+    Ok(None)
 }
 
 // The bytes of an own file, where it has any.
@@ -224,9 +235,10 @@ fn build_module(
     if let Some(missing) = fetch(plan, project, list, &mut built.files)? {
         return Ok(Ending::Missing(missing));
     }
-    match run_goals(alloc, world, number, module, &mut built.answers)? {
-        Goals::Kept(own) => ended(alloc, module, own.as_slice(), &mut built.files),
-        Goals::Ends(ending) => Ok(ending),
+    let mut own = List::new(alloc);
+    match run_goals(alloc, world, number, module, &mut built.answers, &mut own)? {
+        Some(ending) => Ok(ending),
+        None => ended(alloc, module, own.as_slice(), &mut built.files),
     }
 }
 
@@ -241,23 +253,46 @@ fn first_unbuilt(states: &[State], upstream: &[u32]) -> Option<u32> {
     None
 }
 
-/// Builds all modules, one after another.
-pub(crate) fn by_one(alloc: Global, plan: &Plan, project: &Project, world: &World) -> Mem<Built> {
-    let mut built = Built {
-        states: List::new(alloc),
-        files: opening(alloc, plan, project)?,
-        answers: List::new(alloc),
+// One module more.
+fn put_module(
+    alloc: Global,
+    plan: &Plan,
+    project: &Project,
+    world: &World,
+    number: u32,
+    module: &PlanModule,
+    built: &mut Built,
+) -> Mem<()> {
+    let state = match first_unbuilt(built.states.as_slice(), module.upstream.as_slice()) {
+        Some(upstream) => State::Skipped(upstream),
+        None => State::Ended(build_module(alloc, plan, project, world, number, module, built)?),
     };
+    built.states.push(state)?;
+    Ok(())
+}
+
+/// Nothing built.
+pub(crate) fn nothing(alloc: Global) -> Built {
+    Built {
+        states: List::new(alloc),
+        files: Vec::new(alloc),
+        answers: List::new(alloc),
+    }
+}
+
+/// Builds all modules, one after another, where nothing is built.
+pub(crate) fn by_one(
+    alloc: Global,
+    plan: &Plan,
+    project: &Project,
+    world: &World,
+    built: &mut Built,
+) -> Mem<()> {
+    put_opening(plan, project, &mut built.files)?;
     let mut number = 0u32;
     for module in plan.modules.as_slice() {
-        let state = match first_unbuilt(built.states.as_slice(), module.upstream.as_slice()) {
-            Some(upstream) => State::Skipped(upstream),
-            None => State::Ended(build_module(
-                alloc, plan, project, world, number, module, &mut built,
-            )?),
-        };
-        built.states.push(state)?;
+        put_module(alloc, plan, project, world, number, module, built)?;
         number = number.saturating_add(1);
     }
-    Ok(built)
+    Ok(())
 }

@@ -19,8 +19,9 @@ use turn_lock::Kept;
 pub(crate) const MOST: u64 = 134_217_728;
 
 /// What an event that needs an object gives: it came, the module ends so, or it may not come.
-pub(crate) enum Came<T> {
-    Done(T),
+#[derive(Clone, Copy)]
+pub(crate) enum Came {
+    Done,
     Ends(Ending),
     Stuck,
 }
@@ -77,23 +78,23 @@ impl<'a, S: Shelf + Drop> Site<'a, S> {
         }
     }
 
-    /// Reads a file.
-    pub(crate) fn read(&mut self, worker: u32, file: u32) -> Came<Bytes> {
+    /// Reads a file, and looks at no byte of it.
+    pub(crate) fn read(&mut self, worker: u32, file: u32) -> Came {
         let event = Event::Read { worker, file };
         if !self.may_come(event) {
             return Came::Stuck;
         }
         match self.board.read(worker, file, MOST) {
-            Ok(bytes) => {
+            Ok(_) => {
                 follow(&self.board, &mut self.core, event);
-                Came::Done(bytes)
+                Came::Done
             }
             Err(_) => Came::Ends(self.of_shelf(worker)),
         }
     }
 
     // Publishes a sealed piece.
-    fn put(&mut self, worker: u32, file: u32, area: &mut S::Area, piece: u64) -> Came<()>
+    fn put(&mut self, worker: u32, file: u32, area: &mut S::Area, piece: u64) -> Came
         requires { map.get (S.Area.pieces area.old) piece ≡ Some true }
     {
         let event = Event::Publish { worker, file };
@@ -103,7 +104,7 @@ impl<'a, S: Shelf + Drop> Site<'a, S> {
         match self.board.publish(worker, file, area, piece) {
             Ok(()) => {
                 follow(&self.board, &mut self.core, event);
-                Came::Done(())
+                Came::Done
             }
             Err(_) => Came::Ends(self.of_shelf(worker)),
         }
@@ -116,7 +117,7 @@ impl<'a, S: Shelf + Drop> Site<'a, S> {
         file: u32,
         area: &mut S::Area,
         bytes: &Bytes,
-    ) -> Came<()> {
+    ) -> Came {
         match stage(area, bytes.as_slice()) {
             Ok(piece) => self.put(worker, file, area, piece),
             Err(DeviceFault::Failed) => Came::Ends(Ending::Fault(Device::Area)),
@@ -125,7 +126,7 @@ impl<'a, S: Shelf + Drop> Site<'a, S> {
     }
 
     /// Keeps the answer of a goal.
-    pub(crate) fn answer(&mut self, worker: u32, goal: u32, answer: GoalAnswer) -> Came<()> {
+    pub(crate) fn answer(&mut self, worker: u32, goal: u32, answer: GoalAnswer) -> Came {
         let event = Event::Answer { worker, goal };
         if !self.may_come(event) {
             return Came::Stuck;
@@ -136,7 +137,7 @@ impl<'a, S: Shelf + Drop> Site<'a, S> {
         match kept {
             AnswerKept::TooLarge => Came::Ends(Ending::OutputTooLarge(goal)),
             AnswerKept::Held if failed => Came::Ends(Ending::Goal(goal)),
-            AnswerKept::Held => Came::Done(()),
+            AnswerKept::Held => Came::Done,
         }
     }
 

@@ -36,12 +36,12 @@ fn counted(alloc: Global, faulty: bool, first: u32, count: u32) -> Mem<Counts> {
     Ok(counts)
 }
 
-// How many builds left what they may not, and the number of the last of them.
-fn wrong_text(alloc: Global, counts: &Counts) -> Mem<String> {
+// How many builds left what they may not, and the number of the last of them, behind these words.
+fn counts_text(alloc: Global, much: &str, counts: &Counts) -> Mem<String> {
     let last = counts.last_wrong;
     match counts.wrong {
-        0 => Ok(String::from_str(alloc, "none different")?),
-        wrong => Ok(format!(in alloc; "{wrong} different, the last of them {last}")?),
+        0 => Ok(format!(in alloc; "{much}none different\n")?),
+        wrong => Ok(format!(in alloc; "{much}{wrong} different, the last of them {last}\n")?),
     }
 }
 
@@ -52,13 +52,12 @@ fn told(alloc: Global, row: &str) -> Mem<String> {
     let count = number(count);
     let faulty = kind == "faults";
     let counts = counted(alloc, faulty, number(first), count)?;
-    let wrong = wrong_text(alloc, &counts)?;
     let much = match faulty {
         false => "",
         true if counts.faulty >= count / 4 => "at least a quarter with a fault, ",
         true => "less than a quarter with a fault, ",
     };
-    Ok(format!(in alloc; "{much}{wrong}\n")?)
+    counts_text(alloc, much, &counts)
 }
 
 fn main(rt: HostRuntime) -> anyhow::Result<()> {

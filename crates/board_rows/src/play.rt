@@ -10,8 +10,8 @@ use crate::work::{Table, work};
 use crate::world::{Device, World};
 use board::{Finished, Next};
 use build_core::Plan;
-use mvn_shared::{List, Mem};
-use outside_mem::{Calls, MemArea, MemFile, MemRemote, MemShelf};
+use mvn_shared::Mem;
+use outside_mem::{Calls, MemArea, MemRemote, MemShelf};
 use random_projects::{Draws, Project};
 use std::alloc::Global;
 
@@ -21,28 +21,44 @@ const TURNS: u32 = 100_000;
 /// What a whole build leaves; nothing where it didn't come to its end.
 pub(crate) type Left = Option<Finished<MemShelf<Calls>>>;
 
+// The remote repository of a worker.
+fn remote_of(
+    alloc: Global,
+    project: &Project,
+    world: &World,
+    worker: u32,
+) -> Mem<MemRemote<Calls>> {
+    let failing = world.failing(alloc, Device::Remote(worker))?;
+    MemRemote::<Calls>::new(alloc, project.remote.clone()?, &failing)
+}
+
+fn area_of(alloc: Global, world: &World, worker: u32) -> Mem<MemArea<Calls>> {
+    let failing = world.failing(alloc, Device::Area(worker))?;
+    MemArea::<Calls>::new(alloc, &failing)
+}
+
 fn hand(alloc: Global, project: &Project, world: &World, worker: u32) -> Mem<Hand> {
-    let files = project.remote.clone()?;
-    let remote = MemRemote::<Calls>::new(
-        alloc,
-        files,
-        &world.failing(alloc, Device::Remote(worker))?,
-    )?;
-    let area = MemArea::<Calls>::new(alloc, &world.failing(alloc, Device::Area(worker))?)?;
+    let remote = remote_of(alloc, project, world, worker)?;
     Ok(Hand {
         remote,
-        area,
+        area: area_of(alloc, world, worker)?,
         module: 0,
         stage: Stage::Idle,
     })
 }
 
-fn hands(alloc: Global, project: &Project, world: &World, count: u32) -> Mem<Vec<Hand>> {
-    let mut hands = Vec::new(alloc);
+// So many more hands.
+fn put_hands(
+    alloc: Global,
+    project: &Project,
+    world: &World,
+    hands: &mut Vec<Hand>,
+    count: u32,
+) -> Mem<()> {
     for worker in 0..count {
         hands.push(hand(alloc, project, world, worker)?)?;
     }
-    Ok(hands)
+    Ok(())
 }
 
 // An idle worker asks for a module.
@@ -115,6 +131,19 @@ fn drawn(draws: &mut Draws, count: u32) -> u32 {
     if count == 0 { 0 } else { draws.below(count) }
 }
 
+// Turns that are drawn, of all workers of the plan.
+fn played(
+    alloc: Global,
+    site: &mut Table,
+    project: &Project,
+    plan: &Plan,
+    world: &World,
+) -> Mem<()> {
+    let mut hands = Vec::new(alloc);
+    put_hands(alloc, project, world, &mut hands, plan.workers)?;
+    play(alloc, site, world, plan, &mut hands)
+}
+
 /// The build of a plan by its workers, in turns that are drawn.
 pub(crate) fn build(alloc: Global, project: &Project, plan: &Plan, world: &World) -> Mem<Left>
     requires sound { IsSoundPlan plan.now }
@@ -122,9 +151,8 @@ pub(crate) fn build(alloc: Global, project: &Project, plan: &Plan, world: &World
     requires names { length plan.now.names < 2 ^ 32 }
     requires present { IsPresent plan.now (files_named project.now.local) }
 {
-    let mut hands = hands(alloc, project, world, plan.workers)?;
     let mut site = site(alloc, project, plan, world)?;
-    play(alloc, &mut site, world, plan, &mut hands)?;
+    played(alloc, &mut site, project, plan, world)?;
     Ok(site.finish())
 }
 

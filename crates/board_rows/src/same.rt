@@ -9,7 +9,6 @@ use mvn_outside::{ReadFault, Shelf};
 use mvn_shared::{Bytes, Mem, OutOfMemory};
 use outside_mem::{Calls, MemShelf};
 use random_projects::Project;
-use std::alloc::Global;
 
 fn same_answer(a: &GoalAnswer, b: &GoalAnswer) -> bool {
     match (a, b) {
@@ -90,17 +89,16 @@ fn file(shelf: &mut MemShelf<Calls>, name: &FileName) -> Mem<Option<Bytes>> {
     Err(OutOfMemory)
 }
 
-/// The plan's files in the repository, by their places.
-pub(crate) fn files_left(
-    alloc: Global,
+/// The plan's files in the repository, by their places, behind the files that are there.
+pub(crate) fn put_files_left(
     plan: &Plan,
     shelf: &mut MemShelf<Calls>,
-) -> Mem<Vec<Option<Bytes>>> {
-    let mut files = Vec::new(alloc);
+    files: &mut Vec<Option<Bytes>>,
+) -> Mem<()> {
     for name in plan.files.as_slice() {
         files.push(file(shelf, name)?)?;
     }
-    Ok(files)
+    Ok(())
 }
 
 // Whether a name has what it had before, or what the build without faults gave it.

@@ -4,13 +4,15 @@ ghost use Rattle.event_core.specs.SoundPlans.{IsSoundPlan};
 ghost use Rattle.outside_mem.specs.FilesNamed.{files_named};
 ghost use Rattle.run_law.specs.Given.{IsPresent};
 
-use crate::by_one::{Built, by_one};
-use crate::play::{Left, build};
-use crate::same::{files_left, has_fault, is_same, is_untouched};
+use crate::by_one::{Built, by_one, nothing};
+use crate::play::build;
+use crate::same::{has_fault, is_same, is_untouched, put_files_left};
 use crate::world::World;
+use board::Finished;
 use build_core::Plan;
 use mem_plans::plan;
-use mvn_shared::Mem;
+use mvn_shared::{Bytes, Mem};
+use outside_mem::{Calls, MemShelf};
 use random_projects::{Project, random_project};
 use std::alloc::Global;
 
@@ -62,11 +64,29 @@ fn planned(alloc: Global, project: &Project, seed: u32) -> Mem<Plan>
     ensures present { IfOk result (λ plan. IsPresent plan (files_named project.now.local)) }
 {
     let workers = 1 + seed % 4;
-    let workers = format!(in alloc; "{workers}")?;
-    let tree = project.tree.clone()?;
-    let local = project.local.clone()?;
-    let remote = project.remote.clone()?;
-    plan(alloc, tree, local, remote, workers.as_str())
+    plan(
+        alloc,
+        &project.tree,
+        &project.local,
+        &project.remote,
+        workers,
+    )
+}
+
+// Whether a build left what it may, whose files these are.
+fn is_right(
+    plan: &Plan,
+    project: &Project,
+    faulty: bool,
+    calm: &Built,
+    left: &Finished<MemShelf<Calls>>,
+    now: &[Option<Bytes>],
+) -> bool {
+    if faulty {
+        is_untouched(plan, project, calm, left, now)
+    } else {
+        is_same(calm, left, now)
+    }
 }
 
 // A build compared with that by one hand.
@@ -76,30 +96,50 @@ fn compared(
     project: &Project,
     faulty: bool,
     calm: &Built,
-    left: Left,
+    left: &mut Finished<MemShelf<Calls>>,
 ) -> Mem<Told> {
-    let Some(mut left) = left else {
+    let mut now = Vec::new(alloc);
+    put_files_left(plan, &mut left.shelf, &mut now)?;
+    if !is_right(plan, project, faulty, calm, left, &now) {
         return Ok(Told::Wrong);
-    };
-    let now = files_left(alloc, plan, &mut left.shelf)?;
-    let right = if faulty {
-        is_untouched(plan, project, calm, &left, &now)
+    }
+    if has_fault(left.states.as_slice()) {
+        Ok(Told::Faulty)
     } else {
-        is_same(calm, &left, &now)
-    };
-    Ok(match right {
-        false => Told::Wrong,
-        true if has_fault(left.states.as_slice()) => Told::Faulty,
-        true => Told::Right,
-    })
+        Ok(Told::Right)
+    }
+}
+
+// What is told of the build of a plan, beside the build by one hand.
+fn tell_beside(
+    alloc: Global,
+    project: &Project,
+    plan: &Plan,
+    world: &World,
+    calm: &Built,
+) -> Mem<Told>
+    requires sound { IsSoundPlan plan.now }
+    requires few { plan.now.events < 2 ^ 32 }
+    requires names { length plan.now.names < 2 ^ 32 }
+    requires present { IsPresent plan.now (files_named project.now.local) }
+{
+    match build(alloc, project, plan, world)? {
+        Some(mut left) => compared(alloc, plan, project, world.faulty, calm, &mut left),
+        None => Ok(Told::Wrong),
+    }
+}
+
+// What is told of the build of a project.
+fn tell_of(alloc: Global, project: &Project, seed: u32, faulty: bool) -> Mem<Told> {
+    let plan = planned(alloc, project, seed)?;
+    let world = World { seed, faulty };
+    let mut calm = nothing(alloc);
+    by_one(alloc, &plan, project, &world, &mut calm)?;
+    tell_beside(alloc, project, &plan, &world, &calm)
 }
 
 /// Builds the project of a number by its workers, in turns that are drawn, and by one hand.
 pub(crate) fn tell(alloc: Global, seed: u32, faulty: bool) -> Mem<Told> {
     let project = random_project(alloc, seed, MODULES)?;
-    let plan = planned(alloc, &project, seed)?;
-    let world = World { seed, faulty };
-    let calm = by_one(alloc, &plan, &project, &world)?;
-    let left = build(alloc, &project, &plan, &world)?;
-    compared(alloc, &plan, &project, faulty, &calm, left)
+    tell_of(alloc, &project, seed, faulty)
 }

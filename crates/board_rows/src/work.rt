@@ -15,27 +15,27 @@ use std::alloc::Global;
 pub(crate) type Table<'a> = Site<'a, MemShelf<Calls>>;
 
 // What comes of an event while names of the batch are held.
-fn came_held<T: Drop>(came: Came<T>, next: Stage) -> Turn {
+fn came_held(came: Came, next: Stage) -> Turn {
     match came {
-        Came::Done(_) => Turn::Goes(next),
+        Came::Done => Turn::Goes(next),
         Came::Ends(ending) => Turn::Goes(Stage::Abandon(0, ending)),
         Came::Stuck => Turn::Stuck,
     }
 }
 
 // What comes of an event while the own name is held.
-fn came_own(came: Came<()>, next: Stage) -> Turn {
+fn came_own(came: Came, next: Stage) -> Turn {
     match came {
-        Came::Done(_) => Turn::Goes(next),
+        Came::Done => Turn::Goes(next),
         Came::Ends(ending) => Turn::Goes(Stage::FreeOwn(ending)),
         Came::Stuck => Turn::Stuck,
     }
 }
 
 // What comes of an event while no name is held.
-fn came_free(came: Came<()>, next: Stage) -> Turn {
+fn came_free(came: Came, next: Stage) -> Turn {
     match came {
-        Came::Done(_) => Turn::Goes(next),
+        Came::Done => Turn::Goes(next),
         Came::Ends(ending) => Turn::Goes(Stage::End(ending)),
         Came::Stuck => Turn::Stuck,
     }
@@ -55,9 +55,9 @@ fn remote_bytes(remote: &mut MemRemote<Calls>, plan: &Plan, file: u32) -> Result
 }
 
 // A file fetched and published, where it is absent.
-fn fetch_file(site: &mut Table, worker: u32, hand: &mut Hand, plan: &Plan, file: u32) -> Came<()> {
+fn fetch_file(site: &mut Table, worker: u32, hand: &mut Hand, plan: &Plan, file: u32) -> Came {
     if site.board.has(file) {
-        return Came::Done(());
+        return Came::Done;
     }
     match remote_bytes(&mut hand.remote, plan, file) {
         Ok(bytes) => site.publish(worker, file, &mut hand.area, &bytes),

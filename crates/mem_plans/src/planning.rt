@@ -8,26 +8,49 @@ ghost use Rattle.build_plan.specs.Planning.{IsPlan, KnowsFiles};
 
 use build_core::Plan;
 use build_plan::{Planning, plan_build};
-use cli_words::{CommandLine, options};
+use cli_words::CommandLine;
 use goal_types::SourceFile;
-use mvn_base::{Choice, Machine};
-use mvn_shared::{Bytes, List, Mem, OutOfMemory, Text};
+use mvn_base::{Choice, Machine, Phase};
+use mvn_shared::{List, Mem, OutOfMemory, Text};
 use outside_mem::{MemFile, MemRemote, MemShelf, MemTree, NoFailures};
 use plan_numbers::Planned;
 use pom_source::Given;
 use std::alloc::Global;
 
-// A machine of which nothing is known.
-fn machine(alloc: Global) -> Machine {
+fn no_text(alloc: Global) -> Text {
+    Text::of(String::new(alloc))
+}
+
+// A machine of which these alone may be known.
+fn machine_of(alloc: Global, root: Text, jdk: Text, os_name: Text, os_family: Text) -> Machine {
     Machine {
-        root: Text::of(String::new(alloc)),
+        root,
         env: List::new(alloc),
         system: List::new(alloc),
-        jdk: Text::of(String::new(alloc)),
-        os_name: Text::of(String::new(alloc)),
-        os_family: Text::of(String::new(alloc)),
-        os_arch: Text::of(String::new(alloc)),
-        os_version: Text::of(String::new(alloc)),
+        jdk,
+        os_name,
+        os_family,
+        os_arch: no_text(alloc),
+        os_version: no_text(alloc),
+    }
+}
+
+// A machine of which nothing is known.
+fn machine(alloc: Global) -> Machine {
+    machine_of(
+        alloc,
+        no_text(alloc),
+        no_text(alloc),
+        no_text(alloc),
+        no_text(alloc),
+    )
+}
+
+// No profile is switched on or off.
+fn choice(alloc: Global) -> Choice {
+    Choice {
+        on: List::new(alloc),
+        off: List::new(alloc),
     }
 }
 
@@ -35,36 +58,23 @@ fn given(alloc: Global) -> Given {
     Given {
         machine: machine(alloc),
         defines: List::new(alloc),
-        choice: Choice {
-            on: List::new(alloc),
-            off: List::new(alloc),
-        },
+        choice: choice(alloc),
     }
 }
 
-fn push_word(alloc: Global, words: &mut Vec<Bytes>, word: &str) -> Mem<()> {
-    let word = Bytes::from_slice(alloc, word.as_bytes())?;
-    words.push(word)?;
-    Ok(())
-}
-
-// The words `install -T N`.
-fn words(alloc: Global, workers: &str) -> Mem<Vec<Bytes>> {
-    let mut words = Vec::new(alloc);
-    push_word(alloc, &mut words, "install")?;
-    push_word(alloc, &mut words, "-T")?;
-    push_word(alloc, &mut words, workers)?;
-    Ok(words)
-}
-
-fn line(alloc: Global, workers: &str) -> Mem<CommandLine> {
-    let words = words(alloc, workers)?;
-    if words.len() > 3 {
-        return Err(OutOfMemory);
-    }
-    match options(alloc, &words, 16) {
-        Ok(line) => Ok(line),
-        Err(_) => Err(OutOfMemory),
+// What the words `install -T N` ask for.
+fn install(alloc: Global, workers: u32) -> CommandLine {
+    CommandLine {
+        workers,
+        phase: Phase::Install,
+        choice: choice(alloc),
+        defines: List::new(alloc),
+        projects: List::new(alloc),
+        also_make: false,
+        also_make_dependents: false,
+        from: None,
+        full: false,
+        generated: None,
     }
 }
 
@@ -74,7 +84,6 @@ fn planned(
     tree: &mut MemTree<NoFailures>,
     shelf: &mut MemShelf<NoFailures>,
     remote: &mut MemRemote<NoFailures>,
-    given: &Given,
     line: &CommandLine,
 ) -> Mem<Planned>
     ensures made { IfOk result (IsPlan line.now) }
@@ -83,49 +92,67 @@ fn planned(
     if line.workers < 1 || line.workers > 16 {
         return Err(OutOfMemory);
     }
-    let Planning { answer, failed: _ } = plan_build(alloc, tree, shelf, remote, given, line);
+    let given = given(alloc);
+    let Planning { answer, failed: _ } = plan_build(alloc, tree, shelf, remote, &given, line);
     match answer {
         Ok(planned) => Ok(planned),
         Err(_) => Err(OutOfMemory),
     }
 }
 
-// The plan of a project for a command line.
+// The plan of a project for so many workers.
 #[tactic(auto, using(crate::proofs::Planned::is_sound, build_plan::proofs::Few::few_events, build_plan::proofs::Few::few_names, crate::proofs::Planned::knows))]
 fn plan_of(
     alloc: Global,
     tree: &mut MemTree<NoFailures>,
-    local: List<MemFile>,
+    local: &List<MemFile>,
     remote: &mut MemRemote<NoFailures>,
-    given: &Given,
-    line: &CommandLine,
+    workers: u32,
 ) -> Mem<Plan>
     ensures sound { IfOk result IsSoundPlan }
     ensures few { IfOk result (λ plan. plan.events < 2 ^ 32) }
     ensures names { IfOk result (λ plan. length plan.names < 2 ^ 32) }
-    ensures present { IfOk result (λ plan. IsPresent plan (files_named local)) }
+    ensures present { IfOk result (λ plan. IsPresent plan (files_named local.now)) }
 {
-    let mut shelf = MemShelf::<NoFailures>::without_failures(alloc, local)?;
-    let planned = planned(alloc, tree, &mut shelf, remote, given, line)?;
-    Ok(planned.plan)
+    let mut shelf = MemShelf::<NoFailures>::without_failures(alloc, local.clone()?)?;
+    let line = install(alloc, workers);
+    match planned(alloc, tree, &mut shelf, remote, &line) {
+        Ok(planned) => Ok(planned.plan),
+        Err(short) => Err(short),
+    }
 }
 
-/// The plan of an install of the project by so many workers, a number from 1 to 16 in decimal digits. Fails as for want of memory also
-/// where the words or the project are refused. Costs what planning costs. Project rule.
-pub fn plan(
+// The same, with the remote repository made from its files.
+fn over_tree(
     alloc: Global,
-    tree: List<SourceFile>,
-    local: List<MemFile>,
-    remote: List<MemFile>,
-    workers: &str,
+    tree: &mut MemTree<NoFailures>,
+    local: &List<MemFile>,
+    remote: &List<MemFile>,
+    workers: u32,
 ) -> Mem<Plan>
     ensures sound { IfOk result IsSoundPlan }
     ensures few { IfOk result (λ plan. plan.events < 2 ^ 32) }
     ensures names { IfOk result (λ plan. length plan.names < 2 ^ 32) }
-    ensures present { IfOk result (λ plan. IsPresent plan (files_named local)) }
+    ensures present { IfOk result (λ plan. IsPresent plan (files_named local.now)) }
 {
-    let line = line(alloc, workers)?;
-    let mut tree = MemTree::<NoFailures>::without_failures(alloc, tree)?;
-    let mut remote = MemRemote::<NoFailures>::without_failures(alloc, remote)?;
-    plan_of(alloc, &mut tree, local, &mut remote, &given(alloc), &line)
+    let mut remote = MemRemote::<NoFailures>::without_failures(alloc, remote.clone()?)?;
+    plan_of(alloc, tree, local, &mut remote, workers)
+}
+
+/// The plan of an install of the project by so many workers, from 1 to 16. Fails as for want of memory also where there are more or none,
+/// or the project is refused. Costs what planning costs, and a copy of the lists. Project rule.
+pub fn plan(
+    alloc: Global,
+    tree: &List<SourceFile>,
+    local: &List<MemFile>,
+    remote: &List<MemFile>,
+    workers: u32,
+) -> Mem<Plan>
+    ensures sound { IfOk result IsSoundPlan }
+    ensures few { IfOk result (λ plan. plan.events < 2 ^ 32) }
+    ensures names { IfOk result (λ plan. length plan.names < 2 ^ 32) }
+    ensures present { IfOk result (λ plan. IsPresent plan (files_named local.now)) }
+{
+    let mut tree = MemTree::<NoFailures>::without_failures(alloc, tree.clone()?)?;
+    over_tree(alloc, &mut tree, local, remote, workers)
 }

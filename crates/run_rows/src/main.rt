@@ -31,8 +31,9 @@
 //!   one of the build without faults, and each module that no fault touches ends as there; and whether enough builds had a fault
 #![tactic(auto)]
 
-mod call;
+mod build;
 mod crews;
+mod files;
 mod stops;
 
 use mvn_shared::Mem;
@@ -40,37 +41,41 @@ use std::alloc::Global;
 use std::sync::Wait;
 use std::thread::Threads;
 
-// What is printed for a row about a build that a stop cut short.
-fn stop_text<W: Threads + Wait + Sync>(rt: &W, alloc: Global, line: &str) -> Mem<String> {
-    let (kind, row) = line.split_once(' ').unwrap_or((line, ""));
-    let told = stops::told(rt, alloc, kind, row)?;
-    Ok(format!(in alloc; "{told}\n")?)
-}
-
-// What is printed for a row about builds by workers at once: the row, and what is told of it.
-fn crew_text<W: Threads + Wait + Sync>(rt: &W, alloc: Global, line: &str) -> Mem<String> {
+// A line as it stands, and what is told of it, if it is a row about builds by workers at once.
+fn tell_line<W: Threads + Wait + Sync>(
+    rt: &W,
+    alloc: Global,
+    line: &str,
+    out: &mut String,
+) -> Mem<()> {
+    out.push_str(line)?;
+    out.push_str("\n")?;
+    if line.starts_with("#") {
+        return Ok(());
+    }
     let (kind, numbers) = line.split_once(' ').unwrap_or((line, ""));
-    let told = crews::told(rt, alloc, kind, numbers)?;
-    Ok(format!(in alloc; "{line}\n{told}")?)
+    crews::tell(rt, alloc, kind, numbers, out)
 }
 
 // What is printed for a line.
-fn answer<W: Threads + Wait + Sync>(rt: &W, alloc: Global, line: &str) -> Mem<String> {
-    if line.starts_with('#') {
-        return Ok(format!(in alloc; "{line}\n")?);
-    }
-    let (kind, _) = line.split_once(' ').unwrap_or((line, ""));
+fn tell<W: Threads + Wait + Sync>(rt: &W, alloc: Global, line: &str, out: &mut String) -> Mem<()> {
+    let (kind, row) = line.split_once(' ').unwrap_or((line, ""));
     match kind {
-        "leftovers" | "area" | "images" => stop_text(rt, alloc, line),
-        _ => crew_text(rt, alloc, line),
+        "leftovers" | "area" | "images" => {
+            stops::tell(rt, alloc, kind, row, out)?;
+            out.push_str("\n")?;
+            Ok(())
+        }
+        _ => tell_line(rt, alloc, line, out),
     }
 }
 
 fn main(rt: HostRuntime) -> anyhow::Result<()> {
     for line in rt.lines(rt.alloc()) {
         let line = line?;
-        let answer = answer(&rt, rt.alloc(), line.as_str())?;
-        print!(rt; "{answer}")?;
+        let mut out = String::new(rt.alloc());
+        tell(&rt, rt.alloc(), line.as_str(), &mut out)?;
+        print!(rt; "{out}")?;
     }
     Ok(())
 }

@@ -19,9 +19,9 @@ pub(crate) type Faults = Option<u32>;
 fn place(device: Device) -> u32 {
     match device {
         Device::Shelf => 0,
-        Device::Remote(hand) => 1 + hand % 16,
-        Device::Area(hand) => 17 + hand % 16,
-        Device::Gate(hand) => 33 + hand % 16,
+        Device::Remote(hand) => (hand % 16).wrapping_add(1),
+        Device::Area(hand) => (hand % 16).wrapping_add(17),
+        Device::Gate(hand) => (hand % 16).wrapping_add(33),
     }
 }
 

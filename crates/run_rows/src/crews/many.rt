@@ -1,8 +1,11 @@
 // Builds of projects that are made from numbers.
-use crate::crews::run::{Left, Manner, build};
+use crate::build::{CALM, Left, Manner};
+use crate::crews::faults::Faults;
+use crate::crews::left;
 use crate::crews::same::leave_same;
 use crate::crews::touched::is_untouched;
 use mvn_shared::Mem;
+use outside_mem::Calls;
 use random_projects::{Project, random_project};
 use std::alloc::Global;
 use std::sync::Wait;
@@ -45,95 +48,102 @@ impl Counts {
 
 // 1 to 16 workers.
 fn workers(seed: u32) -> u32 {
-    1 + seed % 16
+    (seed % 16).wrapping_add(1)
 }
 
-// What so many workers leave of the project, where calls fail as the number says.
-fn left<W: Threads + Wait + Sync>(
-    rt: &W,
+// Whether the build by several workers left what it may, beside the one by one worker without faults.
+fn is_right(
     alloc: Global,
     project: &Project,
-    workers: u32,
-    faults: Option<u32>,
-) -> Mem<Left> {
-    let manner = Manner {
-        workers,
-        faults,
-        meeting: None,
-    };
-    build(rt, alloc, project, &manner)
+    faults: Faults,
+    one: &Left<Calls>,
+    many: &Left<Calls>,
+) -> Mem<bool> {
+    match faults {
+        None => Ok(leave_same(one, many)),
+        Some(_) => is_untouched(alloc, project, one, many),
+    }
 }
 
-// A project built by one worker and by several.
+// A project built by one worker without faults, and by several.
 fn compare<W: Threads + Wait + Sync>(
     rt: &W,
     alloc: Global,
+    project: &Project,
     seed: u32,
+    faults: Faults,
     counts: &mut Counts,
 ) -> Mem<()> {
+    let manner = Manner {
+        faults,
+        meeting: None,
+    };
+    let one = left(rt, alloc, project, 1, &CALM)?;
+    let many = left(rt, alloc, project, workers(seed), &manner)?;
+    let right = is_right(alloc, project, faults, &one, &many)?;
+    counts.count(seed, many.ended.status, right);
+    Ok(())
+}
+
+// The project of a number, built by several workers with faults or without.
+fn compare_at<W: Threads + Wait + Sync>(
+    rt: &W,
+    alloc: Global,
+    seed: u32,
+    is_faulty: bool,
+    counts: &mut Counts,
+) -> Mem<()> {
+    let faults = if is_faulty { Some(seed) } else { None };
     let project = random_project(alloc, seed, MODULES)?;
-    let one = left(rt, alloc, &project, 1, None)?;
-    let many = left(rt, alloc, &project, workers(seed), None)?;
-    counts.count(seed, many.status, leave_same(&one, &many));
+    compare(rt, alloc, &project, seed, faults, counts)
+}
+
+// How many projects were built.
+fn push_built(alloc: Global, counts: &Counts, out: &mut String) -> Mem<()> {
+    let built = counts.built;
+    out.push_str(format!(in alloc; "{built} built, ")?.as_str())?;
+    Ok(())
+}
+
+// How many of so many builds had a fault.
+fn push_faulty(counts: &Counts, count: u32, out: &mut String) -> Mem<()> {
+    if counts.faulty >= count / 4 {
+        out.push_str("at least a quarter with a fault, ")?;
+    } else {
+        out.push_str("less than a quarter with a fault, ")?;
+    }
     Ok(())
 }
 
 // How many builds left something else, and the number of the last of them.
-fn wrong_text(alloc: Global, counts: &Counts) -> Mem<String> {
+fn push_wrong(alloc: Global, counts: &Counts, out: &mut String) -> Mem<()> {
+    let wrong = counts.wrong;
     let last = counts.last_wrong;
-    match counts.wrong {
-        0 => Ok(String::from_str(alloc, "none different")?),
-        wrong => Ok(format!(in alloc; "{wrong} different, the last of them {last}")?),
+    if wrong == 0 {
+        out.push_str("none different\n")?;
+    } else {
+        out.push_str(format!(in alloc; "{wrong} different, the last of them {last}\n")?.as_str())?;
     }
-}
-
-/// Projects built by one worker and by several, without faults.
-pub(crate) fn random<W: Threads + Wait + Sync>(
-    rt: &W,
-    alloc: Global,
-    first: u32,
-    count: u32,
-) -> Mem<String> {
-    let mut counts = NONE;
-    for at in 0..count {
-        compare(rt, alloc, first.wrapping_add(at), &mut counts)?;
-    }
-    let built = counts.built;
-    let wrong = wrong_text(alloc, &counts)?;
-    Ok(format!(in alloc; "{built} built, {wrong}\n")?)
-}
-
-// A project built by several workers, with faults, and by one without.
-fn compare_faulty<W: Threads + Wait + Sync>(
-    rt: &W,
-    alloc: Global,
-    seed: u32,
-    counts: &mut Counts,
-) -> Mem<()> {
-    let project = random_project(alloc, seed, MODULES)?;
-    let calm = left(rt, alloc, &project, 1, None)?;
-    let faulty = left(rt, alloc, &project, workers(seed), Some(seed))?;
-    let right = is_untouched(alloc, &project, &calm, &faulty)?;
-    counts.count(seed, faulty.status, right);
     Ok(())
 }
 
-/// Projects built by several workers with faults.
-pub(crate) fn faulty<W: Threads + Wait + Sync>(
+/// Projects built by one worker and by several, with faults or without.
+pub(crate) fn many<W: Threads + Wait + Sync>(
     rt: &W,
     alloc: Global,
     first: u32,
     count: u32,
-) -> Mem<String> {
+    is_faulty: bool,
+    out: &mut String,
+) -> Mem<()> {
     let mut counts = NONE;
     for at in 0..count {
-        compare_faulty(rt, alloc, first.wrapping_add(at), &mut counts)?;
+        compare_at(rt, alloc, first.wrapping_add(at), is_faulty, &mut counts)?;
     }
-    let much = if counts.faulty >= count / 4 {
-        "at least a quarter"
+    if is_faulty {
+        push_faulty(&counts, count, out)?;
     } else {
-        "less than a quarter"
-    };
-    let wrong = wrong_text(alloc, &counts)?;
-    Ok(format!(in alloc; "{much} with a fault, {wrong}\n")?)
+        push_built(alloc, &counts, out)?;
+    }
+    push_wrong(alloc, &counts, out)
 }

@@ -1,7 +1,8 @@
 // Whether two builds left the same.
-use crate::crews::run::Left;
+use crate::build::Left;
 use build_core::Answered;
 use goal_types::GoalAnswer;
+use outside_mem::Calls;
 
 fn same_answer(a: &GoalAnswer, b: &GoalAnswer) -> bool {
     match (a, b) {
@@ -33,11 +34,13 @@ pub(crate) fn all_stand(answers: &[Answered], others: &[Answered]) -> bool {
 }
 
 /// Whether two builds left the same status, report and files, and were answered the same, in any order.
-pub(crate) fn leave_same(one: &Left, many: &Left) -> bool {
-    one.status == many.status
+pub(crate) fn leave_same(one: &Left<Calls>, many: &Left<Calls>) -> bool {
+    let answers = one.ended.answers.as_slice();
+    let others = many.ended.answers.as_slice();
+    one.ended.status == many.ended.status
         && one.report == many.report
-        && one.count == many.count
+        && one.ended.shelf.names() == many.ended.shelf.names()
         && one.files.as_slice() == many.files.as_slice()
-        && one.answers.len() == many.answers.len()
-        && all_stand(one.answers.as_slice(), many.answers.as_slice())
+        && answers.len() == others.len()
+        && all_stand(answers, others)
 }

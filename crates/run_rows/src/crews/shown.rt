@@ -1,15 +1,19 @@
 // What is told of the worked rows.
-use crate::crews::run::{Left, Manner, build};
+use crate::build::{CALM, Left, Manner};
+use crate::crews::left;
 use crate::crews::waiting::Meeting;
-use crate::crews::worked::{failing, fetching, independent};
+use crate::crews::worked::{put_failing, put_fetching, put_independent};
 use mvn_base::FileName;
 use mvn_shared::{Bytes, Mem};
+use outside_mem::Calls;
 use random_projects::Project;
+use random_projects::project::empty;
 use std::alloc::Global;
 use std::sync::Wait;
 use std::thread::Threads;
 
-fn text_of(bytes: &Bytes) -> &str {
+/// The text of a report.
+pub(crate) fn text_of(bytes: &Bytes) -> &str {
     match std::str::from_utf8(bytes.as_slice()) {
         Ok(text) => text,
         Err(_) => "no text\n",
@@ -17,10 +21,11 @@ fn text_of(bytes: &Bytes) -> &str {
 }
 
 // The status and the report.
-fn report_text(alloc: Global, left: &Left) -> Mem<String> {
-    let status = left.status;
-    let report = text_of(&left.report);
-    Ok(format!(in alloc; "status {status}\n{report}")?)
+fn push_report(alloc: Global, left: &Left<Calls>, out: &mut String) -> Mem<()> {
+    let status = left.ended.status;
+    out.push_str(format!(in alloc; "status {status}\n")?.as_str())?;
+    out.push_str(text_of(&left.report))?;
+    Ok(())
 }
 
 // An install by so many workers, in which calls wait.
@@ -30,14 +35,14 @@ fn waited<W: Threads + Wait + Sync>(
     project: &Project,
     workers: u32,
     meeting: &Meeting,
-) -> Mem<String> {
+    out: &mut String,
+) -> Mem<()> {
     let manner = Manner {
-        workers,
         faults: None,
         meeting: Some(meeting),
     };
-    let left = build(rt, alloc, project, &manner)?;
-    report_text(alloc, &left)
+    let left = left(rt, alloc, project, workers, &manner)?;
+    push_report(alloc, &left, out)
 }
 
 /// An install of three modules whose goals wait for one another.
@@ -46,10 +51,12 @@ pub(crate) fn goals<W: Threads + Wait + Sync>(
     alloc: Global,
     workers: u32,
     looks: u32,
-) -> Mem<String> {
-    let project = independent(alloc)?;
+    out: &mut String,
+) -> Mem<()> {
+    let mut project = empty(alloc);
+    put_independent(alloc, &mut project)?;
     let meeting = Meeting::of_goals(looks);
-    waited(rt, alloc, &project, workers, &meeting)
+    waited(rt, alloc, &project, workers, &meeting, out)
 }
 
 /// An install of three modules, where a goal and a fetch wait for each other.
@@ -58,42 +65,43 @@ pub(crate) fn fetch<W: Threads + Wait + Sync>(
     alloc: Global,
     workers: u32,
     looks: u32,
-) -> Mem<String> {
-    let project = fetching(alloc)?;
+    out: &mut String,
+) -> Mem<()> {
+    let mut project = empty(alloc);
+    put_fetching(alloc, &mut project)?;
     let meeting = Meeting::of_a_fetch(looks);
-    waited(rt, alloc, &project, workers, &meeting)
+    waited(rt, alloc, &project, workers, &meeting, out)
 }
 
 // A name and how many bytes it has, where it has a file.
-fn push_file(alloc: Global, text: &mut String, name: &FileName, file: &Option<Bytes>) -> Mem<()> {
+fn push_file(alloc: Global, name: &FileName, file: &Option<Bytes>, out: &mut String) -> Mem<()> {
     if let Some(bytes) = file {
         let count = bytes.len();
-        let line = format!(in alloc; "{name} {count}\n")?;
-        text.push_str(line.as_str())?;
+        out.push_str(format!(in alloc; "{name} {count}\n")?.as_str())?;
     }
     Ok(())
 }
 
-fn push_files(alloc: Global, text: &mut String, project: &Project, left: &Left) -> Mem<()> {
+fn push_files(alloc: Global, project: &Project, left: &Left<Calls>, out: &mut String) -> Mem<()> {
     let names = project.names.as_slice();
     for at in 0..names.len() {
         if let Some(file) = left.files.get(at) {
-            push_file(alloc, text, &names[at], file)?;
+            push_file(alloc, &names[at], file, out)?;
         }
     }
     Ok(())
 }
 
 /// An install of three modules, of which one fails and one needs that one, and the files that it leaves.
-pub(crate) fn fails<W: Threads + Wait + Sync>(rt: &W, alloc: Global, workers: u32) -> Mem<String> {
-    let project = failing(alloc)?;
-    let manner = Manner {
-        workers,
-        faults: None,
-        meeting: None,
-    };
-    let left = build(rt, alloc, &project, &manner)?;
-    let mut text = report_text(alloc, &left)?;
-    push_files(alloc, &mut text, &project, &left)?;
-    Ok(text)
+pub(crate) fn fails<W: Threads + Wait + Sync>(
+    rt: &W,
+    alloc: Global,
+    workers: u32,
+    out: &mut String,
+) -> Mem<()> {
+    let mut project = empty(alloc);
+    put_failing(alloc, &mut project)?;
+    let left = left(rt, alloc, &project, workers, &CALM)?;
+    push_report(alloc, &left, out)?;
+    push_files(alloc, &project, &left, out)
 }

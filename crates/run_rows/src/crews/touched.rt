@@ -1,9 +1,11 @@
 // What a build with faults may leave, beside one without.
-use crate::crews::run::Left;
+use crate::build::Left;
 use crate::crews::same::all_stand;
+use crate::crews::shown::text_of;
+use crate::files::same_at;
 use mvn_base::FileName;
 use mvn_shared::{Bytes, Mem};
-use outside_mem::MemFile;
+use outside_mem::{Calls, MemFile};
 use random_projects::Project;
 use std::alloc::{AllocError, Global};
 
@@ -27,7 +29,7 @@ fn is_whole(before: Option<&Bytes>, calm: &Option<Bytes>, now: &Option<Bytes>) -
 }
 
 // The same of all names.
-fn are_whole(project: &Project, calm: &Left, left: &Left) -> bool {
+fn are_whole(project: &Project, calm: &Left<Calls>, left: &Left<Calls>) -> bool {
     let names = project.names.as_slice();
     for at in 0..names.len() {
         let before = bytes_of(project.local.as_slice(), &names[at]);
@@ -40,7 +42,7 @@ fn are_whole(project: &Project, calm: &Left, left: &Left) -> bool {
 }
 
 // How many names have a file.
-fn count(left: &Left) -> u64 {
+fn count(left: &Left<Calls>) -> u64 {
     let mut count = 0u64;
     for file in left.files.as_slice() {
         if file.is_some() {
@@ -110,20 +112,29 @@ fn is_report(alloc: Global, calm: &str, left: &str) -> Mem<bool> {
     Ok(lines_are_whole(&calm, &left))
 }
 
-// Whether the name at this place has the same in both.
-fn have_same(calm: &Left, left: &Left, at: usize) -> bool {
-    match (calm.files.get(at), left.files.get(at)) {
-        (Some(one), Some(other)) => one == other,
-        _ => false,
+// Whether a name is that of a file of a module with this artifact.
+fn is_of(name: &str, artifact: &str) -> bool {
+    match name.strip_prefix("demo/") {
+        Some(rest) => match rest.strip_prefix(artifact) {
+            Some(rest) => rest.starts_with("/"),
+            None => false,
+        },
+        None => false,
     }
 }
 
 // Whether all files of a module are those of the build without faults.
-fn are_installed(project: &Project, calm: &Left, left: &Left, folder: &str) -> bool {
+fn are_installed(
+    project: &Project,
+    calm: &Left<Calls>,
+    left: &Left<Calls>,
+    artifact: &str,
+) -> bool {
     let names = project.names.as_slice();
     for at in 0..names.len() {
-        let name = names[at].as_text().as_str();
-        if name.starts_with(folder) && !have_same(calm, left, at) {
+        if is_of(names[at].as_text().as_str(), artifact)
+            && !same_at(calm.files.as_slice(), left.files.as_slice(), at)
+        {
             return false;
         }
     }
@@ -132,53 +143,45 @@ fn are_installed(project: &Project, calm: &Left, left: &Left, folder: &str) -> b
 
 // The same of each module that is built, by its line in the report.
 fn built_are_installed(
-    alloc: Global,
     project: &Project,
-    calm: &Left,
-    left: &Left,
+    calm: &Left<Calls>,
+    left: &Left<Calls>,
     report: &str,
-) -> Mem<bool> {
+) -> bool {
     for line in report.lines() {
         if let Some(rest) = line.strip_prefix("built demo:") {
             let (artifact, _) = rest.split_once(':').unwrap_or((rest, ""));
-            let folder = format!(in alloc; "demo/{artifact}/")?;
-            if !are_installed(project, calm, left, folder.as_str()) {
-                return Ok(false);
+            if !are_installed(project, calm, left, artifact) {
+                return false;
             }
         }
     }
-    Ok(true)
-}
-
-fn text_of(bytes: &Bytes) -> &str {
-    match std::str::from_utf8(bytes.as_slice()) {
-        Ok(text) => text,
-        Err(_) => "no text",
-    }
+    true
 }
 
 // Whether files and answers are as they may be, whatever the report says.
-fn parts_are_whole(project: &Project, calm: &Left, left: &Left) -> bool {
+fn parts_are_whole(project: &Project, calm: &Left<Calls>, left: &Left<Calls>) -> bool {
     are_whole(project, calm, left)
-        && count(left) == left.count
-        && all_stand(left.answers.as_slice(), calm.answers.as_slice())
+        && count(left) == left.ended.shelf.names()
+        && all_stand(left.ended.answers.as_slice(), calm.ended.answers.as_slice())
 }
 
 /// Whether a build with faults left each name whole, and each module as without them that no fault touched.
 pub(crate) fn is_untouched(
     alloc: Global,
     project: &Project,
-    calm: &Left,
-    left: &Left,
+    calm: &Left<Calls>,
+    left: &Left<Calls>,
 ) -> Mem<bool> {
     if !parts_are_whole(project, calm, left) {
         return Ok(false);
     }
     let report = text_of(&left.report);
     if report.starts_with("fault ") {
-        return Ok(left.status == 3 && left.count == project.local.len() as u64);
+        let files = left.ended.shelf.names();
+        return Ok(left.ended.status == 3 && files == project.local.len() as u64);
     }
-    if !built_are_installed(alloc, project, calm, left, report)? {
+    if !built_are_installed(project, calm, left, report) {
         return Ok(false);
     }
     is_report(alloc, text_of(&calm.report), report)

@@ -1,0 +1,39 @@
+// What stands under the names of a repository.
+use mvn_base::FileName;
+use mvn_outside::{ReadFault, Shelf};
+use mvn_shared::{Bytes, List, Mem, OutOfMemory};
+use outside_mem::{Failures, MemShelf};
+use std::alloc::Global;
+
+// What stands under a name; a call that fails is made again, since a call fails once.
+fn file<F: Failures>(shelf: &mut MemShelf<F>, name: &FileName) -> Mem<Option<Bytes>> {
+    for _ in 0..3u32 {
+        match shelf.read(name, u64::MAX) {
+            Ok(found) => return Ok(found),
+            Err(ReadFault::Failed) => {}
+            Err(_) => return Err(OutOfMemory),
+        }
+    }
+    Err(OutOfMemory)
+}
+
+/// The file under each of these names, in their order.
+pub(crate) fn files_under<F: Failures>(
+    alloc: Global,
+    shelf: &mut MemShelf<F>,
+    names: &[FileName],
+) -> Mem<List<Option<Bytes>>> {
+    let mut files = List::new(alloc);
+    for name in names {
+        files.push(file(shelf, name)?)?;
+    }
+    Ok(files)
+}
+
+/// Whether at this place stands the same in both.
+pub(crate) fn same_at(one: &[Option<Bytes>], other: &[Option<Bytes>], at: usize) -> bool {
+    match (one.get(at), other.get(at)) {
+        (Some(one), Some(other)) => one == other,
+        _ => false,
+    }
+}

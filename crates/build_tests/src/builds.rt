@@ -16,7 +16,7 @@ use std::sync::Wait;
 use std::thread::Threads;
 
 /// The path of a POM, and its text.
-pub(crate) type Pom = (&'static str, &'static [u8]);
+pub(crate) type Pom = (&'static str, &'static str);
 
 /// The object of which a call fails, and the number of that call.
 pub(crate) type Fault = (char, u64);
@@ -29,14 +29,17 @@ type Worker = Hand<MemRemote<Calls>, MemArea<Calls>, MemGate<Calls>>;
 type Run = Ended<MemShelf<Calls>>;
 
 /// How a project is built: its POMs, how many workers there are, what their remotes have and what their goals answer, and which call fails.
-#[derive(Drop)]
-pub(crate) struct Manner<'a> {
-    pub(crate) poms: &'a [Pom],
+#[derive(Clone, Copy)]
+pub(crate) struct Manner {
+    pub(crate) poms: &'static [Pom],
     pub(crate) workers: u32,
-    pub(crate) parts: &'a [Part],
-    pub(crate) letters: &'a str,
+    pub(crate) parts: &'static [Part],
+    pub(crate) letters: &'static str,
     pub(crate) fault: Fault,
 }
+
+/// Calls of an object, by the first and the one behind the last, and the status, the names and the text of a build in which one of them fails.
+pub(crate) type Case = (char, (u64, u64), (u8, u64), &'static str);
 
 // The calls of an object that fail.
 fn failing(alloc: Global, fault: Fault, object: char) -> Mem<List<u64>> {
@@ -49,7 +52,7 @@ fn failing(alloc: Global, fault: Fault, object: char) -> Mem<List<u64>> {
 
 fn file(alloc: Global, pom: &Pom) -> Mem<SourceFile> {
     let path = Text::from_str(alloc, pom.0)?;
-    let bytes = Bytes::from_slice(alloc, pom.1)?;
+    let bytes = Bytes::from_slice(alloc, pom.1.as_bytes())?;
     Ok(SourceFile { path, bytes })
 }
 
@@ -80,12 +83,19 @@ fn sink(alloc: Global, manner: &Manner) -> Mem<MemSink<Calls>> {
     MemSink::new(alloc, &failing)
 }
 
+// A byte of output.
+fn produced(alloc: Global, letter: u8) -> Mem<GoalAnswer> {
+    let mut output = Vec::new(alloc);
+    output.push(letter)?;
+    Ok(GoalAnswer::Produced(Bytes::of(output)))
+}
+
 // The answer of a letter: `Done` for `d`, an error for `f`, and else a byte of output.
 fn answer(alloc: Global, letter: u8) -> Mem<GoalAnswer> {
     match letter {
         b'd' => Ok(GoalAnswer::Done),
         b'f' => Ok(GoalAnswer::Failed(Text::from_str(alloc, "1 error")?)),
-        _ => Ok(GoalAnswer::Produced(Bytes::from_slice(alloc, &[letter])?)),
+        _ => produced(alloc, letter),
     }
 }
 
@@ -179,13 +189,13 @@ fn build<W: Threads + Wait + Sync>(
     sink: &mut MemSink<Calls>,
 ) -> Mem<Run> {
     let words = words(alloc, line)?;
-    let machine = machine(alloc)?;
-    let mut tree = tree(alloc, manner)?;
     let mut workers = workers(alloc, manner)?;
     if workers.is_empty() || workers.len() > 16 {
         return Err(OutOfMemory);
     }
+    let mut tree = tree(alloc, manner)?;
     let shelf = shelf(alloc, manner)?;
+    let machine = machine(alloc)?;
     let run = call(
         rt,
         alloc,
@@ -199,11 +209,29 @@ fn build<W: Threads + Wait + Sync>(
     Ok(run)
 }
 
+// How many modules were started.
 fn starts(trace: &[Event]) -> usize {
-    trace
-        .iter()
-        .filter(|event| matches!(event, Event::Start { .. }))
-        .count()
+    let mut starts = 0usize;
+    for event in trace {
+        if matches!(event, Event::Start { .. }) {
+            starts = starts.wrapping_add(1);
+        }
+    }
+    starts
+}
+
+// The status and the names are these, and the text is this one.
+fn check_left<W: Abort>(
+    rt: &W,
+    fault: Fault,
+    left: (u8, u64),
+    wanted: (u8, u64),
+    told: &[u8],
+    text: &str,
+) {
+    let (object, call) = fault;
+    assert_eq!(rt; left, wanted, "{object} {call}: {text}");
+    assert!(rt; told == text.as_bytes());
 }
 
 /// A command line ends with this status and so many names in the repository, and writes this text. How many modules were started and how
@@ -216,11 +244,41 @@ pub(crate) fn check<W: Abort + Threads + Wait + Sync>(
     wanted: (u8, u64),
     text: &str,
 ) -> Mem<(usize, usize)> {
-    let (object, call) = manner.fault;
     let mut sink = sink(alloc, manner)?;
     let run = build(rt, alloc, line, manner, &mut sink)?;
     let left = (run.status, run.shelf.names());
-    assert_eq!(rt; left, wanted, "{object} {call}: {text}");
-    assert!(rt; sink.bytes() == text.as_bytes());
+    check_left(rt, manner.fault, left, wanted, sink.bytes(), text);
     Ok((starts(run.trace.as_slice()), run.answers.len()))
+}
+
+/// The words of an install.
+pub(crate) const INSTALL: &[&str] = &["install"];
+
+// Installs so, of which one of the calls of the case fails, end as the case says.
+fn check_case<W: Abort + Threads + Wait + Sync>(
+    rt: &W,
+    alloc: Global,
+    manner: &Manner,
+    case: &Case,
+) -> Mem<()> {
+    let (object, calls, wanted, text) = *case;
+    let mut faulty = *manner;
+    for call in calls.0..calls.1 {
+        faulty.fault = (object, call);
+        check(rt, alloc, INSTALL, &faulty, wanted, text)?;
+    }
+    Ok(())
+}
+
+/// The same of all cases.
+pub(crate) fn check_cases<W: Abort + Threads + Wait + Sync>(
+    rt: &W,
+    alloc: Global,
+    manner: &Manner,
+    cases: &[Case],
+) -> Mem<()> {
+    for case in cases {
+        check_case(rt, alloc, manner, case)?;
+    }
+    Ok(())
 }

@@ -12,6 +12,18 @@ const OF_200: &str =
 const OF_ONE: &str =
     "generated 1\ntotal 1 built 1 failed 0 skipped 0\nclasspath entries 0\nfiles 1\n";
 
+const BY_EIGHT: Manner = Manner {
+    poms: &[],
+    workers: 8,
+    parts: &[],
+    letters: "",
+    fault: NO_FAULT,
+};
+
+const LINE_OF_200: &[&str] = &["--generated", "200", "-T", "8", "install"];
+
+const LINE_OF_ONE: &[&str] = &["--generated", "1", "install"];
+
 // The words give this text with status 0 by eight workers, a run with so many starts and answers, and leave the repository alone.
 fn check_generated<W: Abort + Threads + Wait + Sync>(
     rt: &W,
@@ -20,27 +32,18 @@ fn check_generated<W: Abort + Threads + Wait + Sync>(
     text: &str,
     wanted: (usize, usize),
 ) -> Mem<()> {
-    let manner = Manner {
-        poms: &[],
-        workers: 8,
-        parts: &[],
-        letters: "",
-        fault: NO_FAULT,
-    };
-    let counts = check(rt, alloc, line, &manner, (0, 0), text)?;
+    let counts = check(rt, alloc, line, &BY_EIGHT, (0, 0), text)?;
     assert_eq!(rt; counts, wanted);
     Ok(())
 }
 
 #[test]
 fn generated_project_of_200_modules(rt: HostRuntime) -> Mem<()> {
-    let line = ["--generated", "200", "-T", "8", "install"];
-    check_generated(&rt, rt.alloc(), &line, OF_200, (200, 1194))?;
-    check_generated(&rt, rt.alloc(), &line, OF_200, (200, 1194))
+    check_generated(&rt, rt.alloc(), LINE_OF_200, OF_200, (200, 1194))?;
+    check_generated(&rt, rt.alloc(), LINE_OF_200, OF_200, (200, 1194))
 }
 
 #[test]
 fn generated_project_of_one_module(rt: HostRuntime) -> Mem<()> {
-    let line = ["--generated", "1", "install"];
-    check_generated(&rt, rt.alloc(), &line, OF_ONE, (1, 0))
+    check_generated(&rt, rt.alloc(), LINE_OF_ONE, OF_ONE, (1, 0))
 }

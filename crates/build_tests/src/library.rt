@@ -4,8 +4,8 @@ use mvn_shared::{Bytes, List, Mem, Text};
 use outside_mem::MemFile;
 use std::alloc::Global;
 
-/// A file of the library: its extension, and its bytes.
-pub(crate) type Part = (&'static str, &'static [u8]);
+/// A file of the library: its extension, and its text.
+pub(crate) type Part = (&'static str, &'static str);
 
 // Its coordinates.
 fn gav(alloc: Global) -> Mem<Gav> {
@@ -38,7 +38,7 @@ fn file_name(alloc: Global, gav: &Gav, extension: &str) -> Mem<Option<FileName>>
 fn put_part(alloc: Global, files: &mut List<MemFile>, part: &Part) -> Mem<()> {
     let gav = gav(alloc)?;
     if let Some(name) = file_name(alloc, &gav, part.0)? {
-        let bytes = Bytes::from_slice(alloc, part.1)?;
+        let bytes = Bytes::from_slice(alloc, part.1.as_bytes())?;
         files.push(MemFile { name, bytes })?;
     }
     Ok(())

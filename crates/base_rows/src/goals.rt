@@ -16,7 +16,7 @@ fn told_of_fields(alloc: Global, kind: &str, fields: &[Bytes]) -> Mem<Bytes> {
         "line" => table::line(alloc, fields),
         "written" => answers::written(alloc, fields),
         "read" => answers::read(alloc, fields),
-        _ => Bytes::from_slice(alloc, b"no such row"),
+        _ => Bytes::from_slice(alloc, "no such row".as_bytes()),
     }
 }
 

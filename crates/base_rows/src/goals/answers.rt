@@ -13,28 +13,28 @@ fn produced(alloc: Global, bytes: &[u8]) -> Mem<Bytes> {
 fn failed(alloc: Global, text: &[u8]) -> Mem<Bytes> {
     match Text::from_slice(alloc, text) {
         Ok(text) => answer_bytes(alloc, &GoalAnswer::Failed(text)),
-        Err(_) => Bytes::from_slice(alloc, b"no text"),
+        Err(_) => Bytes::from_slice(alloc, "no text".as_bytes()),
     }
 }
 
 /// The bytes of an answer.
 pub(crate) fn written(alloc: Global, fields: &[Bytes]) -> Mem<Bytes> {
     match fields {
-        [kind] if kind.as_slice() == b"done".as_slice() => answer_bytes(alloc, &GoalAnswer::Done),
-        [kind, bytes] if kind.as_slice() == b"produced".as_slice() => {
+        [kind] if kind.as_slice() == "done".as_bytes() => answer_bytes(alloc, &GoalAnswer::Done),
+        [kind, bytes] if kind.as_slice() == "produced".as_bytes() => {
             produced(alloc, bytes.as_slice())
         }
-        [kind, text] if kind.as_slice() == b"failed".as_slice() => failed(alloc, text.as_slice()),
-        _ => Bytes::from_slice(alloc, b"no such row"),
+        [kind, text] if kind.as_slice() == "failed".as_bytes() => failed(alloc, text.as_slice()),
+        _ => Bytes::from_slice(alloc, "no such row".as_bytes()),
     }
 }
 
 // An answer in a word and its text, or how many bytes it has.
 fn shown(alloc: Global, answer: &GoalAnswer) -> Mem<Bytes> {
     match answer {
-        GoalAnswer::Done => Bytes::from_slice(alloc, b"done"),
+        GoalAnswer::Done => Bytes::from_slice(alloc, "done".as_bytes()),
         GoalAnswer::Failed(text) => {
-            let mut shown = Bytes::from_slice(alloc, b"failed ")?;
+            let mut shown = Bytes::from_slice(alloc, "failed ".as_bytes())?;
             shown.extend_from_slice(text.as_bytes())?;
             Ok(shown)
         }
@@ -50,7 +50,7 @@ fn shown(alloc: Global, answer: &GoalAnswer) -> Mem<Bytes> {
 fn told(alloc: Global, bytes: &[u8]) -> Mem<Bytes> {
     match read_answer(alloc, bytes)? {
         Some(answer) => shown(alloc, &answer),
-        None => Bytes::from_slice(alloc, b"none"),
+        None => Bytes::from_slice(alloc, "none".as_bytes()),
     }
 }
 
@@ -58,13 +58,13 @@ fn told(alloc: Global, bytes: &[u8]) -> Mem<Bytes> {
 pub(crate) fn read(alloc: Global, fields: &[Bytes]) -> Mem<Bytes> {
     match fields {
         [bytes] => told(alloc, bytes.as_slice()),
-        _ => Bytes::from_slice(alloc, b"no such row"),
+        _ => Bytes::from_slice(alloc, "no such row".as_bytes()),
     }
 }
 
 /// The same of an answer with so many spaces behind it.
 pub(crate) fn spaced(alloc: Global, count: &str) -> Mem<Bytes> {
-    let mut bytes = Vec::from_slice(alloc, b"{\"answer\":\"done\"}")?;
+    let mut bytes = Vec::from_slice(alloc, "{\"answer\":\"done\"}".as_bytes())?;
     for _space in 0..count.parse::<u32>().unwrap_or(0) {
         bytes.push(b' ')?;
     }

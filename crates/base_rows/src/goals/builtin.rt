@@ -77,7 +77,7 @@ fn spelled(alloc: Global, word: &str, bytes: &[u8]) -> Mem<Bytes> {
 
 fn shown(alloc: Global, answer: &GoalAnswer) -> Mem<Bytes> {
     match answer {
-        GoalAnswer::Done => spelled(alloc, "done", b""),
+        GoalAnswer::Done => spelled(alloc, "done", "".as_bytes()),
         GoalAnswer::Produced(bytes) => spelled(alloc, "produced ", bytes.as_slice()),
         GoalAnswer::Failed(text) => spelled(alloc, "failed ", text.as_bytes()),
     }
@@ -88,17 +88,17 @@ fn answered(alloc: Global, slot: Slot, fields: &[Bytes]) -> Mem<Bytes> {
     let mut gate = Builtin::new(alloc);
     match gate.call(&request) {
         Ok(answer) => shown(alloc, &answer),
-        Err(_) => spelled(alloc, "the gate failed", b""),
+        Err(_) => spelled(alloc, "the gate failed", "".as_bytes()),
     }
 }
 
 /// What surefire:test answers for demo:app:1.0: `main` where it has an output, and sources, each a path and its bytes.
 pub(crate) fn told(alloc: Global, fields: &[Bytes]) -> Mem<Bytes> {
     match fields {
-        [slot, fields @ ..] if slot.as_slice() == b"main".as_slice() => {
+        [slot, fields @ ..] if slot.as_slice() == "main".as_bytes() => {
             answered(alloc, Slot::Main, fields)
         }
         [_, fields @ ..] => answered(alloc, Slot::Nowhere, fields),
-        [] => spelled(alloc, "no such row", b""),
+        [] => spelled(alloc, "no such row", "".as_bytes()),
     }
 }

@@ -37,7 +37,7 @@ fn call(alloc: Global, settings: List<Setting>) -> Mem<GoalCall> {
 // A source.
 fn sources(alloc: Global) -> Mem<List<SourceFile>> {
     let path = Text::from_str(alloc, "src/A.java")?;
-    let bytes = Bytes::from_slice(alloc, b"class A {}\n")?;
+    let bytes = Bytes::from_slice(alloc, "class A {}\n".as_bytes())?;
     let mut sources = List::new(alloc);
     sources.push(SourceFile { path, bytes })?;
     Ok(sources)
@@ -47,7 +47,7 @@ fn sources(alloc: Global) -> Mem<List<SourceFile>> {
 fn outputs(alloc: Global) -> Mem<List<OwnBytes>>
     ensures { IfOk result (λ own. HasOwnSlots own) }
 {
-    let bytes = Bytes::from_slice(alloc, b"out")?;
+    let bytes = Bytes::from_slice(alloc, "out".as_bytes())?;
     let mut own = List::new(alloc);
     own.push(OwnBytes {
         slot: Slot::TestClasses,

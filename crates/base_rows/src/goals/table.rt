@@ -22,7 +22,7 @@ pub(crate) fn rule(alloc: Global, fields: &[Bytes]) -> Mem<Bytes> {
             alloc,
             goal_rule(group.as_slice(), plugin.as_slice(), goal.as_slice()),
         ),
-        _ => Bytes::from_slice(alloc, b"no such row"),
+        _ => Bytes::from_slice(alloc, "no such row".as_bytes()),
     }
 }
 
@@ -31,12 +31,12 @@ fn parts(alloc: Global, bytes: &[u8]) -> Mem<Bytes> {
     let mut shown = Bytes::from_slice(alloc, line_of(bytes))?;
     match split_line(bytes) {
         Some((line, behind)) => {
-            shown.extend_from_slice(b"|")?;
+            shown.extend_from_slice("|".as_bytes())?;
             shown.extend_from_slice(line)?;
-            shown.extend_from_slice(b"|")?;
+            shown.extend_from_slice("|".as_bytes())?;
             shown.extend_from_slice(behind)?;
         }
-        None => shown.extend_from_slice(b"|none")?,
+        None => shown.extend_from_slice("|none".as_bytes())?,
     }
     Ok(shown)
 }
@@ -45,6 +45,6 @@ fn parts(alloc: Global, bytes: &[u8]) -> Mem<Bytes> {
 pub(crate) fn line(alloc: Global, fields: &[Bytes]) -> Mem<Bytes> {
     match fields {
         [bytes] => parts(alloc, bytes.as_slice()),
-        _ => Bytes::from_slice(alloc, b"no such row"),
+        _ => Bytes::from_slice(alloc, "no such row".as_bytes()),
     }
 }

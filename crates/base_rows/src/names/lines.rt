@@ -12,7 +12,7 @@ fn push_texts(shown: &mut String, label: &str, texts: &[Text]) -> Mem<()> {
     }
     for text in texts {
         shown.push_str(text.as_str())?;
-        shown.push(',')?;
+        shown.push_str(",")?;
     }
     Ok(())
 }
@@ -21,7 +21,7 @@ fn push_pairs(shown: &mut String, pairs: &[Pair]) -> Mem<()> {
     for pair in pairs {
         shown.push_str(" D:")?;
         shown.push_str(pair.name.as_str())?;
-        shown.push('=')?;
+        shown.push_str("=")?;
         shown.push_str(pair.value.as_str())?;
     }
     Ok(())

@@ -60,7 +60,7 @@ fn setting(alloc: Global, name: &Text, children: List<Setting>) -> Mem<Setting> 
 
 fn push_setting(shown: &mut String, setting: &Setting) -> Mem<()> {
     shown.push_str(setting.name.as_str())?;
-    shown.push('=')?;
+    shown.push_str("=")?;
     shown.push_str(setting.text.as_str())?;
     Ok(())
 }
@@ -70,7 +70,7 @@ fn shown(alloc: Global, setting: &Setting) -> Mem<String> {
     let mut shown = String::new(alloc);
     push_setting(&mut shown, setting)?;
     for child in setting.children.as_slice() {
-        shown.push(' ')?;
+        shown.push_str(" ")?;
         push_setting(&mut shown, child)?;
     }
     Ok(shown)

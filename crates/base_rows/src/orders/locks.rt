@@ -9,7 +9,7 @@ fn take(table: &mut LockTable, name: u32, worker: u32, mode: Mode) -> char {
     if name < table.names() && worker < table.workers() && table.holds(name, worker).is_none() {
         return match table.take(name, worker, mode) {
             Tried::Taken => '+',
-            Tried::Busy(other) => char::from(b'0' + (other % 10) as u8),
+            Tried::Busy(other) => char::from(b'0'.wrapping_add((other % 10) as u8)),
         };
     }
     '!'
@@ -51,7 +51,7 @@ fn answers(alloc: Global, table: &mut LockTable, calls: &str) -> Mem<String> {
     let mut shown = String::new(alloc);
     for call in calls.split_whitespace() {
         if !shown.is_empty() {
-            shown.push(' ')?;
+            shown.push_str(" ")?;
         }
         shown.push(answer(table, call.as_bytes()))?;
     }

@@ -10,7 +10,7 @@ fn listed(alloc: Global, label: &str, list: &[u32]) -> Mem<String> {
     let mut shown = String::from_str(alloc, label)?;
     for m in list {
         if !shown.is_empty() {
-            shown.push(' ')?;
+            shown.push_str(" ")?;
         }
         shown.push_str(format!(in alloc; "{m}")?.as_str())?;
     }
@@ -51,7 +51,7 @@ fn shown_edges(alloc: Global, edges: &[(u32, u32)]) -> Mem<String> {
     let mut shown = String::new(alloc);
     for (m, upstream) in edges {
         if !shown.is_empty() {
-            shown.push(' ')?;
+            shown.push_str(" ")?;
         }
         shown.push_str(format!(in alloc; "{m}-{upstream}")?.as_str())?;
     }

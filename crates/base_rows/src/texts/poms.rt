@@ -8,12 +8,12 @@ fn push_names(shown: &mut String, names: &[Text]) -> Mem<()> {
     if names.is_empty() {
         return Ok(());
     }
-    shown.push('[')?;
+    shown.push_str("[")?;
     for name in names {
         shown.push_str(name.as_str())?;
-        shown.push(',')?;
+        shown.push_str(",")?;
     }
-    shown.push(']')?;
+    shown.push_str("]")?;
     Ok(())
 }
 
@@ -22,11 +22,11 @@ fn push_numbers(alloc: Global, shown: &mut String, numbers: &[u32]) -> Mem<()> {
     if numbers.is_empty() {
         return Ok(());
     }
-    shown.push('{')?;
+    shown.push_str("{")?;
     for n in numbers {
         shown.push_str(format!(in alloc; "{n},")?.as_str())?;
     }
-    shown.push('}')?;
+    shown.push_str("}")?;
     Ok(())
 }
 
@@ -35,9 +35,9 @@ fn push_node(alloc: Global, shown: &mut String, node: &Node) -> Mem<()> {
     shown.push_str(node.name.as_str())?;
     push_names(shown, node.attributes.as_slice())?;
     if !node.text.is_empty() {
-        shown.push('(')?;
+        shown.push_str("(")?;
         shown.push_str(node.text.as_str())?;
-        shown.push(')')?;
+        shown.push_str(")")?;
     }
     push_numbers(alloc, shown, node.children.as_slice())
 }
@@ -46,7 +46,7 @@ fn nodes(alloc: Global, nodes: &[Node]) -> Mem<String> {
     let mut shown = String::new(alloc);
     for node in nodes {
         if !shown.is_empty() {
-            shown.push(' ')?;
+            shown.push_str(" ")?;
         }
         push_node(alloc, &mut shown, node)?;
     }

@@ -52,20 +52,23 @@ fn compared(alloc: Global, a: &Text, b: &Text) -> Mem<String> {
 }
 
 // Five bytes among which versions split in each way.
-const LETTERS: [char; 5] = ['0', '1', 'a', '.', '-'];
-
-fn push_letter(text: &mut String, number: u32) -> Mem<()> {
-    text.push(LETTERS[(number % 5) as usize])?;
-    Ok(())
+fn letter(number: u32) -> &'static str {
+    match number % 5 {
+        0 => "0",
+        1 => "1",
+        2 => "a",
+        3 => ".",
+        _ => "-",
+    }
 }
 
 // The text of a number below 625: four of these bytes.
 fn short_text(alloc: Global, number: u32) -> Mem<Text> {
     let mut text = String::new(alloc);
-    push_letter(&mut text, number / 125)?;
-    push_letter(&mut text, number / 25)?;
-    push_letter(&mut text, number / 5)?;
-    push_letter(&mut text, number)?;
+    text.push_str(letter(number / 125))?;
+    text.push_str(letter(number / 25))?;
+    text.push_str(letter(number / 5))?;
+    text.push_str(letter(number))?;
     Ok(Text::of(text))
 }
 

@@ -2,188 +2,200 @@
 mod ordering;
 mod project;
 
-use crate::given::given_on;
+use crate::given::{describe, no_given};
+use crate::texts::{push_fault, push_number, push_refusal, push_unknown, push_word};
 use build_order::BuildOrder;
 use model_types::Model;
 use module_discovery::{ModulePom, discover};
 use module_selection::SelectionFault;
 use mvn_base::ModelError;
 use mvn_shared::{List, Mem, Shared};
-use ordering::{chosen, models, ordered};
+use ordering::{chosen, ordered, push_models};
 use pom_lineage::Store;
-use pom_source::BuildFault;
+use pom_source::{BuildFault, Given};
 use project::{Project, empty, put_all_named, put_deep, put_fields, put_wide};
-use row_models::{field, split_row};
+use row_models::{field, split_row, words};
 use std::alloc::Global;
-
-// The paths of POMs, with a space between two.
-fn paths(alloc: Global, poms: &List<ModulePom>) -> Mem<String> {
-    let mut text = String::new(alloc);
-    for pom in poms.as_slice() {
-        if !text.is_empty() {
-            text.push_str(" ")?;
-        }
-        text.push_str(pom.path.as_str())?;
-    }
-    Ok(text)
-}
-
-// Why there are none.
-fn fault_text(alloc: Global, fault: &BuildFault) -> Mem<String> {
-    match fault {
-        BuildFault::Refused(refusal) => Ok(format!(in alloc; "{refusal}")?),
-        BuildFault::Absent => Ok(String::from_str(alloc, "no such POM")?),
-        BuildFault::Source => Ok(String::from_str(alloc, "the source failed")?),
-        BuildFault::Memory => Ok(String::from_str(alloc, "out of memory")?),
-    }
-}
 
 // What is found.
 type Found = Result<List<ModulePom>, BuildFault>;
 
-fn found(alloc: Global, project: &mut Project, ids: &str) -> Found {
-    let given = given_on(alloc, ids)?;
+fn found(alloc: Global, project: &mut Project, given: &Given) -> Found {
     let mut store = Store::new(alloc);
-    discover(alloc, &mut store, project, &given)
+    discover(alloc, &mut store, project, given)
 }
 
-fn found_text(alloc: Global, found: &Found) -> Mem<String> {
-    match found {
-        Ok(poms) => paths(alloc, poms),
-        Err(fault) => fault_text(alloc, fault),
+// The paths of POMs, with a space between two.
+fn push_paths(text: &mut String, poms: &[ModulePom]) -> Mem<()> {
+    for pom in poms {
+        push_word(text, pom.path.as_str())?;
     }
+    Ok(())
 }
 
-fn told_of(alloc: Global, project: &mut Project, ids: &str) -> Mem<String> {
-    let found = found(alloc, project, ids);
-    found_text(alloc, &found)
-}
-
-fn count_text(alloc: Global, found: &Found) -> Mem<String> {
+// The paths of the POMs that are found, or why there are none.
+fn push_found(alloc: Global, text: &mut String, found: &Found) -> Mem<()> {
     match found {
-        Ok(poms) => {
-            let count = poms.len();
-            Ok(format!(in alloc; "{count}")?)
-        }
-        Err(fault) => fault_text(alloc, fault),
+        Ok(poms) => push_paths(text, poms.as_slice()),
+        Err(fault) => push_fault(alloc, text, fault),
     }
 }
 
 // How many POMs are found.
-fn counted(alloc: Global, project: &mut Project) -> Mem<String> {
-    let found = found(alloc, project, "");
-    count_text(alloc, &found)
-}
-
-// What is told of a project that is spelled, with profiles switched on.
-fn spelled(alloc: Global, fields: &[&str]) -> Mem<String> {
-    let mut project = empty(alloc, &List::new(alloc))?;
-    if let Some((ids, files)) = fields.split_first() {
-        put_fields(alloc, &mut project, files)?;
-        return told_of(alloc, &mut project, *ids);
+fn push_count(alloc: Global, text: &mut String, found: &Found) -> Mem<()> {
+    match found {
+        Ok(poms) => push_number(alloc, text, "", poms.len() as u64),
+        Err(fault) => push_fault(alloc, text, fault),
     }
-    told_of(alloc, &mut project, "")
-}
-
-// What is told where a call fails.
-fn failing(alloc: Global, fields: &[&str]) -> Mem<String> {
-    let mut numbers = List::new(alloc);
-    numbers.push(field(fields, 0).parse::<u64>().unwrap_or(0))?;
-    let mut project = empty(alloc, &numbers)?;
-    if let Some((_, files)) = fields.split_first() {
-        put_fields(alloc, &mut project, files)?;
-    }
-    told_of(alloc, &mut project, "")
-}
-
-// How many POMs there are where each lists the next.
-fn deep(alloc: Global, row: &str) -> Mem<String> {
-    let mut project = empty(alloc, &List::new(alloc))?;
-    put_deep(alloc, &mut project, row.parse::<u32>().unwrap_or(0))?;
-    counted(alloc, &mut project)
-}
-
-// How many there are where the root lists all.
-fn wide(alloc: Global, row: &str) -> Mem<String> {
-    let mut project = empty(alloc, &List::new(alloc))?;
-    put_wide(alloc, &mut project, row.parse::<u32>().unwrap_or(0))?;
-    counted(alloc, &mut project)
 }
 
 // The artifacts of some modules, with a space between two.
-fn artifacts(alloc: Global, models: &[Shared<Model>], numbers: &[u32]) -> Mem<String> {
-    let mut text = String::new(alloc);
+fn push_artifacts(text: &mut String, models: &[Shared<Model>], numbers: &[u32]) -> Mem<()> {
     for n in numbers {
         if let Some(m) = models.get(*n as usize) {
-            if !text.is_empty() {
-                text.push_str(" ")?;
-            }
-            text.push_str(m.gav.artifact.as_str())?;
+            push_word(text, m.gav.artifact.as_str())?;
         }
     }
-    Ok(text)
+    Ok(())
 }
 
 // The modules that words select, or the word that means none.
-fn chosen_text(
+fn push_chosen(
     alloc: Global,
+    text: &mut String,
     models: &[Shared<Model>],
     found: &BuildOrder,
     words: &str,
-) -> Mem<String> {
-    match chosen(alloc, models, found, words) {
-        Ok(list) => artifacts(alloc, models, list.as_slice()),
-        Err(SelectionFault::Unknown(place)) => Ok(format!(in alloc; "word {place} UnknownModule")?),
-        Err(SelectionFault::Memory) => Ok(String::from_str(alloc, "out of memory")?),
+) -> Mem<()> {
+    match &chosen(alloc, models, found, words) {
+        Ok(list) => push_artifacts(text, models, list.as_slice()),
+        Err(SelectionFault::Unknown(place)) => push_unknown(alloc, text, *place),
+        Err(SelectionFault::Memory) => push_fault(alloc, text, &BuildFault::Memory),
     }
 }
 
 // The modules that words select in their order, or why there is none.
-fn ordered_text(alloc: Global, models: &[Shared<Model>], words: &str) -> Mem<String> {
-    match ordered(alloc, models) {
-        Ok(found) => chosen_text(alloc, models, &found, words),
-        Err(ModelError::Refused(refusal)) => Ok(format!(in alloc; "{refusal}")?),
-        Err(ModelError::Memory) => Ok(String::from_str(alloc, "out of memory")?),
-    }
-}
-
-// The same of a project's models.
-fn models_text(
+fn push_ordered(
     alloc: Global,
-    models: &Result<Vec<Shared<Model>>, BuildFault>,
+    text: &mut String,
+    models: &[Shared<Model>],
     words: &str,
-) -> Mem<String> {
-    match models {
-        Ok(models) => ordered_text(alloc, models.as_slice(), words),
-        Err(fault) => fault_text(alloc, fault),
+) -> Mem<()> {
+    match &ordered(alloc, models) {
+        Ok(found) => push_chosen(alloc, text, models, found, words),
+        Err(ModelError::Refused(refusal)) => push_refusal(alloc, text, refusal),
+        Err(ModelError::Memory) => push_fault(alloc, text, &BuildFault::Memory),
     }
 }
 
-// The same of a project.
-fn selected_text(alloc: Global, project: &mut Project, words: &str) -> Mem<String> {
-    let given = given_on(alloc, "")?;
-    let models = models(alloc, project, &given);
-    models_text(alloc, &models, words)
+// The same of the POMs that are found.
+fn push_selected(
+    alloc: Global,
+    text: &mut String,
+    project: &mut Project,
+    given: &Given,
+    found: &Found,
+    words: &str,
+) -> Mem<()> {
+    let poms = match found {
+        Ok(poms) => poms,
+        Err(fault) => return push_fault(alloc, text, fault),
+    };
+    let mut models = Vec::new(alloc);
+    match &push_models(alloc, project, given, poms.as_slice(), &mut models) {
+        Ok(()) => push_ordered(alloc, text, models.as_slice(), words),
+        Err(fault) => push_fault(alloc, text, fault),
+    }
 }
 
-// The modules that words select, in the order in which they are built.
-fn selected(alloc: Global, fields: &[&str]) -> Mem<String> {
-    let mut project = empty(alloc, &List::new(alloc))?;
-    if let Some((words, files)) = fields.split_first() {
-        put_all_named(alloc, &mut project, files)?;
-        return selected_text(alloc, &mut project, *words);
+// Puts in the files of a row.
+fn put_row(
+    alloc: Global,
+    project: &mut Project,
+    kind: &str,
+    row: &str,
+    fields: &[&str],
+) -> Mem<()> {
+    let count = row.parse::<u32>().unwrap_or(0);
+    match kind {
+        "select" => put_all_named(alloc, project, fields),
+        "discover-deep" => put_deep(alloc, project, count),
+        "discover-wide" => put_wide(alloc, project, count),
+        _ => put_fields(alloc, project, fields),
     }
-    selected_text(alloc, &mut project, "validate")
+}
+
+// What is told of a project, with what is given to it.
+fn told_with(
+    alloc: Global,
+    text: &mut String,
+    project: &mut Project,
+    given: &Given,
+    kind: &str,
+    first: &str,
+) -> Mem<()> {
+    let found = found(alloc, project, given);
+    match kind {
+        "select" => push_selected(alloc, text, project, given, &found, first),
+        "discover" | "discover-failing" => push_found(alloc, text, &found),
+        _ => push_count(alloc, text, &found),
+    }
+}
+
+// The same on a machine with Linux, with the profiles of the first field where these are asked for.
+fn told_on(
+    alloc: Global,
+    text: &mut String,
+    project: &mut Project,
+    given: &mut Given,
+    kind: &str,
+    first: &str,
+) -> Mem<()> {
+    describe(&mut given.machine)?;
+    if kind == "discover" {
+        given.choice.on = words(alloc, first)?;
+    }
+    told_with(alloc, text, project, given, kind, first)
+}
+
+// What is told of a project without files yet.
+fn told_of(
+    alloc: Global,
+    text: &mut String,
+    project: &mut Project,
+    kind: &str,
+    row: &str,
+    fields: &[&str],
+) -> Mem<()> {
+    put_row(alloc, project, kind, row, fields)?;
+    let mut given = no_given(alloc);
+    told_on(alloc, text, project, &mut given, kind, field(fields, 0))
+}
+
+// The number of the call that fails, where one does.
+fn failing(alloc: Global, kind: &str, first: &str) -> Mem<List<u64>> {
+    let mut numbers = List::new(alloc);
+    if kind == "discover-failing" {
+        numbers.push(first.parse::<u64>().unwrap_or(0))?;
+    }
+    Ok(numbers)
+}
+
+// What is told of the fields of a row.
+fn told_fields(
+    alloc: Global,
+    text: &mut String,
+    kind: &str,
+    row: &str,
+    fields: &[&str],
+) -> Mem<()> {
+    let numbers = failing(alloc, kind, field(fields, 0))?;
+    let mut project = empty(alloc, &numbers)?;
+    told_of(alloc, text, &mut project, kind, row, fields)
 }
 
 /// What is told of a row about the POMs of a project.
-pub(crate) fn told(alloc: Global, kind: &str, row: &str) -> Mem<String> {
+pub(crate) fn told(alloc: Global, text: &mut String, kind: &str, row: &str) -> Mem<()> {
     let fields = split_row(alloc, row)?;
-    match kind {
-        "discover" => spelled(alloc, fields.as_slice()),
-        "discover-failing" => failing(alloc, fields.as_slice()),
-        "select" => selected(alloc, fields.as_slice()),
-        "discover-deep" => deep(alloc, row),
-        _ => wide(alloc, row),
-    }
+    told_fields(alloc, text, kind, row, fields.as_slice())
 }

@@ -3,58 +3,59 @@ use cli_words::{CommandLine, WordError, options};
 use mvn_base::{Choice, Machine};
 use mvn_shared::{Bytes, List, Mem, Text};
 use pom_source::Given;
-use row_models::words;
 use std::alloc::Global;
+use std::mem::replace;
 
-fn linux(alloc: Global, root: Text, jdk: Text) -> Mem<Machine> {
-    let os_name = Text::from_str(alloc, "Linux")?;
-    let os_family = Text::from_str(alloc, "unix")?;
-    let os_arch = Text::from_str(alloc, "amd64")?;
-    let os_version = Text::from_str(alloc, "6.1")?;
-    Ok(Machine {
-        root,
-        env: List::new(alloc),
-        system: List::new(alloc),
-        jdk,
-        os_name,
-        os_family,
-        os_arch,
-        os_version,
-    })
+fn no_text(alloc: Global) -> Text {
+    Text::of(String::new(alloc))
 }
 
-fn machine(alloc: Global) -> Mem<Machine> {
-    let root = Text::from_str(alloc, "/w")?;
-    let jdk = Text::from_str(alloc, "17.0.1")?;
-    linux(alloc, root, jdk)
-}
-
-fn given_of(machine: Machine, line: CommandLine) -> Given {
-    Given {
-        machine,
-        defines: line.defines,
-        choice: line.choice,
+fn no_choice(alloc: Global) -> Choice {
+    Choice {
+        on: List::new(alloc),
+        off: List::new(alloc),
     }
 }
 
-/// A machine with Linux whose root is `/w`, and what a command line gives: its properties, and its profiles.
-pub(crate) fn given(alloc: Global, line: CommandLine) -> Mem<Given> {
-    let machine = machine(alloc)?;
-    Ok(given_of(machine, line))
+fn no_machine(alloc: Global) -> Machine {
+    Machine {
+        root: no_text(alloc),
+        env: List::new(alloc),
+        system: List::new(alloc),
+        jdk: no_text(alloc),
+        os_name: no_text(alloc),
+        os_family: no_text(alloc),
+        os_arch: no_text(alloc),
+        os_version: no_text(alloc),
+    }
 }
 
-/// The same machine, and profiles with these ids that are switched on.
-pub(crate) fn given_on(alloc: Global, ids: &str) -> Mem<Given> {
-    let on = words(alloc, ids)?;
-    let machine = machine(alloc)?;
-    Ok(Given {
-        machine,
+/// Nothing is given: all texts are empty.
+pub(crate) fn no_given(alloc: Global) -> Given {
+    Given {
+        machine: no_machine(alloc),
         defines: List::new(alloc),
-        choice: Choice {
-            on,
-            off: List::new(alloc),
-        },
-    })
+        choice: no_choice(alloc),
+    }
+}
+
+/// The properties and the profiles of a command line, which are taken out of it: a plan asks it for neither.
+pub(crate) fn given_by(alloc: Global, line: &mut CommandLine) -> Given {
+    Given {
+        machine: no_machine(alloc),
+        defines: replace(&mut line.defines, List::new(alloc)),
+        choice: replace(&mut line.choice, no_choice(alloc)),
+    }
+}
+
+/// Makes an empty machine one with Linux whose root is `/w`.
+pub(crate) fn describe(machine: &mut Machine) -> Mem<()> {
+    machine.root.push_str("/w")?;
+    machine.jdk.push_str("17.0.1")?;
+    machine.os_name.push_str("Linux")?;
+    machine.os_family.push_str("unix")?;
+    machine.os_arch.push_str("amd64")?;
+    machine.os_version.push_str("6.1")
 }
 
 // The words of a field.

@@ -34,24 +34,26 @@
 mod discovery;
 mod given;
 mod plans;
+mod texts;
 
 use mvn_shared::Mem;
 use std::alloc::Global;
 
-// What is told of a row.
-fn told(alloc: Global, kind: &str, row: &str) -> Mem<String> {
+// What is told of a row, written into an empty text.
+fn told(alloc: Global, text: &mut String, kind: &str, row: &str) -> Mem<()> {
     match kind {
         "discover" | "discover-failing" | "discover-wide" | "discover-deep" | "select" => {
-            discovery::told(alloc, kind, row)
+            discovery::told(alloc, text, kind, row)
         }
-        _ => plans::told(alloc, kind, row),
+        _ => plans::told(alloc, text, kind, row),
     }
 }
 
 fn print_told(rt: &HostRuntime, line: &str) -> anyhow::Result<()> {
     let (kind, row) = line.split_once(' ').unwrap_or((line, ""));
-    let told = told(rt.alloc(), kind, row)?;
-    println!(rt; "{told}")?;
+    let mut text = String::new(rt.alloc());
+    told(rt.alloc(), &mut text, kind, row)?;
+    println!(rt; "{text}")?;
     Ok(())
 }
 

@@ -1,12 +1,10 @@
 // The files of projects.
+use crate::texts::{Coordinates, push_listed, push_pom};
 use mvn_shared::{Bytes, List, Mem, Text};
 use outside_mem::Calls;
 use row_fields::unescaped;
 use source_mem::MemPoms;
 use std::alloc::Global;
-
-const FRONT: &[u8] =
-    b"<project><modelVersion>4.0.0</modelVersion><groupId>g</groupId><artifactId>a</artifactId><version>1</version>";
 
 /// A project in memory.
 pub(crate) type Project = MemPoms<Calls>;
@@ -17,82 +15,107 @@ pub(crate) fn empty(alloc: Global, failing: &List<u64>) -> Mem<Project> {
     Ok(MemPoms::new(alloc, calls))
 }
 
-/// One more POM, with this in it behind its coordinates.
-pub(crate) fn put(alloc: Global, project: &mut Project, path: &str, inside: &[u8]) -> Mem<()> {
-    let mut bytes = Bytes::of(Vec::new(alloc));
-    bytes.extend_from_slice(FRONT)?;
-    bytes.extend_from_slice(inside)?;
-    bytes.extend_from_slice(b"</project>")?;
-    project.put_file(Text::from_str(alloc, path)?, bytes)
+// One more file, of these bytes.
+fn put_bytes(alloc: Global, project: &mut Project, path: &str, bytes: &[u8]) -> Mem<()> {
+    let path = Text::from_str(alloc, path)?;
+    let bytes = Bytes::from_slice(alloc, bytes)?;
+    project.put_file(path, bytes)
+}
+
+const PLAIN: Coordinates<'static> = ("g", "a", "1");
+
+// One more POM, with this in it behind its coordinates.
+fn put(
+    alloc: Global,
+    project: &mut Project,
+    path: &str,
+    named: Coordinates,
+    inside: &[u8],
+) -> Mem<()> {
+    let mut pom = Bytes::of(Vec::new(alloc));
+    push_pom(&mut pom, named, inside)?;
+    put_bytes(alloc, project, path, pom.as_slice())
 }
 
 // One more file: its path, and what is in the POM.
 fn put_field(alloc: Global, project: &mut Project, field: &str) -> Mem<()> {
     let (path, inside) = field.split_once(' ').unwrap_or((field, ""));
     let inside = unescaped(alloc, inside)?;
-    put(alloc, project, path, inside.as_slice())
+    put(alloc, project, path, PLAIN, inside.as_slice())
 }
 
-// One more file: its path, its artifact, and what is in the POM behind its coordinates demo:ARTIFACT:1.0.
+// One more file: its path, its artifact, and what is in the POM.
 fn put_named(alloc: Global, project: &mut Project, field: &str) -> Mem<()> {
     let (path, rest) = field.split_once(' ').unwrap_or((field, ""));
     let (artifact, inside) = rest.split_once(' ').unwrap_or((rest, ""));
     let inside = unescaped(alloc, inside)?;
-    let front = format!(in alloc;
-        "<project><modelVersion>4.0.0</modelVersion><groupId>demo</groupId><artifactId>{artifact}</artifactId><version>1.0</version>"
-    )?;
-    let mut bytes = Bytes::of(Vec::new(alloc));
-    bytes.extend_from_slice(front.as_bytes())?;
-    bytes.extend_from_slice(inside.as_slice())?;
-    bytes.extend_from_slice(b"</project>")?;
-    project.put_file(Text::from_str(alloc, path)?, bytes)
+    put(
+        alloc,
+        project,
+        path,
+        ("demo", artifact, "1.0"),
+        inside.as_slice(),
+    )
 }
 
-/// A project of files with artifacts.
+/// Puts in the files with artifacts of the fields behind the first.
 pub(crate) fn put_all_named(alloc: Global, project: &mut Project, fields: &[&str]) -> Mem<()> {
-    for field in fields {
-        put_named(alloc, project, *field)?;
+    for at in 1..fields.len() {
+        put_named(alloc, project, fields[at])?;
     }
     Ok(())
 }
 
-/// A project of files.
+/// Puts in the files of the fields behind the first.
 pub(crate) fn put_fields(alloc: Global, project: &mut Project, fields: &[&str]) -> Mem<()> {
-    for field in fields {
-        put_field(alloc, project, *field)?;
+    for at in 1..fields.len() {
+        put_field(alloc, project, fields[at])?;
     }
     Ok(())
 }
 
-// A POM of the packaging `pom` with one module.
-fn listing(alloc: Global, module: &str) -> Mem<String> {
-    Ok(format!(in alloc; "<packaging>pom</packaging><modules><module>{module}</module></modules>")?)
+const NEXT: &[u8] = b"<packaging>pom</packaging><modules><module>m</module></modules>";
+
+// One more POM in a folder.
+fn put_in(alloc: Global, project: &mut Project, folder: &str, inside: &[u8]) -> Mem<()> {
+    let path = format!(in alloc; "{folder}pom.xml")?;
+    put(alloc, project, path.as_str(), PLAIN, inside)
 }
 
-/// POMs of which each lists the next.
-pub(crate) fn put_deep(alloc: Global, project: &mut Project, count: u32) -> Mem<()> {
-    let mut path = String::from_str(alloc, "pom.xml")?;
+// POMs of which each lists the next, from this folder on.
+fn put_below(alloc: Global, project: &mut Project, folder: &mut String, count: u32) -> Mem<()> {
     for _ in 1..count {
-        put(
-            alloc,
-            project,
-            path.as_str(),
-            listing(alloc, "m")?.as_bytes(),
-        )?;
-        path = format!(in alloc; "m/{path}")?;
+        put_in(alloc, project, folder.as_str(), NEXT)?;
+        folder.push_str("m/")?;
     }
-    put(alloc, project, path.as_str(), b"")
+    put_in(alloc, project, folder.as_str(), b"")
 }
 
-/// A POM that lists as many modules.
-pub(crate) fn put_wide(alloc: Global, project: &mut Project, count: u32) -> Mem<()> {
-    let mut root = String::from_str(alloc, "<packaging>pom</packaging><modules>")?;
+/// Puts in POMs of which each lists the next.
+pub(crate) fn put_deep(alloc: Global, project: &mut Project, count: u32) -> Mem<()> {
+    let mut folder = String::new(alloc);
+    put_below(alloc, project, &mut folder, count)
+}
+
+// One more POM, which the root lists.
+fn put_listed(alloc: Global, project: &mut Project, root: &mut String, number: u32) -> Mem<()> {
+    push_listed(alloc, root, number)?;
+    let path = format!(in alloc; "m{number}/pom.xml")?;
+    put(alloc, project, path.as_str(), PLAIN, b"")
+}
+
+// A POM that lists as many modules, whose text is written into an empty one.
+fn put_root(alloc: Global, project: &mut Project, root: &mut String, count: u32) -> Mem<()> {
+    root.push_str("<packaging>pom</packaging><modules>")?;
     for number in 0..count {
-        let module = format!(in alloc; "<module>m{number}</module>")?;
-        root.push_str(module.as_str())?;
-        let path = format!(in alloc; "m{number}/pom.xml")?;
-        put(alloc, project, path.as_str(), b"")?;
+        put_listed(alloc, project, root, number)?;
     }
     root.push_str("</modules>")?;
-    put(alloc, project, "pom.xml", root.as_bytes())
+    put(alloc, project, "pom.xml", PLAIN, root.as_bytes())
+}
+
+/// Puts in a POM that lists as many modules.
+pub(crate) fn put_wide(alloc: Global, project: &mut Project, count: u32) -> Mem<()> {
+    let mut root = String::new(alloc);
+    put_root(alloc, project, &mut root, count)
 }

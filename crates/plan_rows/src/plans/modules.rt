@@ -1,4 +1,5 @@
 // What is told of a module of a plan.
+use crate::texts::push_number;
 use build_core::{Entry, Origin, OwnFile, PlanModule};
 use goal_types::{Slot, SourceFile};
 use mvn_shared::Mem;
@@ -11,16 +12,13 @@ pub(crate) fn push_numbers(
     word: &str,
     numbers: &[u32],
 ) -> Mem<()> {
-    let front = format!(in alloc; " {word} ")?;
-    text.push_str(front.as_str())?;
     if numbers.is_empty() {
+        text.push_str(word)?;
         text.push_str("-")?;
     }
     for at in 0..numbers.len() {
-        let number = numbers[at];
-        let comma = if at == 0 { "" } else { "," };
-        let shown = format!(in alloc; "{comma}{number}")?;
-        text.push_str(shown.as_str())?;
+        let front = if at == 0 { word } else { "," };
+        push_number(alloc, text, front, u64::from(numbers[at]))?;
     }
     Ok(())
 }
@@ -38,27 +36,34 @@ fn slot_word(slot: Slot) -> &'static str {
     }
 }
 
+// A place, and a number behind it.
+fn push_slot(alloc: Global, text: &mut String, slot: Slot, number: u32) -> Mem<()> {
+    text.push_str(" ")?;
+    text.push_str(slot_word(slot))?;
+    push_number(alloc, text, " ", u64::from(number))
+}
+
 // The files that a module is installed as.
 fn push_own(alloc: Global, text: &mut String, own: &[OwnFile]) -> Mem<()> {
     text.push_str(" own")?;
     for file in own {
-        let number = file.file;
-        let slot = slot_word(file.slot);
-        let shown = format!(in alloc; " {slot} {number}")?;
-        text.push_str(shown.as_str())?;
+        push_slot(alloc, text, file.slot, file.file)?;
     }
     Ok(())
 }
 
-fn origin_text(alloc: Global, origin: &Origin) -> Mem<String> {
+// Where an entry comes from.
+fn push_origin(alloc: Global, text: &mut String, origin: &Origin) -> Mem<()> {
     match origin {
-        Origin::File(number) => Ok(format!(in alloc; "file {number}")?),
+        Origin::File(number) => push_number(alloc, text, " from file ", u64::from(*number))?,
         Origin::Module(place, slot) => {
-            let slot = slot_word(*slot);
-            Ok(format!(in alloc; "module {place} {slot}")?)
+            push_number(alloc, text, " from module ", u64::from(*place))?;
+            text.push_str(" ")?;
+            text.push_str(slot_word(*slot))?;
         }
-        Origin::Nothing => Ok(String::from_str(alloc, "nothing")?),
+        Origin::Nothing => text.push_str(" from nothing")?,
     }
+    Ok(())
 }
 
 // On which classpaths an entry is.
@@ -79,10 +84,7 @@ fn push_entry(alloc: Global, text: &mut String, entry: &Entry) -> Mem<()> {
     text.push_str("\n  entry ")?;
     text.push_str(entry.name.as_text().as_str())?;
     push_paths(text, entry)?;
-    text.push_str(" from ")?;
-    let origin = origin_text(alloc, &entry.origin)?;
-    text.push_str(origin.as_str())?;
-    Ok(())
+    push_origin(alloc, text, &entry.origin)
 }
 
 fn push_entries(alloc: Global, text: &mut String, entries: &[Entry]) -> Mem<()> {
@@ -102,10 +104,8 @@ fn push_sources(text: &mut String, sources: &[SourceFile]) -> Mem<()> {
 
 // Its goals and what it may keep.
 fn push_rest(alloc: Global, text: &mut String, module: &PlanModule) -> Mem<()> {
-    let goals = module.goals.len();
-    let name = module.own_name;
-    let shown = format!(in alloc; " name {name} goals {goals}")?;
-    text.push_str(shown.as_str())?;
+    push_number(alloc, text, " name ", u64::from(module.own_name))?;
+    push_number(alloc, text, " goals ", module.goals.len() as u64)?;
     if module.installs {
         text.push_str(" installs")?;
     }
@@ -119,9 +119,9 @@ fn push_rest(alloc: Global, text: &mut String, module: &PlanModule) -> Mem<()> {
 pub(crate) fn push_module(alloc: Global, text: &mut String, module: &PlanModule) -> Mem<()> {
     text.push_str("\n")?;
     text.push_str(module.gav.artifact.as_str())?;
-    push_numbers(alloc, text, "on", module.upstream.as_slice())?;
-    push_numbers(alloc, text, "batch", module.batch.as_slice())?;
-    push_numbers(alloc, text, "fetch", module.fetch.as_slice())?;
+    push_numbers(alloc, text, " on ", module.upstream.as_slice())?;
+    push_numbers(alloc, text, " batch ", module.batch.as_slice())?;
+    push_numbers(alloc, text, " fetch ", module.fetch.as_slice())?;
     push_own(alloc, text, module.own.as_slice())?;
     push_rest(alloc, text, module)?;
     push_entries(alloc, text, module.entries.as_slice())?;

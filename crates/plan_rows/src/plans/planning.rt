@@ -1,15 +1,16 @@
 // The plan of a project in memory.
-use crate::given::{given, line};
+use crate::given::{describe, given_by, line};
 use crate::plans::project::Files;
-use crate::plans::shown::{Shown, plan_text};
+use crate::plans::shown::{Shown, push_plan};
+use crate::texts::{push_fault, push_unknown};
 use build_plan::{PlanFault, Planning, plan_build};
 use cli_words::CommandLine;
-use goal_types::SourceFile;
 use model_resolver::PomDevice;
 use mvn_shared::{List, Mem, OutOfMemory};
-use outside_mem::{Calls, MemFile, MemRemote, MemShelf, MemTree};
+use outside_mem::{Calls, MemRemote, MemShelf, MemTree};
 use pom_source::{BuildFault, Given};
 use std::alloc::Global;
+use std::mem::replace;
 
 /// A device, and the number of its call that fails.
 pub(crate) type Failing<'a> = (&'a str, u64);
@@ -26,18 +27,22 @@ fn calls(alloc: Global, failing: Failing, device: &str) -> Mem<List<u64>> {
     Ok(calls)
 }
 
-fn tree_of(alloc: Global, files: List<SourceFile>, failing: Failing) -> Mem<MemTree<Calls>> {
+// The tree of files, which are taken out.
+fn tree_of(alloc: Global, files: &mut Files, failing: Failing) -> Mem<MemTree<Calls>> {
     let calls = calls(alloc, failing, "tree")?;
+    let files = replace(&mut files.tree, List::new(alloc));
     MemTree::new(alloc, files, &calls)
 }
 
-fn shelf_of(alloc: Global, files: List<MemFile>, failing: Failing) -> Mem<MemShelf<Calls>> {
+fn shelf_of(alloc: Global, files: &mut Files, failing: Failing) -> Mem<MemShelf<Calls>> {
     let calls = calls(alloc, failing, "shelf")?;
+    let files = replace(&mut files.local, List::new(alloc));
     MemShelf::new(alloc, files, &calls)
 }
 
-fn remote_of(alloc: Global, files: List<MemFile>, failing: Failing) -> Mem<MemRemote<Calls>> {
+fn remote_of(alloc: Global, files: &mut Files, failing: Failing) -> Mem<MemRemote<Calls>> {
     let calls = calls(alloc, failing, "remote")?;
+    let files = replace(&mut files.remote, List::new(alloc));
     MemRemote::new(alloc, files, &calls)
 }
 
@@ -56,22 +61,17 @@ fn planned(
     Ok(plan_build(alloc, tree, shelf, remote, given, line))
 }
 
-// The same over files.
+// The same over files, which are taken out.
 fn planning(
     alloc: Global,
-    files: Files,
+    files: &mut Files,
     given: &Given,
     line: &CommandLine,
     failing: Failing,
 ) -> Mem<Planning> {
-    let Files {
-        tree,
-        local,
-        remote,
-    } = files;
-    let mut tree = tree_of(alloc, tree, failing)?;
-    let mut shelf = shelf_of(alloc, local, failing)?;
-    let mut remote = remote_of(alloc, remote, failing)?;
+    let mut tree = tree_of(alloc, files, failing)?;
+    let mut shelf = shelf_of(alloc, files, failing)?;
+    let mut remote = remote_of(alloc, files, failing)?;
     planned(alloc, &mut tree, &mut shelf, &mut remote, given, line)
 }
 
@@ -84,53 +84,75 @@ fn device(failed: Option<PomDevice>) -> &'static str {
     }
 }
 
+// The device that failed.
+fn push_failed(text: &mut String, failed: Option<PomDevice>) -> Mem<()> {
+    text.push_str("fault ")?;
+    text.push_str(device(failed))?;
+    Ok(())
+}
+
 // Why there is no plan.
-fn fault_text(alloc: Global, fault: &PlanFault, failed: Option<PomDevice>) -> Mem<String> {
-    let device = device(failed);
+fn push_plan_fault(
+    alloc: Global,
+    text: &mut String,
+    fault: &PlanFault,
+    failed: Option<PomDevice>,
+) -> Mem<()> {
     match fault {
-        PlanFault::Build(BuildFault::Refused(refusal)) => Ok(format!(in alloc; "{refusal}")?),
-        PlanFault::Build(BuildFault::Absent) => Ok(String::from_str(alloc, "no such POM")?),
-        PlanFault::Build(BuildFault::Source) => Ok(format!(in alloc; "fault {device}")?),
-        PlanFault::Build(BuildFault::Memory) => Ok(String::from_str(alloc, "out of memory")?),
-        PlanFault::Unknown(place) => Ok(format!(in alloc; "word {place} UnknownModule")?),
+        PlanFault::Build(BuildFault::Source) => push_failed(text, failed),
+        PlanFault::Build(fault) => push_fault(alloc, text, fault),
+        PlanFault::Unknown(place) => push_unknown(alloc, text, *place),
     }
 }
 
 // What is told of what planning gives.
-fn planning_text(alloc: Global, planning: &Planning, shown: Shown) -> Mem<String> {
+fn push_planning(alloc: Global, text: &mut String, planning: &Planning, shown: Shown) -> Mem<()> {
     match &planning.answer {
-        Ok(planned) => plan_text(alloc, &planned.plan, shown),
-        Err(fault) => fault_text(alloc, fault, planning.failed),
+        Ok(planned) => push_plan(alloc, text, &planned.plan, shown),
+        Err(fault) => push_plan_fault(alloc, text, fault, planning.failed),
     }
 }
 
-// What is told for a command line.
-fn line_text(
+// What is told for a command line on a machine that isn't described yet.
+fn push_given(
     alloc: Global,
-    files: Files,
-    given: &Given,
+    text: &mut String,
+    files: &mut Files,
+    given: &mut Given,
     line: &CommandLine,
     failing: Failing,
     shown: Shown,
-) -> Mem<String> {
+) -> Mem<()> {
+    describe(&mut given.machine)?;
     let planning = planning(alloc, files, given, line, failing)?;
-    planning_text(alloc, &planning, shown)
+    push_planning(alloc, text, &planning, shown)
 }
 
-/// What is told of the plan for the words of a command line, or why there is none.
-pub(crate) fn plan_told(
+// What is told for a command line.
+fn push_line(
     alloc: Global,
-    files: Files,
+    text: &mut String,
+    files: &mut Files,
+    line: &mut CommandLine,
+    failing: Failing,
+    shown: Shown,
+) -> Mem<()> {
+    let mut given = given_by(alloc, line);
+    push_given(alloc, text, files, &mut given, line, failing, shown)
+}
+
+/// What is told of the plan of files for the words of a command line, or why there is none. The files are taken out.
+pub(crate) fn push_planned(
+    alloc: Global,
+    text: &mut String,
+    files: &mut Files,
     words: &str,
     failing: Failing,
     shown: Shown,
-) -> Mem<String> {
-    let Ok(first) = line(alloc, words) else {
-        return Ok(String::from_str(alloc, "no command line")?);
-    };
-    let given = given(alloc, first)?;
-    let Ok(line) = line(alloc, words) else {
-        return Ok(String::from_str(alloc, "no command line")?);
-    };
-    line_text(alloc, files, &given, &line, failing, shown)
+) -> Mem<()> {
+    if let Ok(line) = &mut line(alloc, words) {
+        return push_line(alloc, text, files, line, failing, shown);
+    }
+    text.push_str("no command line")?;
+    Ok(())
 }

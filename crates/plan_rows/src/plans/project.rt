@@ -1,4 +1,5 @@
 // The files of a project and of both repositories.
+use crate::texts::{Coordinates, push_pom};
 use goal_types::SourceFile;
 use mvn_base::{FileName, Gav, file_of, valid_group, valid_name, valid_version};
 use mvn_shared::{Bytes, List, Mem, Text};
@@ -23,41 +24,22 @@ pub(crate) fn no_files(alloc: Global) -> Files {
     }
 }
 
-// The text of a POM, with this in it behind its coordinates.
-fn pom_of(alloc: Global, gav: &Gav, inside: &str) -> Mem<Bytes> {
-    let group = &gav.group;
-    let artifact = &gav.artifact;
-    let version = &gav.version;
-    let front = format!(in alloc;
-        "<project><modelVersion>4.0.0</modelVersion><groupId>{group}</groupId><artifactId>{artifact}</artifactId><version>{version}</version>"
-    )?;
-    let inside = unescaped(alloc, inside)?;
-    let mut bytes = Bytes::of(Vec::new(alloc));
-    bytes.extend_from_slice(front.as_bytes())?;
-    bytes.extend_from_slice(inside.as_slice())?;
-    bytes.extend_from_slice(b"</project>")?;
-    Ok(bytes)
-}
-
-fn gav(alloc: Global, group: &str, artifact: &str, version: &str) -> Mem<Gav> {
-    let group = Text::from_str(alloc, group)?;
-    let artifact = Text::from_str(alloc, artifact)?;
-    let version = Text::from_str(alloc, version)?;
-    Ok(Gav {
-        group,
-        artifact,
-        version,
-    })
+// A POM of these coordinates, with a field in it behind them.
+fn pom_of(alloc: Global, named: Coordinates, field: &str) -> Mem<Bytes> {
+    let inside = unescaped(alloc, field)?;
+    let mut pom = Bytes::of(Vec::new(alloc));
+    push_pom(&mut pom, named, inside.as_slice())?;
+    Ok(pom)
 }
 
 /// One more file of the project.
-pub(crate) fn put_file(alloc: Global, files: &mut Files, path: &str, bytes: Bytes) -> Mem<()> {
+pub(crate) fn put_file(alloc: Global, files: &mut Files, path: &str, bytes: &[u8]) -> Mem<()> {
     let path = Text::from_str(alloc, path)?;
-    files.tree.push(SourceFile { path, bytes })?;
-    Ok(())
+    let bytes = Bytes::from_slice(alloc, bytes)?;
+    files.tree.push(SourceFile { path, bytes })
 }
 
-/// One more POM of the project, with this in it behind the coordinates demo:ARTIFACT:1.0.
+/// One more POM of the project, with a field in it behind the coordinates demo:ARTIFACT:1.0.
 pub(crate) fn put_module(
     alloc: Global,
     files: &mut Files,
@@ -65,33 +47,56 @@ pub(crate) fn put_module(
     artifact: &str,
     inside: &str,
 ) -> Mem<()> {
-    let gav = gav(alloc, "demo", artifact, "1.0")?;
-    let bytes = pom_of(alloc, &gav, inside)?;
-    put_file(alloc, files, path, bytes)
+    let pom = pom_of(alloc, ("demo", artifact, "1.0"), inside)?;
+    put_file(alloc, files, path, pom.as_slice())
 }
 
-// The name of a POM, if it has one.
-fn pom_name(alloc: Global, gav: &Gav) -> Mem<Option<FileName>> {
-    let none = Text::from_str(alloc, "")?;
-    let pom = Text::from_str(alloc, "pom")?;
+// The name of a file of a repository, of valid names alone.
+fn file_name(
+    alloc: Global,
+    gav: &Gav,
+    classifier: &Text,
+    extension: &Text,
+) -> Mem<Option<FileName>> {
     let named = valid_group(gav.group.as_bytes())
         && valid_name(gav.artifact.as_bytes())
         && valid_version(gav.version.as_bytes())
-        && none.is_empty()
-        && valid_name(pom.as_bytes());
+        && classifier.is_empty()
+        && valid_name(extension.as_bytes());
     if !named {
         return Ok(None);
     }
-    Ok(Some(file_of(alloc, gav, &none, &pom)?))
+    Ok(Some(file_of(alloc, gav, classifier, extension)?))
 }
 
-// One more POM of a repository.
-fn put_pom(alloc: Global, list: &mut List<MemFile>, gav: &Gav, inside: &str) -> Mem<()> {
-    if let Some(name) = pom_name(alloc, gav)? {
-        let bytes = pom_of(alloc, gav, inside)?;
-        list.push(MemFile { name, bytes })?;
-    }
-    Ok(())
+fn gav(alloc: Global, named: Coordinates) -> Mem<Gav> {
+    let group = Text::from_str(alloc, named.0)?;
+    let artifact = Text::from_str(alloc, named.1)?;
+    let version = Text::from_str(alloc, named.2)?;
+    Ok(Gav {
+        group,
+        artifact,
+        version,
+    })
+}
+
+// The name of a POM of these coordinates, if it has one.
+fn pom_name(alloc: Global, named: Coordinates) -> Mem<Option<FileName>> {
+    let gav = gav(alloc, named)?;
+    let pom = Text::from_str(alloc, "pom")?;
+    file_name(alloc, &gav, &Text::of(String::new(alloc)), &pom)
+}
+
+// One more POM of a repository, under this name.
+fn put_pom(
+    alloc: Global,
+    list: &mut List<MemFile>,
+    name: FileName,
+    named: Coordinates,
+    inside: &str,
+) -> Mem<()> {
+    let bytes = pom_of(alloc, named, inside)?;
+    list.push(MemFile { name, bytes })
 }
 
 // One more POM of a repository: its coordinates, and what is in it.
@@ -99,8 +104,11 @@ fn put_library(alloc: Global, list: &mut List<MemFile>, field: &str) -> Mem<()> 
     let (group, rest) = field.split_once(' ').unwrap_or((field, ""));
     let (artifact, rest) = rest.split_once(' ').unwrap_or((rest, ""));
     let (version, inside) = rest.split_once(' ').unwrap_or((rest, ""));
-    let gav = gav(alloc, group, artifact, version)?;
-    put_pom(alloc, list, &gav, inside)
+    let named = (group, artifact, version);
+    match pom_name(alloc, named)? {
+        Some(name) => put_pom(alloc, list, name, named, inside),
+        None => Ok(()),
+    }
 }
 
 // One more file of the project: its path, its artifact, and what is in the POM.
@@ -114,7 +122,7 @@ fn put_named(alloc: Global, files: &mut Files, field: &str) -> Mem<()> {
 fn put_any(alloc: Global, files: &mut Files, field: &str) -> Mem<()> {
     let (path, bytes) = field.split_once(' ').unwrap_or((field, ""));
     let bytes = unescaped(alloc, bytes)?;
-    put_file(alloc, files, path, bytes)
+    put_file(alloc, files, path, bytes.as_slice())
 }
 
 // One more file, by its first word.
@@ -128,11 +136,10 @@ fn put(alloc: Global, files: &mut Files, field: &str) -> Mem<()> {
     }
 }
 
-/// The files of fields.
-pub(crate) fn files_of(alloc: Global, fields: &[&str]) -> Mem<Files> {
-    let mut files = no_files(alloc);
-    for field in fields {
-        put(alloc, &mut files, *field)?;
+/// Puts in the files of the fields behind the first.
+pub(crate) fn put_fields(alloc: Global, files: &mut Files, fields: &[&str]) -> Mem<()> {
+    for at in 1..fields.len() {
+        put(alloc, files, fields[at])?;
     }
-    Ok(files)
+    Ok(())
 }

@@ -1,5 +1,6 @@
 // What is told of a plan.
 use crate::plans::modules::{push_module, push_numbers};
+use crate::texts::push_number;
 use build_core::{Plan, PlanModule};
 use mvn_base::FileName;
 use mvn_shared::{Mem, Text};
@@ -22,31 +23,29 @@ fn push_placed(alloc: Global, text: &mut String, module: &PlanModule) -> Mem<()>
         text.push_str("; ")?;
     }
     text.push_str(module.gav.artifact.as_str())?;
-    push_numbers(alloc, text, "on", module.upstream.as_slice())
+    push_numbers(alloc, text, " on ", module.upstream.as_slice())
 }
 
 // The artifacts of the modules in their order, each with the places of those that it stands on.
-fn order_text(alloc: Global, plan: &Plan) -> Mem<String> {
-    let mut text = String::new(alloc);
+fn push_order(alloc: Global, text: &mut String, plan: &Plan) -> Mem<()> {
     for module in plan.modules.as_slice() {
-        push_placed(alloc, &mut text, module)?;
+        push_placed(alloc, text, module)?;
     }
-    Ok(text)
+    Ok(())
 }
 
 // How many modules, names and files there are, the workers, the events, and the first module's budget.
-fn count_text(alloc: Global, plan: &Plan) -> Mem<String> {
-    let modules = plan.modules.len();
-    let names = plan.names.len();
-    let files = plan.files.len();
-    let workers = plan.workers;
-    let events = plan.events;
+fn push_counts(alloc: Global, text: &mut String, plan: &Plan) -> Mem<()> {
     let budget = match plan.modules.get(0) {
         Some(module) => module.budget,
         None => 0,
     };
-    let counts = format!(in alloc; "modules {modules} names {names} files {files}")?;
-    Ok(format!(in alloc; "{counts} workers {workers} events {events} budget {budget}")?)
+    push_number(alloc, text, "modules ", plan.modules.len() as u64)?;
+    push_number(alloc, text, " names ", plan.names.len() as u64)?;
+    push_number(alloc, text, " files ", plan.files.len() as u64)?;
+    push_number(alloc, text, " workers ", u64::from(plan.workers))?;
+    push_number(alloc, text, " events ", plan.events)?;
+    push_number(alloc, text, " budget ", budget)
 }
 
 // The names that are locked.
@@ -80,21 +79,20 @@ fn push_files(text: &mut String, plan: &Plan) -> Mem<()> {
 }
 
 // The names and the files of a plan, and a line for each module.
-fn whole_text(alloc: Global, plan: &Plan) -> Mem<String> {
-    let mut text = String::new(alloc);
-    push_names(&mut text, plan.names.as_slice())?;
-    push_files(&mut text, plan)?;
+fn push_whole(alloc: Global, text: &mut String, plan: &Plan) -> Mem<()> {
+    push_names(text, plan.names.as_slice())?;
+    push_files(text, plan)?;
     for module in plan.modules.as_slice() {
-        push_module(alloc, &mut text, module)?;
+        push_module(alloc, text, module)?;
     }
-    Ok(text)
+    Ok(())
 }
 
-/// A plan as it is told.
-pub(crate) fn plan_text(alloc: Global, plan: &Plan, shown: Shown) -> Mem<String> {
+/// A plan as it is told, written into an empty text.
+pub(crate) fn push_plan(alloc: Global, text: &mut String, plan: &Plan, shown: Shown) -> Mem<()> {
     match shown {
-        Shown::Order => order_text(alloc, plan),
-        Shown::Whole => whole_text(alloc, plan),
-        Shown::Counts => count_text(alloc, plan),
+        Shown::Order => push_order(alloc, text, plan),
+        Shown::Whole => push_whole(alloc, text, plan),
+        Shown::Counts => push_counts(alloc, text, plan),
     }
 }

@@ -10,17 +10,13 @@ shift
 kit=$(dirname "$(realpath "$(command -v rt)")")
 stages=$(mktemp)
 trap 'rm -f "$stages"' EXIT
-mapfile -t words < <(python3 - "$kit" "$crate" << 'END'
-import importlib.machinery, importlib.util, os, sys
-kit, name = sys.argv[1:]
-sys.dont_write_bytecode = True
-loader = importlib.machinery.SourceFileLoader("rt_command", f"{kit}/rt")
-rt = importlib.util.module_from_spec(importlib.util.spec_from_loader("rt_command", loader))
-sys.modules["rt_command"] = rt
-loader.exec_module(rt)
-os.chdir("../..")
-rt.Crate.allowed = rt.handles_of(os.getcwd())
-crate = next(it for it in rt.crates_of(os.getcwd()) if it.name == name)
+mapfile -t words < <(PYTHONPATH=../../proving python3 -B - "$crate" << 'END'
+import os, sys
+from machine import TOP, load_rt
+rt = load_rt()
+os.chdir(TOP)
+rt.Crate.allowed = rt.handles_of(TOP)
+crate = next(it for it in rt.crates_of(TOP) if it.name == sys.argv[1])
 crate.out = sys.stderr
 print("\n".join(crate.words(["--jobs", "1"], keeps=False)))
 END

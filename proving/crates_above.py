@@ -3,19 +3,12 @@
 
 usage: proving/crates_above.py
 """
-import os
-
-TOP = os.path.dirname(os.path.dirname(os.path.abspath(__file__)))
+from machine import libraries
 
 
 def counted():
     """The crates, each with the number of those above it."""
-    below = {}
-    with open(f"{TOP}/crates.txt") as file:
-        for line in file:
-            name, colon, libraries = line.split("#")[0].partition(":")
-            if colon:
-                below[name.split()[0]] = libraries.split()
+    below = libraries()
     above = {crate: set() for crate in below}
 
     def mark(crate, by):

@@ -7,24 +7,11 @@ of the clone. Prints how many libraries the clone has of such runs, and which of
 usage: proving/take_proved.py CLONE [FOLDER..]     FOLDER: further repositories whose `out/` folders a whole `rt ci` made
 """
 import glob
-import importlib.machinery
-import importlib.util
 import os
 import shutil
 import sys
 
-RT = shutil.which("rt") or "rt"
-
-
-def load_rt():
-    """The command `rt` as a module, which knows the stamp of a library."""
-    kit = os.path.dirname(os.path.realpath(RT))
-    sys.dont_write_bytecode = True
-    loader = importlib.machinery.SourceFileLoader("rt_command", f"{kit}/rt")
-    module = importlib.util.module_from_spec(importlib.util.spec_from_loader("rt_command", loader))
-    sys.modules["rt_command"] = module
-    loader.exec_module(module)
-    return module
+from machine import load_rt
 
 
 def stamped(rt, root):

@@ -6,16 +6,6 @@ use Rattle.pom_model.specs.declared.table.Kind.{Kind}
 use Rattle.pom_model.specs.Faults.{among, ended, fault_within, missing, or, version_fault}
 use Rattle.pom_model.specs.Table.{kind_number, table}
 
--- a text
-pub in_leaf : (nodes : List Node) (node : Node) → None ≡ missing nodes kinds.Leaf node
-unfolding missing table kind_number
-in_leaf nodes node = refl
-
--- a configuration, or an element in one
-pub in_configuration : (nodes : List Node) (node : Node) → None ≡ missing nodes kinds.Configuration node
-unfolding missing table kind_number
-in_configuration nodes node = refl
-
 -- a text with no element in it, so deep
 leaf_within : (depth : ℕ) (nodes : List Node) (node : Node) → node.children ≡ [] → None ≡ fault_within depth nodes kinds.Leaf node
 unfolding fault_within ended version_fault missing table kind_number

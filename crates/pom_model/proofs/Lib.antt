@@ -4,3 +4,4 @@ pub mod Pairs
 pub mod Lacking
 pub mod Spans
 pub mod Texts
+pub mod Firsts

@@ -1,6 +1,8 @@
 -- The walk over an element, one child after another.
-use Rattle.std.proofs.Common.{◌≡◌, ℕ, Bor, zero, suc, ◌-◌, ◌<◌, List, [], ◌∷◌, ◌++◌, length, get_or, take, drop, Option, Some, None, option_map, refl, sym, ap, ◌∙◌, arith}
+use Rattle.std.proofs.Common.{◌≡◌, ℕ, Bor, zero, suc, ◌+◌, ◌-◌, ◌<◌, List, [], ◌∷◌, ◌++◌, length, get_or, take, drop, Option, Some, None, is_some, option_map, refl, sym, ap, ◌∙◌, arith}
 use Rattle.std.proofs.Math.Seq.{drop-cons}
+use Rattle.std.proofs.lemmas.List.{take_more}
+use Rattle.std.proofs.lemmas.List.Sums.{count_by_more_yes}
 use Rattle.pom_text.specs.declared.node.Node.{Node}
 use Rattle.pom_model.specs.declared.fault.Fault.{Fault}
 use Rattle.pom_model.specs.declared.table.Kind.{Kind}
@@ -72,6 +74,29 @@ within_refused depth nodes kind node children i read inner times child before na
     let second : within ≡ Some whole =
     ap (option_map (under (step times count child.name))) (sym goes ∙ here) ∙ ap (λ k. Some (under (step times k child.name) fault)) (sym s.counted) ∙ ap (λ n. Some (under (step times read n) fault)) (sym named) ∙ ap Some (sym told) in
     refused depth nodes kind node children i read whole s (child_here further nodes kind children i inner times child r ∙ ap (λ x. or (or x within) rest) first ∙ ap (λ x. or x rest) second)
+
+-- a child in which nothing is refused is done
+pub nothing_refused : (depth : ℕ) (nodes : List Node) (kind : Kind) (node : Node) (children : List ℕ) (i read : ℕ) (inner : Kind) (times : Times) (child : Node) (before : List ℕ) (o : Option Fault)
+    → StandsAt depth nodes kind node children i read → IsRead nodes kind children i inner times child → before ≡ take i children → o ≡ begun nodes before read (inner, times) child → o ≡ None
+    → None ≡ fault_within (depth - 1) nodes inner child
+    → among (fault_within (depth - 1) nodes) nodes kind (take (i + 1) children) (drop (i + 1) children) ≡ among (fault_within (depth - 1) nodes) nodes kind [] children
+nothing_refused depth nodes kind node children i read inner times child before o s r front begins is nothing =
+    let further = fault_within (depth - 1) nodes in
+    let count = count_read nodes kind (take i children) in
+    let rest = among further nodes kind (take i children ++ get_or children i 0 ∷ []) (drop (suc i) children) in
+    let first : begun nodes (take i children) count (inner, times) child ≡ None =
+    ap (λ b. begun nodes b count (inner, times) child) (sym front) ∙ ap (λ k. begun nodes before k (inner, times) child) (sym s.counted) ∙ sym begins ∙ is in
+    let within : option_map (under (step times count child.name)) (further inner child) ≡ None = ap (option_map (under (step times count child.name))) (sym nothing) in
+    let on : i + 1 ≡ suc i = omega arith in
+    ap (λ t. among further nodes kind t (drop (i + 1) children)) (take_more children i 0 r.low) ∙ ap (λ n. among further nodes kind (take i children ++ get_or children i 0 ∷ []) (drop n children)) on
+    ∙ sym (child_here further nodes kind children i inner times child r ∙ ap (λ x. or (or x (option_map (under (step times count child.name)) (further inner child))) rest) first ∙ ap (λ x. or x rest) within)
+    ∙ s.same
+
+-- it is counted
+pub one_more_read : (nodes : List Node) (kind : Kind) (children : List ℕ) (i read : ℕ) (inner : Kind) (times : Times) (child : Node) → IsRead nodes kind children i inner times child
+    → read ≡ count_read nodes kind (take i children) → read + 1 ≡ count_read nodes kind (take (i + 1) children)
+one_more_read nodes kind children i read inner times child r counted =
+    ap (λ n. n + 1) counted ∙ sym (count_by_more_yes (λ k. is_some (read_child nodes kind k)) children i 0 r.low (ap is_some r.is))
 
 -- all children are done
 pub ended_same : (depth : ℕ) (nodes : List Node) (kind : Kind) (node : Node) (children : List ℕ) (i read : ℕ) → StandsAt depth nodes kind node children i read → drop i children ≡ [] → ended nodes kind node ≡ fault_within depth nodes kind node

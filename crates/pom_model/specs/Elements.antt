@@ -50,6 +50,10 @@ non_empty text = if length text == 0 then None else Some text
 abbrev pub own_text : Node → List ℕ
 own_text node = trimmed node.text
 
+-- the text of an element, where there is one and it isn't empty
+abbrev pub text_in : Option Node → Option (List ℕ)
+text_in node = option_and_then (λ n. non_empty (own_text n)) node
+
 -- the text of the first of a name, where it isn't empty
 unfoldable pub text_of : List Node → List ℕ → Option Node → Option (List ℕ)
 text_of nodes name node = option_and_then (λ n. non_empty (own_text n)) (child nodes name node)

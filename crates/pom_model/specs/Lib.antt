@@ -5,3 +5,4 @@ pub mod Faults
 pub mod Fields
 pub mod Raw
 pub mod Naming
+pub mod Places

@@ -1,5 +1,5 @@
 -- What is read of a POM names the POM.
-use Rattle.std.specs.Prelude.{◌≡◌, List, Option, None, Some, Result, Ok, Err, slice_get}
+use Rattle.std.specs.Prelude.{◌≡◌, List, Option, None, Some, Result, Ok, slice_get}
 use Rattle.std.proofs.Common.{sym, ap}
 use Rattle.mvn_base.specs.declared.refusal.PomId.{PomId}
 use Rattle.mvn_base.specs.declared.refusal.Refusal.{Refusal}

@@ -1,8 +1,10 @@
 ghost use Rattle.std.specs.Prelude.{◌≡◌, IfOk};
-ghost use Rattle.pom_model.specs.Fields.{dependency, dependency_key, exclusion};
+ghost use Rattle.pom_model.specs.Fields.{dependency, exclusion};
+ghost use Rattle.pom_model.specs.Places.{dependency_at, key_at};
 
-use crate::element::{text_of, text_or, text_or_like};
-use crate::item::{Item, list_in};
+use crate::element::{text_in, text_in_or, text_or};
+use crate::item::{Item, items_in};
+use crate::places::{Places, numbered, places_among};
 use model_types::{Dependency, Exclusion};
 use mvn_base::Key;
 use mvn_shared::{Mem, Text};
@@ -34,14 +36,14 @@ fn kind_of(like: Option<&Dependency>) -> Option<&Text> {
 }
 
 // What a dependency is told apart by. Most are jars, so a type that isn't stated is shared.
-#[tactic(auto, unfolding(crate::specs::Fields::dependency_key))]
-fn dependency_key(alloc: Global, nodes: &[Node], node: &Node, like: Option<&Dependency>) -> Mem<Key>
-    ensures { IfOk result (λ key. key ≡ dependency_key nodes.now node.now) }
+#[tactic(auto, unfolding(crate::specs::Places::key_at))]
+fn key_at(alloc: Global, nodes: &[Node], places: Places, like: Option<&Dependency>) -> Mem<Key>
+    ensures { IfOk result (λ key. key ≡ key_at nodes.now places) }
 {
-    let group = text_or(alloc, nodes, Some(node), "groupId", "")?;
-    let artifact = text_or(alloc, nodes, Some(node), "artifactId", "")?;
-    let kind = text_or_like(alloc, nodes, Some(node), "type", "jar", kind_of(like))?;
-    let classifier = text_or(alloc, nodes, Some(node), "classifier", "")?;
+    let group = text_in_or(alloc, numbered(nodes, places.group), "", None)?;
+    let artifact = text_in_or(alloc, numbered(nodes, places.artifact), "", None)?;
+    let kind = text_in_or(alloc, numbered(nodes, places.kind), "jar", kind_of(like))?;
+    let classifier = text_in_or(alloc, numbered(nodes, places.classifier), "", None)?;
     Ok(Key {
         group,
         artifact,
@@ -50,35 +52,54 @@ fn dependency_key(alloc: Global, nodes: &[Node], node: &Node, like: Option<&Depe
     })
 }
 
+// A dependency whose elements stand there.
+#[tactic(auto, unfolding(crate::specs::Places::dependency_at))]
+fn dependency_at(
+    alloc: Global,
+    nodes: &[Node],
+    places: Places,
+    like: Option<&Dependency>,
+) -> Mem<Dependency>
+    ensures { IfOk result (λ dependency. dependency ≡ dependency_at nodes.now places) }
+{
+    let version = text_in(alloc, numbered(nodes, places.version))?;
+    let scope = text_in(alloc, numbered(nodes, places.scope))?;
+    let optional = text_in_or(alloc, numbered(nodes, places.optional), "", None)?;
+    let exclusions = items_in(
+        alloc,
+        nodes,
+        numbered(nodes, places.exclusions),
+        "exclusion",
+    )?;
+    let Key {
+        group,
+        artifact,
+        kind,
+        classifier,
+    } = key_at(alloc, nodes, places, like)?;
+    Ok(Dependency {
+        group,
+        artifact,
+        version,
+        kind,
+        classifier,
+        scope,
+        optional,
+        exclusions,
+    })
+}
+
 impl Item for Dependency {
     ghost value = { dependency };
 
-    #[tactic(auto, unfolding(crate::specs::Fields::dependency))]
+    #[tactic(auto, using(crate::proofs::Firsts::dependency_so))]
     fn read(
         alloc: Global,
         nodes: &[Node],
         node: &Node,
         like: Option<&Dependency>,
     ) -> Mem<Dependency> {
-        let version = text_of(alloc, nodes, Some(node), "version")?;
-        let scope = text_of(alloc, nodes, Some(node), "scope")?;
-        let optional = text_or(alloc, nodes, Some(node), "optional", "")?;
-        let exclusions = list_in(alloc, nodes, Some(node), "exclusions", "exclusion")?;
-        let Key {
-            group,
-            artifact,
-            kind,
-            classifier,
-        } = dependency_key(alloc, nodes, node, like)?;
-        Ok(Dependency {
-            group,
-            artifact,
-            version,
-            kind,
-            classifier,
-            scope,
-            optional,
-            exclusions,
-        })
+        let places = places_among(nodes, node.children.as_slice());
+        dependency_at(alloc, nodes, places, like)
     }
 }

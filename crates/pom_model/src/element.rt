@@ -1,7 +1,7 @@
-ghost use Rattle.std.specs.Prelude.{◌≡◌, option_map, is_some, slice_get, IfOk, IfSome, Some};
+ghost use Rattle.std.specs.Prelude.{◌≡◌, option_map, unwrap_or, is_some, slice_get, IfOk, IfSome, Some};
 ghost use Rattle.std.specs.Option.{option_copied};
 ghost use Rattle.std.specs.Str.{bytes_eq};
-ghost use Rattle.pom_model.specs.Elements.{child, named, non_empty, text_of, text_or, trimmed};
+ghost use Rattle.pom_model.specs.Elements.{child, named, non_empty, text_in, text_of, text_or, trimmed};
 ghost use Rattle.pom_model.specs.Fields.{text_is};
 
 use mvn_shared::{Mem, Text};
@@ -40,7 +40,8 @@ pub(crate) fn at(nodes: &[Node], k: u32) -> Option<&Node>
     nodes.get(k as usize)
 }
 
-/// The element of a number, where it has this name.
+/// The element of a number, where it has this name. It stands in the loops that call it, since a POM has many elements.
+#[inline(always)]
 #[tactic(auto, unfolding(crate::specs::Elements::named))]
 pub(crate) fn named<'a>(nodes: &'a [Node], k: u32, name: &str) -> Option<&'a Node>
     ensures { option_copied result ≡ named nodes.now name.now k }
@@ -70,8 +71,8 @@ pub(crate) fn child<'a>(nodes: &'a [Node], node: Option<&'a Node>, name: &str) -
 type Inside<'a> = (&'a Text, &'a str);
 
 // A copy of what is in a text without the white space round it, which its copies share: coordinates are copied into keys and edges often.
-// One that has none is shared with the element's. It stands in its caller, as what is found by name below does, since a POM has many
-// texts and few fields.
+// A text that has none round it is shared with the element, whose text is shared since it was read. It stands in its caller, as what is
+// found by name below does, since a POM has many texts and few fields.
 #[inline(always)]
 #[tactic(auto, using(crate::proofs::Texts::is_whole))]
 fn copied(alloc: Global, found: Inside<'_>) -> Mem<Text>
@@ -80,7 +81,7 @@ fn copied(alloc: Global, found: Inside<'_>) -> Mem<Text>
 {
     let (text, inside) = found;
     if text.len() == inside.len() {
-        return text.clone()?.shared(alloc);
+        return Ok(text.clone()?);
     }
     Text::from_str(alloc, inside)?.shared(alloc)
 }
@@ -105,16 +106,22 @@ fn filled_text(text: &Text) -> Option<Inside<'_>>
     }
 }
 
-// The text of the first element of a name, where more than white space stands in it.
+// The text of an element, where there is one and more than white space stands in it.
 #[inline(always)]
+fn filled_in(found: Option<&Node>) -> Option<Inside<'_>>
+    ensures inside { option_map (λ i. i.1.now) result ≡ text_in (option_copied found.entry) }
+    ensures both { IfSome result (λ i. i.1.now ≡ trimmed i.0.now) }
+{
+    filled_text(&found?.text)
+}
+
+// The text of the first element of a name, where more than white space stands in it.
 #[tactic(auto, unfolding(crate::specs::Elements::text_of))]
 fn filled<'a>(nodes: &'a [Node], node: Option<&'a Node>, name: &str) -> Option<Inside<'a>>
     ensures inside { option_map (λ i. i.1.now) result
         ≡ text_of nodes.now name.now (option_copied node.entry) }
-    ensures both { IfSome result (λ i. i.1.now ≡ trimmed i.0.now) }
 {
-    let child = child(nodes, node, name)?;
-    filled_text(&child.text)
+    filled_in(child(nodes, node, name))
 }
 
 // Or a default.
@@ -144,7 +151,33 @@ fn default_like(alloc: Global, default: &str, like: Option<&Text>) -> Mem<Text>
     Text::from_str(alloc, default)?.shared(alloc)
 }
 
+/// The text of an element, where there is one and its text isn't empty. Costs the text.
+pub(crate) fn text_in(alloc: Global, found: Option<&Node>) -> Mem<Option<Text>>
+    ensures { IfOk result (λ text. text ≡ text_in (option_copied found.entry)) }
+{
+    match filled_in(found) {
+        Some(text) => Ok(Some(copied(alloc, text)?)),
+        None => Ok(None),
+    }
+}
+
+/// Or a default, which is shared with a text that is it already.
+pub(crate) fn text_in_or(
+    alloc: Global,
+    found: Option<&Node>,
+    default: &str,
+    like: Option<&Text>,
+) -> Mem<Text>
+    ensures { IfOk result (λ text. text ≡ unwrap_or (text_in (option_copied found.entry)) default.now) }
+{
+    match filled_in(found) {
+        Some(text) => copied(alloc, text),
+        None => default_like(alloc, default, like),
+    }
+}
+
 /// The text of the first element of a name, where it isn't empty. Costs the number of elements, and the text.
+#[tactic(auto, unfolding(crate::specs::Elements::text_of))]
 pub(crate) fn text_of(
     alloc: Global,
     nodes: &[Node],
@@ -153,32 +186,11 @@ pub(crate) fn text_of(
 ) -> Mem<Option<Text>>
     ensures { IfOk result (λ text. text ≡ text_of nodes.now name.now (option_copied node.entry)) }
 {
-    match filled(nodes, node, name) {
-        Some(text) => Ok(Some(copied(alloc, text)?)),
-        None => Ok(None),
-    }
-}
-
-/// Or a default, which is shared with a text that is it already.
-#[inline(always)]
-pub(crate) fn text_or_like(
-    alloc: Global,
-    nodes: &[Node],
-    node: Option<&Node>,
-    name: &str,
-    default: &str,
-    like: Option<&Text>,
-) -> Mem<Text>
-    ensures { IfOk result (λ text.
-        text ≡ text_or nodes.now name.now default.now (option_copied node.entry)) }
-{
-    match filled(nodes, node, name) {
-        Some(text) => copied(alloc, text),
-        None => default_like(alloc, default, like),
-    }
+    text_in(alloc, child(nodes, node, name))
 }
 
 /// Or a default.
+#[tactic(auto, unfolding(crate::specs::Elements::text_of))]
 pub(crate) fn text_or(
     alloc: Global,
     nodes: &[Node],
@@ -189,7 +201,7 @@ pub(crate) fn text_or(
     ensures { IfOk result (λ text.
         text ≡ text_or nodes.now name.now default.now (option_copied node.entry)) }
 {
-    text_or_like(alloc, nodes, node, name, default, None)
+    text_in_or(alloc, child(nodes, node, name), default, None)
 }
 
 /// Whether the first element of a name has a text that isn't empty.

@@ -37,7 +37,23 @@ fn list_among<T: Item>(alloc: Global, nodes: &[Node], name: &str, ks: &[u32]) ->
     Ok(list)
 }
 
-/// What is read of each element of a name, in the first of another name. Costs the elements there.
+/// What is read of each element of a name, in an element or in none. Costs the elements there.
+pub(crate) fn items_in<T: Item>(
+    alloc: Global,
+    nodes: &[Node],
+    list: Option<&Node>,
+    name: &str,
+) -> Mem<List<T>>
+    ensures { IfOk result (λ read.
+        read ≡ map (T.value nodes.now) (items nodes.now name.now (option_copied list.entry))) }
+{
+    match list {
+        Some(list) => list_among(alloc, nodes, name, list.children.as_slice()),
+        None => Ok(List::new(alloc)),
+    }
+}
+
+/// The same, in the first element of another name. Costs the elements there.
 pub(crate) fn list_in<T: Item>(
     alloc: Global,
     nodes: &[Node],
@@ -48,10 +64,7 @@ pub(crate) fn list_in<T: Item>(
     ensures { IfOk result (λ list.
         list ≡ list_in T.value nodes.now outer.now name.now (option_copied node.entry)) }
 {
-    match child(nodes, node, outer) {
-        Some(list) => list_among(alloc, nodes, name, list.children.as_slice()),
-        None => Ok(List::new(alloc)),
-    }
+    items_in(alloc, nodes, child(nodes, node, outer), name)
 }
 
 impl Item for Text {

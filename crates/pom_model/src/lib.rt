@@ -7,6 +7,7 @@ mod dependency;
 mod element;
 mod fault;
 mod item;
+mod places;
 mod plugin;
 mod profile;
 mod property;

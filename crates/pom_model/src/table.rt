@@ -1,5 +1,5 @@
 ghost use Rattle.std.specs.Prelude.{◌≡◌, length, map, find, option_map};
-ghost use Rattle.pom_model.specs.Spans.{is_named, rows_under, span};
+ghost use Rattle.pom_model.specs.Spans.{is_named, required_span, required_under, rows_under, span};
 ghost use Rattle.pom_model.specs.Table.{found, kind_number, row_view, table};
 
 use crate::element::same;
@@ -366,6 +366,29 @@ pub(crate) fn rows_under(kind: Kind) -> &'static [Row]
     ensures { map row_view result.now ≡ rows_under kind }
 {
     let (from, to) = span(kind);
+    &rows()[from..to]
+}
+
+// Where those of them stand whose elements may have to be there: they stand side by side.
+fn required_span(kind: Kind) -> (usize, usize)
+    ensures { result ≡ required_span kind }
+{
+    match kind {
+        Kind::Project => (2, 5),
+        Kind::Parent => (12, 15),
+        Kind::Dependency => (20, 22),
+        Kind::Plugin => (48, 49),
+        Kind::Extension => (62, 65),
+        _ => (0, 0),
+    }
+}
+
+/// The lines under a kind of element whose elements may have to be there, in the table's order. Constant time.
+#[tactic(auto, using(crate::proofs::Spans::required_ordered, crate::proofs::Spans::required_low))]
+pub(crate) fn required_under(kind: Kind) -> &'static [Row]
+    ensures { map row_view result.now ≡ required_under kind }
+{
+    let (from, to) = required_span(kind);
     &rows()[from..to]
 }
 

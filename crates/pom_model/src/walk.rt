@@ -6,7 +6,7 @@ ghost use Rattle.pom_model.specs.declared.table.Kind.TheVariants.{Leaf};
 
 use crate::element::{child, is_filled, name_of, named, text_or};
 use crate::fault::{Fault, Spot};
-use crate::table::{Kind, Row, Times, found, rows_under};
+use crate::table::{Kind, Row, Times, found, required_under};
 use mvn_base::Rule;
 use mvn_shared::{Mem, Text};
 use pom_text::{DEPTH, Node};
@@ -128,23 +128,12 @@ fn missing_among(rows: &[Row], nodes: &[Node], node: &Node) -> Option<&'static s
 
 // What an element lacks, first in the table's order.
 #[tactic(auto, using(crate::proofs::Spans::missing_so), unfolding(crate::specs::Faults::missing))]
-fn first_missing(alloc: Global, nodes: &[Node], kind: Kind, node: &Node) -> Mem<Option<Fault>>
-    ensures { IfOk result (λ fault. fault ≡ missing nodes.now kind node.now) }
-{
-    match missing_among(rows_under(kind), nodes, node) {
-        Some(name) => Ok(Some(Fault::at_path(alloc, Rule::MissingField, name)?)),
-        None => Ok(None),
-    }
-}
-
-// The same. Nothing has to stand in a text or in a configuration, which most elements are.
-#[tactic(auto, using(crate::proofs::Lacking::in_leaf, crate::proofs::Lacking::in_configuration))]
 fn missing(alloc: Global, nodes: &[Node], kind: Kind, node: &Node) -> Mem<Option<Fault>>
     ensures { IfOk result (λ fault. fault ≡ missing nodes.now kind node.now) }
 {
-    match kind {
-        Kind::Leaf | Kind::Configuration => Ok(None),
-        _ => first_missing(alloc, nodes, kind, node),
+    match missing_among(required_under(kind), nodes, node) {
+        Some(name) => Ok(Some(Fault::at_path(alloc, Rule::MissingField, name)?)),
+        None => Ok(None),
     }
 }
 
@@ -187,7 +176,7 @@ fn is_bare(kind: Kind, node: &Node) -> bool
     }
 }
 
-// What is refused in an element, first in document order.
+// What is refused in an element, first in document order. Most elements are texts, so the walk into these is left out.
 fn fault_within(
     alloc: Global,
     depth: u32,
@@ -200,9 +189,6 @@ fn fault_within(
     if depth == 0 {
         return Ok(None);
     }
-    if is_bare(kind, node) {
-        return Ok(None);
-    }
     let children = node.children.as_slice();
     let mut read = 0;
     for (i, k) in children.iter().enumerate() {
@@ -210,6 +196,10 @@ fn fault_within(
             let (before, _) = children.split_at(i);
             if let Some(fault) = begun(alloc, nodes, before, read, inner, times, child)? {
                 return Ok(Some(fault));
+            }
+            if is_bare(inner, child) {
+                read += 1;
+                continue;
             }
             if let Some(fault) = fault_within(alloc, depth - 1, nodes, inner, child)? {
                 let step = times.step(alloc, read, name_of(child))?;

@@ -56,7 +56,8 @@ def running(*commands):
             with open(f"/proc/{number}/cmdline", "rb") as file:
                 words = [it.decode(errors="replace") for it in file.read().split(b"\0")]
             command = os.path.basename(words[0])
-            if command not in commands:
+            # (laying out files takes no time that counts, and a run waits for it)
+            if command not in commands or "fmt" in words[1:2]:
                 continue
             folder = os.readlink(f"/proc/{number}/cwd")
             with open(f"/proc/{number}/stat") as file:

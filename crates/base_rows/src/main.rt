@@ -58,7 +58,7 @@ pub(crate) fn word(alloc: Global, word: &str) -> Mem<String> {
 fn told_of_builds(alloc: Global, kind: &str, rest: &str) -> anyhow::Result<String> {
     match kind {
         "order" | "placed" | "keep" | "select" | "locks" | "report" | "full" => {
-            orders::told(alloc, kind, rest)
+            Ok(orders::told(alloc, kind, rest)?)
         }
         _ => goals::told(alloc, kind, rest),
     }

@@ -6,11 +6,10 @@ mod reports;
 
 use crate::word;
 use mvn_shared::Mem;
-use numbers::sections;
 use std::alloc::Global;
 
-// What is told of a row with these sections.
-fn told_of_sections(alloc: Global, kind: &str, sections: &[&str]) -> Mem<String> {
+/// What is told of a row with these sections.
+pub(crate) fn told(alloc: Global, kind: &str, sections: &str) -> Mem<String> {
     match kind {
         "order" => modules::order_row(alloc, sections, true),
         "placed" => modules::order_row(alloc, sections, false),
@@ -21,10 +20,4 @@ fn told_of_sections(alloc: Global, kind: &str, sections: &[&str]) -> Mem<String>
         "full" => reports::full_row(alloc, sections),
         _ => word(alloc, "no such row"),
     }
-}
-
-/// What is told of a row.
-pub(crate) fn told(alloc: Global, kind: &str, rest: &str) -> anyhow::Result<String> {
-    let sections = sections(alloc, rest)?;
-    Ok(told_of_sections(alloc, kind, sections.as_slice())?)
 }

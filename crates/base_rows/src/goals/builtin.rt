@@ -11,21 +11,20 @@ use mvn_shared::{Bytes, List, Mem, Text};
 use std::alloc::Global;
 
 // The module demo:app:1.0.
-pub(crate) fn module(alloc: Global) -> Mem<Gav> {
+fn module(alloc: Global) -> Mem<Gav> {
     gav(alloc, "demo", "app", "1.0")
 }
 
 // The goal surefire:test.
-pub(crate) fn goal_call(alloc: Global, slot: Slot) -> Mem<GoalCall> {
+fn goal_call(alloc: Global, slot: Slot) -> Mem<GoalCall> {
     let group = Text::from_str(alloc, "org.apache.maven.plugins")?;
     let artifact = Text::from_str(alloc, "maven-surefire-plugin")?;
-    let version = Text::from_str(alloc, "")?;
     let goal = Text::from_str(alloc, "test")?;
     let execution = Text::from_str(alloc, "default-test")?;
     Ok(GoalCall {
         group,
         artifact,
-        version,
+        version: Text::of(String::new(alloc)),
         goal,
         execution,
         phase: Phase::Test,
@@ -35,7 +34,8 @@ pub(crate) fn goal_call(alloc: Global, slot: Slot) -> Mem<GoalCall> {
     })
 }
 
-fn request(alloc: Global, slot: Slot, sources: List<SourceFile>) -> Mem<GoalRequest>
+/// A request of surefire:test for demo:app:1.0, without sources.
+pub(crate) fn request(alloc: Global, slot: Slot) -> Mem<GoalRequest>
     ensures { IfOk result (λ request. HasOwnSlots request.own) }
 {
     let module = module(alloc)?;
@@ -43,18 +43,19 @@ fn request(alloc: Global, slot: Slot, sources: List<SourceFile>) -> Mem<GoalRequ
     Ok(GoalRequest {
         module,
         call,
-        sources,
+        sources: List::new(alloc),
         own: List::new(alloc),
         classpath: List::new(alloc),
     })
 }
 
+fn path_of(alloc: Global, path: &Bytes) -> Text {
+    Text::from_slice(alloc, path.as_slice()).unwrap_or(Text::of(String::new(alloc)))
+}
+
 fn source(alloc: Global, path: &Bytes, bytes: &Bytes) -> Mem<SourceFile> {
     let bytes = bytes.clone()?;
-    let path = match Text::from_slice(alloc, path.as_slice()) {
-        Ok(path) => path,
-        Err(_) => Text::from_str(alloc, "")?,
-    };
+    let path = path_of(alloc, path);
     Ok(SourceFile { path, bytes })
 }
 
@@ -84,10 +85,11 @@ fn shown(alloc: Global, answer: &GoalAnswer) -> Mem<Bytes> {
 }
 
 fn answered(alloc: Global, slot: Slot, fields: &[Bytes]) -> Mem<Bytes> {
-    let request = request(alloc, slot, sources(alloc, fields)?)?;
+    let mut request = request(alloc, slot)?;
+    request.sources = sources(alloc, fields)?;
     let mut gate = Builtin::new(alloc);
-    match gate.call(&request) {
-        Ok(answer) => shown(alloc, &answer),
+    match &gate.call(&request) {
+        Ok(answer) => shown(alloc, answer),
         Err(_) => spelled(alloc, "the gate failed", "".as_bytes()),
     }
 }

@@ -1,46 +1,36 @@
 // Rows about the bytes of requests.
-ghost use Rattle.std.specs.Prelude.{IfOk};
+ghost use Rattle.std.specs.Prelude.{IfOk, OnOk};
 ghost use Rattle.goal_types.specs.Goals.{HasOwnSlots};
 
-use crate::goals::builtin::{goal_call, module};
-use goal_types::{GoalCall, GoalRequest, OwnBytes, Slot, SourceFile, request_bytes};
+use crate::goals::builtin::request;
+use goal_types::{GoalRequest, OwnBytes, Slot, SourceFile, request_bytes};
 use mvn_base::Setting;
 use mvn_shared::{Bytes, List, Mem, Text};
 use std::alloc::Global;
 
-fn setting(alloc: Global, name: &str, text: &str, children: List<Setting>) -> Mem<Setting> {
+fn setting(alloc: Global, name: &str, text: &str) -> Mem<Setting> {
     let name = Text::from_str(alloc, name)?;
     let text = Text::from_str(alloc, text)?;
     Ok(Setting {
         name,
         text,
-        children,
+        children: List::new(alloc),
     })
 }
 
 // A setting with a child.
-fn settings(alloc: Global) -> Mem<List<Setting>> {
-    let mut children = List::new(alloc);
-    children.push(setting(alloc, "fork", "no \"fork\"", List::new(alloc))?)?;
-    let mut settings = List::new(alloc);
-    settings.push(setting(alloc, "config", "", children)?)?;
-    Ok(settings)
+fn parent(alloc: Global) -> Mem<Setting> {
+    let mut parent = setting(alloc, "config", "")?;
+    parent
+        .children
+        .push(setting(alloc, "fork", "no \"fork\"")?)?;
+    Ok(parent)
 }
 
-// The call of surefire:test, with these settings.
-fn call(alloc: Global, settings: List<Setting>) -> Mem<GoalCall> {
-    let mut call = goal_call(alloc, Slot::Nowhere)?;
-    call.configuration = settings;
-    Ok(call)
-}
-
-// A source.
-fn sources(alloc: Global) -> Mem<List<SourceFile>> {
+fn source(alloc: Global) -> Mem<SourceFile> {
     let path = Text::from_str(alloc, "src/A.java")?;
     let bytes = Bytes::from_slice(alloc, "class A {}\n".as_bytes())?;
-    let mut sources = List::new(alloc);
-    sources.push(SourceFile { path, bytes })?;
-    Ok(sources)
+    Ok(SourceFile { path, bytes })
 }
 
 // An output.
@@ -56,30 +46,21 @@ fn outputs(alloc: Global) -> Mem<List<OwnBytes>>
     Ok(own)
 }
 
-fn bytes_of(
-    alloc: Global,
-    call: GoalCall,
-    sources: List<SourceFile>,
-    own: List<OwnBytes>,
-) -> Mem<Bytes>
-    requires { HasOwnSlots own }
+// Puts an item into each list.
+fn fill(alloc: Global, request: &mut GoalRequest) -> Mem<()>
+    ensures { OnOk result (HasOwnSlots request.new.own) }
 {
-    let request = GoalRequest {
-        module: module(alloc)?,
-        call,
-        sources,
-        own,
-        classpath: List::new(alloc),
-    };
-    request_bytes(alloc, &request)
+    request.call.configuration.push(parent(alloc)?)?;
+    request.sources.push(source(alloc)?)?;
+    request.own = outputs(alloc)?;
+    Ok(())
 }
 
 /// The bytes of a request with an item in each list, or with none.
 pub(crate) fn told(alloc: Global, kind: &str) -> Mem<Bytes> {
+    let mut request = request(alloc, Slot::Nowhere)?;
     if kind == "full" {
-        let call = call(alloc, settings(alloc)?)?;
-        return bytes_of(alloc, call, sources(alloc)?, outputs(alloc)?);
+        fill(alloc, &mut request)?;
     }
-    let call = call(alloc, List::new(alloc))?;
-    bytes_of(alloc, call, List::new(alloc), List::new(alloc))
+    request_bytes(alloc, &request)
 }

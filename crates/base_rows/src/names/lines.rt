@@ -91,8 +91,8 @@ fn asked(alloc: Global, words: &[Bytes], hands: u32) -> Mem<String> {
     if words.len() > 1000 || hands == 0 || hands > 16 {
         return word(alloc, "too many");
     }
-    match options(alloc, words, hands) {
-        Ok(line) => shown(alloc, &line),
+    match &options(alloc, words, hands) {
+        Ok(line) => shown(alloc, line),
         Err(error) => Ok(format!(in alloc; "{error}")?),
     }
 }

@@ -1,5 +1,5 @@
 // Names that workers take and free.
-use crate::orders::numbers::{number, section};
+use crate::orders::numbers::{number, split_section};
 use mvn_shared::Mem;
 use name_locks::{LockTable, Mode, Tried};
 use std::alloc::Global;
@@ -59,8 +59,9 @@ fn answers(alloc: Global, table: &mut LockTable, calls: &str) -> Mem<String> {
 }
 
 /// What is answered to calls on so many names by so many workers.
-pub(crate) fn locks_row(alloc: Global, sections: &[&str]) -> Mem<String> {
-    let (names, workers) = section(sections, 0).split_once(' ').unwrap_or(("", ""));
+pub(crate) fn locks_row(alloc: Global, sections: &str) -> Mem<String> {
+    let (counts, calls) = split_section(sections);
+    let (names, workers) = counts.split_once(' ').unwrap_or(("", ""));
     let mut table = LockTable::new(alloc, number(names), number(workers))?;
-    answers(alloc, &mut table, section(sections, 1))
+    answers(alloc, &mut table, calls)
 }

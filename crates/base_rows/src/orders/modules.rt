@@ -1,5 +1,5 @@
 // The order of modules, the edges that are kept, and the modules that are selected.
-use crate::orders::numbers::{edges, has_word, number, numbers, section};
+use crate::orders::numbers::{edges, has_word, number, numbers, split_section};
 use crate::word;
 use mvn_shared::Mem;
 use reactor_order::{Cycle, OrderError, edges_below, keep, modules_below, order, select};
@@ -42,9 +42,10 @@ fn ordered(alloc: Global, n: u32, edges: &[(u32, u32)], whole: bool) -> Mem<Stri
 }
 
 /// The order of modules, or the cycle: all of it, or only that there is one.
-pub(crate) fn order_row(alloc: Global, sections: &[&str], whole: bool) -> Mem<String> {
-    let edges = edges(alloc, section(sections, 1))?;
-    ordered(alloc, number(section(sections, 0)), edges.as_slice(), whole)
+pub(crate) fn order_row(alloc: Global, sections: &str, whole: bool) -> Mem<String> {
+    let (n, edge_words) = split_section(sections);
+    let edges = edges(alloc, edge_words)?;
+    ordered(alloc, number(n), edges.as_slice(), whole)
 }
 
 fn shown_edges(alloc: Global, edges: &[(u32, u32)]) -> Mem<String> {
@@ -67,25 +68,21 @@ fn kept(alloc: Global, n: u32, firm: &[(u32, u32)], soft: &[(u32, u32)]) -> Mem<
 }
 
 /// The edges that are kept, of firm ones and soft ones.
-pub(crate) fn keep_row(alloc: Global, sections: &[&str]) -> Mem<String> {
-    let firm = edges(alloc, section(sections, 1))?;
-    let soft = edges(alloc, section(sections, 2))?;
-    kept(
-        alloc,
-        number(section(sections, 0)),
-        firm.as_slice(),
-        soft.as_slice(),
-    )
+pub(crate) fn keep_row(alloc: Global, sections: &str) -> Mem<String> {
+    let (n, edge_lists) = split_section(sections);
+    let (firm, soft) = split_section(edge_lists);
+    let firm = edges(alloc, firm)?;
+    let soft = edges(alloc, soft)?;
+    kept(alloc, number(n), firm.as_slice(), soft.as_slice())
 }
 
-// The modules that are built, of modules in the order of their numbers.
+// The modules that are built, of modules in the order of their numbers: `make` and `dependents`, and where to begin, are two sections.
 fn selected(
     alloc: Global,
     order: &[u32],
     edges: &[(u32, u32)],
     chosen: Option<&[u32]>,
-    words: &str,
-    from: Option<u32>,
+    sections: &str,
 ) -> Mem<String> {
     if order.len() > 1000 {
         return word(alloc, "too many modules");
@@ -98,33 +95,29 @@ fn selected(
     if !all || !modules_below(n, order) || !edges_below(n, edges) {
         return word(alloc, "no module");
     }
+    let (words, from) = split_section(sections);
     let make = has_word(words, "make");
     let dependents = has_word(words, "dependents");
+    let from = from.trim().parse::<u32>().ok();
     let list = select(alloc, order, edges, chosen, make, dependents, from)?;
     listed(alloc, "", list.as_slice())
 }
 
-// Where to begin, if that is said.
-fn from_of(section: &str) -> Option<u32> {
-    section.parse::<u32>().ok()
+// The same, of the chosen ones or `all`, and those two sections.
+fn chosen(alloc: Global, order: &[u32], edges: &[(u32, u32)], sections: &str) -> Mem<String> {
+    let (words, others) = split_section(sections);
+    if words == "all" {
+        return selected(alloc, order, edges, None, others);
+    }
+    let chosen = numbers(alloc, words)?;
+    selected(alloc, order, edges, Some(chosen.as_slice()), others)
 }
 
 /// The modules that are built: the numbers in order, the edges, the chosen ones or `all`, `make` and `dependents`, and where to begin.
-pub(crate) fn select_row(alloc: Global, sections: &[&str]) -> Mem<String> {
-    let order = numbers(alloc, section(sections, 0))?;
-    let edges = edges(alloc, section(sections, 1))?;
-    let chosen = numbers(alloc, section(sections, 2))?;
-    let chosen = if section(sections, 2) == "all" {
-        None
-    } else {
-        Some(chosen.as_slice())
-    };
-    selected(
-        alloc,
-        order.as_slice(),
-        edges.as_slice(),
-        chosen,
-        section(sections, 3),
-        from_of(section(sections, 4)),
-    )
+pub(crate) fn select_row(alloc: Global, sections: &str) -> Mem<String> {
+    let (order, others) = split_section(sections);
+    let (edge_words, others) = split_section(others);
+    let order = numbers(alloc, order)?;
+    let edges = edges(alloc, edge_words)?;
+    chosen(alloc, order.as_slice(), edges.as_slice(), others)
 }

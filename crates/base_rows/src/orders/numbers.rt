@@ -2,21 +2,10 @@
 use mvn_shared::Mem;
 use std::alloc::Global;
 
-/// The sections of a row, with a slash between two of them.
-pub(crate) fn sections<'a>(alloc: Global, row: &'a str) -> Mem<Vec<&'a str>> {
-    let mut sections = Vec::new(alloc);
-    for section in row.split('/') {
-        sections.push(section.trim())?;
-    }
-    Ok(sections)
-}
-
-/// A section, empty where there is none.
-pub(crate) fn section<'a>(sections: &[&'a str], at: usize) -> &'a str {
-    match sections.get(at) {
-        Some(section) => *section,
-        None => "",
-    }
+/// The first section of a row and the others, with a slash between two of them; each is empty where there is none.
+pub(crate) fn split_section(row: &str) -> (&str, &str) {
+    let (section, others) = row.split_once('/').unwrap_or((row, ""));
+    (section.trim(), others)
 }
 
 /// A number, or 0.

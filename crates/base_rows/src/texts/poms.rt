@@ -55,7 +55,7 @@ fn nodes(alloc: Global, nodes: &[Node]) -> Mem<String> {
 
 /// All elements, or why there are none.
 pub(crate) fn outline(alloc: Global, bytes: &[u8]) -> Mem<String> {
-    match read_text(alloc, bytes) {
+    match &read_text(alloc, bytes) {
         Ok(text) => nodes(alloc, text.nodes.as_slice()),
         Err(fault) => Ok(format!(in alloc; "{fault}")?),
     }
@@ -83,8 +83,8 @@ fn counts(alloc: Global, text: &PomText) -> Mem<String> {
 
 /// How many elements and attributes a POM text has, and how many bytes their names and texts, or why it is none.
 pub(crate) fn count(alloc: Global, bytes: &[u8]) -> Mem<String> {
-    match read_text(alloc, bytes) {
-        Ok(text) => counts(alloc, &text),
+    match &read_text(alloc, bytes) {
+        Ok(text) => counts(alloc, text),
         Err(fault) => Ok(format!(in alloc; "{fault}")?),
     }
 }

@@ -6,12 +6,12 @@ use std::cmp::Ordering;
 use version_order::{Requirement, Version};
 
 // How two versions compare, asked both ways.
-fn mark(a: &Version, b: &Version) -> char {
+fn mark(a: &Version, b: &Version) -> &'static str {
     match (a.order(b), b.order(a)) {
-        (Ordering::Less, Ordering::Greater) => '<',
-        (Ordering::Equal, Ordering::Equal) => '=',
-        (Ordering::Greater, Ordering::Less) => '>',
-        _ => '?',
+        (Ordering::Less, Ordering::Greater) => "<",
+        (Ordering::Equal, Ordering::Equal) => "=",
+        (Ordering::Greater, Ordering::Less) => ">",
+        _ => "?",
     }
 }
 
@@ -28,8 +28,9 @@ fn listed(alloc: Global, versions: &[Version]) -> Mem<String> {
     let mut shown = String::new(alloc);
     for at in 0..versions.len() {
         if at > 0 {
-            let mark = mark(&versions[at - 1], &versions[at]);
-            shown.push_str(format!(in alloc; " {mark} ")?.as_str())?;
+            shown.push_str(" ")?;
+            shown.push_str(mark(&versions[at - 1], &versions[at]))?;
+            shown.push_str(" ")?;
         }
         shown.push_str(versions[at].as_text().as_str())?;
     }
@@ -47,8 +48,7 @@ fn sorted(alloc: Global, texts: &[Text]) -> Mem<String> {
 fn compared(alloc: Global, a: &Text, b: &Text) -> Mem<String> {
     let a = Version::parse(alloc, a)?;
     let b = Version::parse(alloc, b)?;
-    let mark = mark(&a, &b);
-    Ok(format!(in alloc; "{mark}")?)
+    word(alloc, mark(&a, &b))
 }
 
 // Five bytes among which versions split in each way.
@@ -78,7 +78,7 @@ fn among_short(alloc: Global, text: &Text) -> Mem<String> {
     let mut shown = String::new(alloc);
     for number in 0..625u32 {
         let other = Version::parse(alloc, &short_text(alloc, number)?)?;
-        shown.push(mark(&version, &other))?;
+        shown.push_str(mark(&version, &other))?;
     }
     Ok(shown)
 }
@@ -104,8 +104,8 @@ fn marked(alloc: Global, requirement: &Requirement, texts: &[Text]) -> Mem<Strin
 
 // Whether a requirement is hard, and which of the versions it admits; or from where on it is none.
 fn admitted(alloc: Global, requirement: &Text, texts: &[Text]) -> Mem<String> {
-    match Requirement::parse(alloc, requirement) {
-        Ok(requirement) => marked(alloc, &requirement, texts),
+    match &Requirement::parse(alloc, requirement) {
+        Ok(requirement) => marked(alloc, requirement, texts),
         Err(error) => Ok(format!(in alloc; "{error}")?),
     }
 }
@@ -123,8 +123,8 @@ fn highest_of(alloc: Global, requirement: &Requirement, versions: &[Version]) ->
 // The place of the highest version that a requirement admits.
 fn highest(alloc: Global, requirement: &Text, texts: &[Text]) -> Mem<String> {
     let versions = versions(alloc, texts)?;
-    match Requirement::parse(alloc, requirement) {
-        Ok(requirement) => highest_of(alloc, &requirement, versions.as_slice()),
+    match &Requirement::parse(alloc, requirement) {
+        Ok(requirement) => highest_of(alloc, requirement, versions.as_slice()),
         Err(error) => Ok(format!(in alloc; "{error}")?),
     }
 }

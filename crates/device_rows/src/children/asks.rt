@@ -2,6 +2,7 @@
 ghost use Rattle.std.specs.Prelude.{IfOk};
 ghost use Rattle.goal_types.specs.Goals.{HasOwnSlots};
 
+use crate::children::calls;
 use crate::gav;
 use child_mem::{ChildScript, MemSpawner};
 use child_outside::ChildRecord;
@@ -11,19 +12,19 @@ use mvn_base::Phase;
 use mvn_outside::{DeviceFault, Gate};
 use mvn_shared::{Bytes, List, Mem, Text};
 use outside_mem::Calls;
+use row_fields::unescaped;
 use std::alloc::Global;
 
 // The goal surefire:test.
 fn goal_call(alloc: Global) -> Mem<GoalCall> {
     let group = Text::from_str(alloc, "org.apache.maven.plugins")?;
     let artifact = Text::from_str(alloc, "maven-surefire-plugin")?;
-    let version = Text::from_str(alloc, "")?;
     let goal = Text::from_str(alloc, "test")?;
     let execution = Text::from_str(alloc, "default-test")?;
     Ok(GoalCall {
         group,
         artifact,
-        version,
+        version: Text::of(String::new(alloc)),
         goal,
         execution,
         phase: Phase::Test,
@@ -47,29 +48,47 @@ fn request(alloc: Global) -> Mem<GoalRequest>
     })
 }
 
-// What the gate answered, in words.
-fn said(alloc: Global, answer: &Result<GoalAnswer, DeviceFault>) -> Mem<String> {
+// An answer in words.
+fn spelled(alloc: Global, answer: &GoalAnswer) -> Mem<String> {
     match answer {
-        Ok(GoalAnswer::Done) => Ok(String::from_str(alloc, "done")?),
-        Ok(GoalAnswer::Produced(bytes)) => {
+        GoalAnswer::Done => Ok(String::from_str(alloc, "done")?),
+        GoalAnswer::Produced(bytes) => {
             let len = bytes.len();
             Ok(format!(in alloc; "produced {len}")?)
         }
-        Ok(GoalAnswer::Failed(text)) => Ok(format!(in alloc; "failed {text}")?),
+        GoalAnswer::Failed(text) => Ok(format!(in alloc; "failed {text}")?),
+    }
+}
+
+// What the gate answered, in words.
+fn said(alloc: Global, answer: &Result<GoalAnswer, DeviceFault>) -> Mem<String> {
+    match answer {
+        Ok(answer) => spelled(alloc, answer),
         Err(fault) => Ok(format!(in alloc; "{fault}")?),
     }
 }
 
-// What is told of the children: whether each was given the request, whether its input is closed, and how many bytes were read.
-fn told(alloc: Global, wanted: &[u8], records: &[ChildRecord]) -> Mem<String> {
-    let mut out = String::new(alloc);
-    for child in records {
-        let given = child.given.as_slice() == wanted;
-        let closed = child.closed;
-        let taken = child.taken;
-        out.push_str(&format!(in alloc; " given {given} closed {closed} read {taken}")?)?;
+// Whether a child was given the request, whether its input is closed, and how many bytes were read.
+fn push_child(alloc: Global, shown: &mut String, wanted: &[u8], child: &ChildRecord) -> Mem<()> {
+    let given = child.given.as_slice() == wanted;
+    let closed = child.closed;
+    let taken = child.taken;
+    let told = format!(in alloc; " given {given} closed {closed} read {taken}")?;
+    Ok(shown.push_str(told.as_str())?)
+}
+
+// The same of the children, and how many are left.
+fn push_children(
+    alloc: Global,
+    shown: &mut String,
+    wanted: &[u8],
+    spawner: &MemSpawner<Calls>,
+) -> Mem<()> {
+    for child in spawner.records() {
+        push_child(alloc, shown, wanted, child)?;
     }
-    Ok(out)
+    let left = spawner.children();
+    Ok(shown.push_str(format!(in alloc; " left {left}")?.as_str())?)
 }
 
 // A spawner of one child, some of whose calls fail.
@@ -86,42 +105,39 @@ fn shown(
     wanted: &[u8],
     spawner: &MemSpawner<Calls>,
 ) -> Mem<Bytes> {
-    let said = said(alloc, answer)?;
-    let told = told(alloc, wanted, spawner.records())?;
-    let left = spawner.children();
-    let shown = format!(in alloc; "{said};{told} left {left}")?;
+    let mut shown = said(alloc, answer)?;
+    shown.push_str(";")?;
+    push_children(alloc, &mut shown, wanted, spawner)?;
     Bytes::from_slice(alloc, shown.as_bytes())
 }
 
 // What a call of the gate comes to.
-fn asked(alloc: Global, script: ChildScript, failing: &List<u64>) -> Mem<Bytes> {
-    let spawner = spawner(alloc, script, failing)?;
+fn called(alloc: Global, gate: &mut ProcessGate<MemSpawner<Calls>>) -> Mem<Bytes> {
     let request = request(alloc)?;
     let wanted = request_bytes(alloc, &request)?;
-    let mut gate = ProcessGate::new(alloc, spawner);
     let answer = gate.call(&request);
     shown(alloc, &answer, wanted.as_slice(), gate.spawner())
 }
 
+// The same of a gate with one child, some of whose calls fail.
+fn asked(alloc: Global, script: ChildScript, failing: &List<u64>) -> Mem<Bytes> {
+    let spawner = spawner(alloc, script, failing)?;
+    let mut gate = ProcessGate::new(alloc, spawner);
+    called(alloc, &mut gate)
+}
+
 /// The gate's answer to an output and a status.
-pub(crate) fn ask(alloc: Global, fields: &[Bytes]) -> Mem<Bytes> {
-    let (status, output) = match fields {
-        [status, output] => (status.as_slice(), output.clone()?),
-        [status] => (status.as_slice(), Bytes::of(Vec::new(alloc))),
-        _ => return Bytes::from_slice(alloc, b"no such row"),
-    };
-    let status = std::str::from_utf8(status)
-        .unwrap_or("")
-        .parse::<i32>()
-        .unwrap_or(0);
+pub(crate) fn ask(alloc: Global, fields: &str) -> Mem<Bytes> {
+    let (status, output) = fields.split_once(' ').unwrap_or((fields, ""));
+    let status = status.parse::<i32>().unwrap_or(0);
+    let output = unescaped(alloc, output)?;
     asked(alloc, ChildScript { output, status }, &List::new(alloc))
 }
 
 /// The gate's answer where one call of the spawner fails.
 pub(crate) fn fail(alloc: Global, number: &str) -> Mem<Bytes> {
-    let mut failing = List::new(alloc);
-    failing.push(number.parse::<u64>().unwrap_or(0))?;
-    let output = Bytes::from_slice(alloc, b"{\"answer\":\"done\"}\n")?;
+    let failing = calls(alloc, number)?;
+    let output = Bytes::from_slice(alloc, "{\"answer\":\"done\"}\n".as_bytes())?;
     asked(alloc, ChildScript { output, status: 0 }, &failing)
 }
 
@@ -144,10 +160,7 @@ pub(crate) fn produced(alloc: Global, count: &str) -> Mem<Bytes> {
 /// The gate's answer to so many bytes that are none, of a child that ends with 7; with a second number, where that call of the spawner fails.
 pub(crate) fn long(alloc: Global, numbers: &str) -> Mem<Bytes> {
     let (count, call) = numbers.split_once(' ').unwrap_or((numbers, ""));
+    let failing = calls(alloc, call)?;
     let output = lengthened(alloc, "", count)?;
-    let mut failing = List::new(alloc);
-    if let Ok(call) = call.parse::<u64>() {
-        failing.push(call)?;
-    }
     asked(alloc, ChildScript { output, status: 7 }, &failing)
 }

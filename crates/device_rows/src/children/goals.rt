@@ -1,17 +1,11 @@
 // The goal program over streams in memory.
+use crate::children::calls;
 use child_mem::MemSource;
 use goal_program::goal_main;
 use mvn_shared::{Bytes, List, Mem};
-use outside_mem::MemSink;
+use outside_mem::{Calls, MemSink};
+use row_fields::unescaped;
 use std::alloc::Global;
-
-// The number that a field spells.
-fn number(field: &Bytes) -> u64 {
-    std::str::from_utf8(field.as_slice())
-        .unwrap_or("")
-        .parse::<u64>()
-        .unwrap_or(0)
-}
 
 // A status, and what was written.
 fn told(alloc: Global, status: u8, written: &[u8]) -> Mem<Bytes> {
@@ -21,46 +15,35 @@ fn told(alloc: Global, status: u8, written: &[u8]) -> Mem<Bytes> {
     Ok(shown)
 }
 
-/// How the program ends with these bytes, and what it writes.
-pub(crate) fn run(alloc: Global, fields: &[Bytes]) -> Mem<Bytes> {
-    let input = match fields {
-        [input] => input.clone()?,
-        _ => Bytes::of(Vec::new(alloc)),
-    };
-    let mut source = MemSource::without_failures(input);
-    let mut sink = MemSink::without_failures(alloc);
-    let status = goal_main(alloc, &mut source, &mut sink);
+// How the program ends with what a source gives where these writes fail, and what it writes.
+fn ended(alloc: Global, source: &mut MemSource<Calls>, writes: &List<u64>) -> Mem<Bytes> {
+    let mut sink = MemSink::new(alloc, writes)?;
+    let status = goal_main(alloc, source, &mut sink);
     told(alloc, status, sink.bytes())
 }
 
-// The same where these reads and these writes fail.
-fn ended(alloc: Global, input: Bytes, reads: &List<u64>, writes: &List<u64>) -> Mem<Bytes> {
+// The same with the bytes of a field, where these reads fail too.
+fn given(alloc: Global, field: &str, reads: &List<u64>, writes: &List<u64>) -> Mem<Bytes> {
+    let input = unescaped(alloc, field)?;
     let mut source = MemSource::new(alloc, input, reads)?;
-    let mut sink = MemSink::new(alloc, writes)?;
-    let status = goal_main(alloc, &mut source, &mut sink);
-    told(alloc, status, sink.bytes())
+    ended(alloc, &mut source, writes)
+}
+
+/// How the program ends with these bytes, and what it writes.
+pub(crate) fn run(alloc: Global, field: &str) -> Mem<Bytes> {
+    given(alloc, field, &List::new(alloc), &List::new(alloc))
 }
 
 /// The same where a read fails.
-pub(crate) fn failing_read(alloc: Global, fields: &[Bytes]) -> Mem<Bytes> {
-    match fields {
-        [at, input] => {
-            let mut reads = List::new(alloc);
-            reads.push(number(at))?;
-            ended(alloc, input.clone()?, &reads, &List::new(alloc))
-        }
-        _ => Bytes::from_slice(alloc, b"no such row"),
-    }
+pub(crate) fn failing_read(alloc: Global, fields: &str) -> Mem<Bytes> {
+    let (call, field) = fields.split_once(' ').unwrap_or((fields, ""));
+    let reads = calls(alloc, call)?;
+    given(alloc, field, &reads, &List::new(alloc))
 }
 
 /// The same where a write fails.
-pub(crate) fn failing_write(alloc: Global, fields: &[Bytes]) -> Mem<Bytes> {
-    match fields {
-        [at, input] => {
-            let mut writes = List::new(alloc);
-            writes.push(number(at))?;
-            ended(alloc, input.clone()?, &List::new(alloc), &writes)
-        }
-        _ => Bytes::from_slice(alloc, b"no such row"),
-    }
+pub(crate) fn failing_write(alloc: Global, fields: &str) -> Mem<Bytes> {
+    let (call, field) = fields.split_once(' ').unwrap_or((fields, ""));
+    let writes = calls(alloc, call)?;
+    given(alloc, field, &List::new(alloc), &writes)
 }

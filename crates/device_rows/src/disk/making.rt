@@ -1,4 +1,5 @@
 // Rows that make what the others look at.
+use crate::disk::word;
 use std::fs;
 use std::os::unix::fs::symlink;
 
@@ -13,12 +14,13 @@ fn make_folders_above(rt: &HostRuntime, path: &str) -> anyhow::Result<()> {
 pub(crate) fn file(rt: &HostRuntime, path: &str) -> anyhow::Result<String> {
     make_folders_above(rt, path)?;
     fs::write(rt, path, "bytes")?;
-    Ok(String::from_str(rt.alloc(), "made")?)
+    Ok(word(rt.alloc(), "made")?)
 }
 
 /// Makes a link.
-pub(crate) fn link(rt: &HostRuntime, path: &str, target: &str) -> anyhow::Result<String> {
+pub(crate) fn link(rt: &HostRuntime, rest: &str) -> anyhow::Result<String> {
+    let (path, target) = rest.split_once(' ').unwrap_or((rest, ""));
     make_folders_above(rt, path)?;
     symlink(rt, target, path)?;
-    Ok(String::from_str(rt.alloc(), "made")?)
+    Ok(word(rt.alloc(), "made")?)
 }

@@ -1,9 +1,10 @@
 // Rows about repositories: what is published, and what a remote gives.
+use crate::disk::{told_of_file, word};
 use crate::gav;
 use local_repo::{put, settle, stage, sweep};
 use mvn_base::{FileName, Gav, file_of, valid_group, valid_name, valid_version};
-use mvn_outside::{Area, ReadFault, Remote};
-use mvn_shared::{Mem, Text};
+use mvn_outside::{Area, ListFault, Remote, Shelf};
+use mvn_shared::{List, Mem, Text};
 use outside_real::{RealArea, RealRemote, RealShelf};
 use std::alloc::Global;
 
@@ -12,10 +13,9 @@ fn demo(alloc: Global, artifact: &str) -> Mem<Gav> {
     gav(alloc, "org.demo", artifact, "1.0")
 }
 
-// The name of the POM of an artifact of org.demo in version 1.0.
-fn pom_name(alloc: Global, artifact: &str) -> Mem<Option<FileName>> {
-    let gav = demo(alloc, artifact)?;
-    let none = Text::from_str(alloc, "")?;
+// The name of the POM of an artifact.
+fn pom_of(alloc: Global, gav: &Gav) -> Mem<Option<FileName>> {
+    let none = Text::of(String::new(alloc));
     let pom = Text::from_str(alloc, "pom")?;
     let named = valid_group(gav.group.as_bytes())
         && valid_name(gav.artifact.as_bytes())
@@ -25,87 +25,108 @@ fn pom_name(alloc: Global, artifact: &str) -> Mem<Option<FileName>> {
     if !named {
         return Ok(None);
     }
-    Ok(Some(file_of(alloc, &gav, &none, &pom)?))
+    Ok(Some(file_of(alloc, gav, &none, &pom)?))
+}
+
+// The name of the POM of an artifact of org.demo in version 1.0.
+fn pom_name(alloc: Global, artifact: &str) -> Mem<Option<FileName>> {
+    let gav = demo(alloc, artifact)?;
+    pom_of(alloc, &gav)
 }
 
 // The first staging folder of the repository in a folder, as a process of this name uses it.
 fn area<'a>(rt: &'a HostRuntime, folder: &str, process: &str) -> Mem<RealArea<'a, HostRuntime>> {
+    let process = Text::from_str(rt.alloc(), process)?;
     let staging = Text::of(format!(in rt.alloc(); "{folder}/.staging/0")?);
-    Ok(RealArea::new(rt, staging, Text::from_str(rt.alloc(), process)?))
+    Ok(RealArea::new(rt, staging, process))
 }
 
-// Whether the repository takes the bytes under the name, and settles.
-fn takes(rt: &HostRuntime, folder: &str, name: &FileName, bytes: &[u8]) -> Mem<bool> {
-    let root = Text::from_str(rt.alloc(), folder)?;
-    let mut shelf = RealShelf::new(rt, root);
-    let mut area = area(rt, folder, "one")?;
-    let Ok(piece) = stage(&mut area, bytes) else {
-        return Ok(false);
-    };
-    if put(&mut shelf, &mut area, piece, name).is_err() {
-        return Ok(false);
+// Whether a shelf takes the bytes under the name, and settles.
+fn takes<S: Shelf>(shelf: &mut S, area: &mut S::Area, name: &FileName, bytes: &[u8]) -> bool {
+    match stage(area, bytes) {
+        Ok(piece) => put(shelf, area, piece, name).is_ok() && settle(shelf).is_ok(),
+        Err(_) => false,
     }
-    Ok(settle(&mut shelf).is_ok())
 }
 
-fn answer(alloc: Global, is_done: bool, word: &str) -> anyhow::Result<String> {
-    let word = if is_done { word } else { "a fault" };
-    Ok(String::from_str(alloc, word)?)
+// The same of the repository in a folder.
+fn is_taken(rt: &HostRuntime, folder: &str, name: &FileName, bytes: &[u8]) -> Mem<bool> {
+    let root = Text::from_str(rt.alloc(), folder)?;
+    let mut area = area(rt, folder, "one")?;
+    let mut shelf = RealShelf::new(rt, root);
+    Ok(takes(&mut shelf, &mut area, name, bytes))
 }
 
-/// Whether a repository takes bytes as the POM of an artifact.
-pub(crate) fn publish(
-    rt: &HostRuntime,
-    folder: &str,
-    artifact: &str,
-    bytes: &str,
-) -> anyhow::Result<String> {
-    let taken = match pom_name(rt.alloc(), artifact)? {
-        Some(name) => takes(rt, folder, &name, bytes.as_bytes())?,
-        None => false,
-    };
-    answer(rt.alloc(), taken, "published")
+fn answer(alloc: Global, is_done: bool, done: &str) -> Mem<String> {
+    word(alloc, if is_done { done } else { "a fault" })
+}
+
+// Whether a repository takes bytes as the POM of an artifact.
+fn is_published(rt: &HostRuntime, folder: &str, artifact: &str, bytes: &str) -> Mem<bool> {
+    match &pom_name(rt.alloc(), artifact)? {
+        Some(name) => is_taken(rt, folder, name, bytes.as_bytes()),
+        None => Ok(false),
+    }
+}
+
+/// The same in words.
+pub(crate) fn publish(rt: &HostRuntime, folder: &str, artifact: &str, bytes: &str) -> Mem<String> {
+    let is_published = is_published(rt, folder, artifact, bytes)?;
+    answer(rt.alloc(), is_published, "published")
 }
 
 /// Whether a repository's first staging folder can be swept.
-pub(crate) fn swept(rt: &HostRuntime, folder: &str) -> anyhow::Result<String> {
+pub(crate) fn swept(rt: &HostRuntime, folder: &str) -> Mem<String> {
     let mut area = area(rt, folder, "one")?;
     answer(rt.alloc(), sweep(&mut area).is_ok(), "swept")
 }
 
 /// The same while another user of the folder holds a piece there.
-pub(crate) fn swept_beside(rt: &HostRuntime, folder: &str) -> anyhow::Result<String> {
+pub(crate) fn swept_beside(rt: &HostRuntime, folder: &str) -> Mem<String> {
     let mut other = area(rt, folder, "two")?;
-    let is_held = other.begin().is_ok();
-    let mut area = area(rt, folder, "one")?;
-    answer(rt.alloc(), is_held && sweep(&mut area).is_ok(), "swept")
+    if other.begin().is_err() {
+        return word(rt.alloc(), "a fault");
+    }
+    swept(rt, folder)
+}
+
+// What a remote gives of a name.
+fn fetched(rt: &HostRuntime, folder: &str, name: &FileName, limit: u64) -> Mem<String> {
+    let root = Text::from_str(rt.alloc(), folder)?;
+    let mut remote = RealRemote::new(rt, root);
+    told_of_file(rt.alloc(), &remote.fetch(name, limit))
 }
 
 /// What a remote gives of the POM of `a`.
-pub(crate) fn fetch(rt: &HostRuntime, folder: &str, limit: u64) -> anyhow::Result<String> {
-    let mut remote = RealRemote::new(rt, Text::from_str(rt.alloc(), folder)?);
-    let Some(name) = pom_name(rt.alloc(), "a")? else {
-        return Ok(String::from_str(rt.alloc(), "no name")?);
-    };
-    let answer = match remote.fetch(&name, limit) {
-        Ok(Some(bytes)) => return Ok(format!(in rt.alloc(); "{} bytes", bytes.len())?),
-        Ok(None) => "no file",
-        Err(ReadFault::TooLarge) => "too large",
-        Err(_) => "a fault",
-    };
-    Ok(String::from_str(rt.alloc(), answer)?)
+pub(crate) fn fetch(rt: &HostRuntime, folder: &str, limit: u64) -> Mem<String> {
+    match &pom_name(rt.alloc(), "a")? {
+        Some(name) => fetched(rt, folder, name, limit),
+        None => word(rt.alloc(), "no name"),
+    }
+}
+
+fn counted(alloc: Global, found: &Result<List<Text>, ListFault>) -> Mem<String> {
+    match found {
+        Ok(versions) => {
+            let count = versions.len();
+            Ok(format!(in alloc; "{count} versions")?)
+        }
+        Err(_) => word(alloc, "a fault"),
+    }
+}
+
+// How many versions of an artifact a remote lists.
+fn versions_of<R: Remote>(alloc: Global, remote: &mut R, gav: &Gav) -> Mem<String> {
+    if valid_group(gav.group.as_bytes()) && valid_name(gav.artifact.as_bytes()) {
+        return counted(alloc, &remote.versions(&gav.group, &gav.artifact));
+    }
+    word(alloc, "no name")
 }
 
 /// How many versions of the artifact `a` a remote lists.
-pub(crate) fn versions(rt: &HostRuntime, folder: &str) -> anyhow::Result<String> {
+pub(crate) fn versions(rt: &HostRuntime, folder: &str) -> Mem<String> {
     let gav = demo(rt.alloc(), "a")?;
-    let mut remote = RealRemote::new(rt, Text::from_str(rt.alloc(), folder)?);
-    if !valid_group(gav.group.as_bytes()) || !valid_name(gav.artifact.as_bytes()) {
-        return Ok(String::from_str(rt.alloc(), "no name")?);
-    }
-    let count = match remote.versions(&gav.group, &gav.artifact) {
-        Ok(versions) => versions.len(),
-        Err(_) => return Ok(String::from_str(rt.alloc(), "a fault")?),
-    };
-    Ok(format!(in rt.alloc(); "{count} versions")?)
+    let root = Text::from_str(rt.alloc(), folder)?;
+    let mut remote = RealRemote::new(rt, root);
+    versions_of(rt.alloc(), &mut remote, &gav)
 }

@@ -1,47 +1,43 @@
 // Rows about the files of a tree.
-use mvn_outside::{Files, ReadFault, Tree};
-use mvn_shared::Text;
+use crate::disk::{told_of_file, word};
+use mvn_outside::{Files, ListFault, Tree};
+use mvn_shared::{List, Mem, Text};
 use outside_real::RealTree;
+use std::alloc::Global;
 
-fn has(rt: &HostRuntime, path: &Text) -> anyhow::Result<String> {
-    let mut tree = RealTree::new(rt, Text::from_str(rt.alloc(), ".")?);
-    let answer = match tree.has(path) {
-        Ok(true) => "there",
-        Ok(false) => "not there",
-        Err(_) => "a fault",
-    };
-    Ok(String::from_str(rt.alloc(), answer)?)
+fn has<T: Files>(alloc: Global, tree: &mut T, path: &Text) -> Mem<String> {
+    match tree.has(path) {
+        Ok(true) => word(alloc, "there"),
+        Ok(false) => word(alloc, "not there"),
+        Err(_) => word(alloc, "a fault"),
+    }
 }
 
-fn list(rt: &HostRuntime, path: &Text) -> anyhow::Result<String> {
-    let mut tree = RealTree::new(rt, Text::from_str(rt.alloc(), ".")?);
-    let mut shown = String::from_str(rt.alloc(), "files:")?;
-    if let Ok(names) = tree.list(path) {
+// The names of files; none where they weren't listed.
+fn listed(alloc: Global, found: &Result<List<Text>, ListFault>) -> Mem<String> {
+    let mut shown = String::from_str(alloc, "files:")?;
+    if let Ok(names) = found {
         for name in names.as_slice() {
-            shown.push(' ')?;
+            shown.push_str(" ")?;
             shown.push_str(name.as_str())?;
         }
     }
     Ok(shown)
 }
 
-fn read(rt: &HostRuntime, path: &Text) -> anyhow::Result<String> {
-    let mut tree = RealTree::new(rt, Text::from_str(rt.alloc(), ".")?);
-    let answer = match tree.read(path, 5) {
-        Ok(Some(bytes)) => return Ok(format!(in rt.alloc(); "{} bytes", bytes.len())?),
-        Ok(None) => "no file",
-        Err(ReadFault::TooLarge) => "too large",
-        Err(_) => "a fault",
-    };
-    Ok(String::from_str(rt.alloc(), answer)?)
+// What is told of a row about the file or the folder at a path.
+fn told_at<T: Tree>(alloc: Global, tree: &mut T, kind: &str, path: &Text) -> Mem<String> {
+    match kind {
+        "has" => has(alloc, tree, path),
+        "list" => listed(alloc, &tree.list(path)),
+        _ => told_of_file(alloc, &tree.read(path, 5)),
+    }
 }
 
 /// What is told of a row.
-pub(crate) fn told(rt: &HostRuntime, kind: &str, path: &str) -> anyhow::Result<String> {
+pub(crate) fn told(rt: &HostRuntime, kind: &str, path: &str) -> Mem<String> {
     let path = Text::from_str(rt.alloc(), path)?;
-    match kind {
-        "has" => has(rt, &path),
-        "list" => list(rt, &path),
-        _ => read(rt, &path),
-    }
+    let root = Text::from_str(rt.alloc(), ".")?;
+    let mut tree = RealTree::new(rt, root);
+    told_at(rt.alloc(), &mut tree, kind, &path)
 }

@@ -4,55 +4,46 @@ use mvn_shared::{List, Mem, Text};
 use pom_source::Given;
 use std::alloc::Global;
 
-// What the system is.
-#[derive(Drop)]
-struct System {
-    name: Text,
-    family: Text,
-    arch: Text,
-    version: Text,
+fn no_text(alloc: Global) -> Text {
+    Text::of(String::new(alloc))
 }
 
-fn linux(alloc: Global) -> Mem<System> {
-    let name = Text::from_str(alloc, "Linux")?;
-    let family = Text::from_str(alloc, "unix")?;
-    let arch = Text::from_str(alloc, "amd64")?;
-    let version = Text::from_str(alloc, "6.1")?;
-    Ok(System {
-        name,
-        family,
-        arch,
-        version,
-    })
-}
-
-// A machine with Linux, whose root is `/w`.
-fn machine(alloc: Global) -> Mem<Machine> {
-    let root = Text::from_str(alloc, "/w")?;
-    let jdk = Text::from_str(alloc, "17.0.1")?;
-    let system = linux(alloc)?;
-    Ok(Machine {
-        root,
+// A machine of which nothing is known.
+fn unknown(alloc: Global) -> Machine {
+    Machine {
+        root: no_text(alloc),
         env: List::new(alloc),
         system: List::new(alloc),
-        jdk,
-        os_name: system.name,
-        os_family: system.family,
-        os_arch: system.arch,
-        os_version: system.version,
-    })
+        jdk: no_text(alloc),
+        os_name: no_text(alloc),
+        os_family: no_text(alloc),
+        os_arch: no_text(alloc),
+        os_version: no_text(alloc),
+    }
+}
+
+// What the system is.
+fn describe(alloc: Global, machine: &mut Machine) -> Mem<()> {
+    machine.root = Text::from_str(alloc, "/w")?;
+    machine.jdk = Text::from_str(alloc, "17.0.1")?;
+    machine.os_name = Text::from_str(alloc, "Linux")?;
+    machine.os_family = Text::from_str(alloc, "unix")?;
+    machine.os_arch = Text::from_str(alloc, "amd64")?;
+    machine.os_version = Text::from_str(alloc, "6.1")?;
+    Ok(())
 }
 
 /// No variables, no defined properties and no chosen profiles, and a machine with Linux whose root is `/w`.
 pub(crate) fn given(alloc: Global) -> Mem<Given> {
-    let machine = machine(alloc)?;
     let choice = Choice {
         on: List::new(alloc),
         off: List::new(alloc),
     };
-    Ok(Given {
-        machine,
+    let mut given = Given {
+        machine: unknown(alloc),
         defines: List::new(alloc),
         choice,
-    })
+    };
+    describe(alloc, &mut given.machine)?;
+    Ok(given)
 }

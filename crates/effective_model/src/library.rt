@@ -11,14 +11,7 @@ use std::alloc::Global;
 
 // The group that folders stand for.
 fn group_of(alloc: Global, folders: &str) -> Mem<Text> {
-    let mut group = String::new(alloc);
-    for folder in folders.split('/') {
-        if !group.is_empty() {
-            group.push('.')?;
-        }
-        group.push_str(folder)?;
-    }
-    Ok(Text::of(group))
+    Ok(Text::of(folders.replace(alloc, '/', ".")?))
 }
 
 // Whether a file has the name of the POM of an artifact's version.

@@ -32,6 +32,12 @@ modules() {
   awk -v n="$1" 'BEGIN { srand(7); for (m = 0; m < n; m++) { if (m) print "project"; for (k = 0; k < 10; k++) print "needs g a" 1 + int(rand() * 300) " 1 jar - - -"; for (i = 1; i <= 300; i++) { print "pom g a" i " 1"; for (k = 1; k <= 3 && i + 7 * k <= 300; k++) print "needs g a" i + 7 * k " 1 jar - - -" } } }'
 }
 
+# MODULES: so many such modules over one set of libraries, of which only the number of winners is told
+sharing() {
+  modules 1 | sed '1,10d'
+  awk -v n="$1" 'BEGIN { srand(7); for (m = 0; m < n; m++) { print "module counted"; for (k = 0; k < 10; k++) print "needs g a" 1 + int(rand() * 300) " 1 jar - - -" } }'
+}
+
 printf 'needs g a1 1 jar - - -\n' > in
 base=$(least 15)
 for shape in chain diamonds excluded; do
@@ -49,7 +55,14 @@ for winners in 1000 2000 4000; do
   echo "that with $((kib / 1024)) MiB at most"
 done
 first=
-for number in 10 20 40 1000; do
+for number in 10 20 40; do
   modules "$number" > in
-  row 'modules of ten dependencies' "$number" $(($(least $((number > 40 ? 3 : 15))) - base))
+  row 'modules of ten dependencies' "$number" $(($(least 15) - base))
+done
+sharing 0 > in
+base=$(least 15)
+first=
+for number in 250 500 1000; do
+  sharing "$number" > in
+  row 'modules over one set of libraries' "$number" $(($(least 15) - base))
 done

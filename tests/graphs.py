@@ -1,7 +1,7 @@
 #!/usr/bin/env python3
 """What random small dependency graphs resolve to, told by the definition over all counting paths and all walks.
 
-usage: graphs.py COUNT SEED INPUT WANTED [refused]
+usage: graphs.py COUNT SEED INPUT WANTED [refused|modules]
 
 Writes the input of the program `classpath_list` and the answer that it has to give. Nothing here is a queue: a path is a
 list of declarations from the project on, what it leads to is found from the whole path, and the winner of a key is the
@@ -10,7 +10,8 @@ length and positions, is refused for which some counting declaration states a ra
 The winners stand in the order in which a walk through the tree meets them, each with its scope; then what stands on
 each classpath, the files to fetch, and what isn't known of their POMs.
 
-With the word `refused` some POMs are there and are refused. No program reads that yet.
+With the word `refused` some POMs are there and are refused. No program reads that yet. With the word `modules` two further projects follow
+each one over its libraries, the second of which declares and manages what the first project does.
 """
 import random
 import sys
@@ -246,16 +247,25 @@ def random_declaration(pick, names, managed=False):
     }
 
 
+def random_declarations(pick, names, most=4):
+    return [random_declaration(pick, names) for _ in range(pick.randint(0, most))]
+
+
 def random_project(pick):
     names = list("abcdefg")[: pick.randint(2, 7)]
-    declare = lambda most: [random_declaration(pick, names) for _ in range(pick.randint(0, most))]
     poms = {}
     for name in names:
         for version in sorted(pick.sample("123", pick.randint(0, 3))):
-            poms[("g", name, version)] = declare(4)
+            poms[("g", name, version)] = random_declarations(pick, names)
+    return random_module(pick, names, poms)
+
+
+def random_module(pick, names, poms):
+    """A project over these libraries."""
     return {
-        "direct": declare(4) or declare(4),
+        "direct": random_declarations(pick, names) or random_declarations(pick, names),
         "managed": [random_declaration(pick, names, True) for _ in range(pick.choice([0, 0, 1, 2]))],
+        "names": names,
         "poms": poms,
         "refused": [],
     }
@@ -275,9 +285,13 @@ def line(word, declaration):
     return " ".join(fields)
 
 
-def spelled(project):
+def spelled_module(project):
     lines = [line("managed", entry) for entry in project["managed"]]
-    lines += [line("needs", declaration) for declaration in project["direct"]]
+    return lines + [line("needs", declaration) for declaration in project["direct"]]
+
+
+def spelled(project):
+    lines = spelled_module(project)
     for (group, artifact, version), declarations in project["poms"].items():
         lines.append(f"pom {group} {artifact} {version}")
         lines += [line("needs", declaration) for declaration in declarations]
@@ -286,16 +300,24 @@ def spelled(project):
 
 def main():
     count, seed, given, wanted = int(sys.argv[1]), int(sys.argv[2]), sys.argv[3], sys.argv[4]
-    with_refused = sys.argv[5:] == ["refused"]
+    with_refused, with_modules = (sys.argv[5:] == [word] for word in ("refused", "modules"))
     pick = random.Random(seed)
     projects = [random_project(pick) for _ in range(count)]
     for project in projects if with_refused else []:
         refuse_some(pick, project)
+    inputs, answers = [], []
+    for project in projects:
+        modules = [random_module(pick, project["names"], project["poms"]), project] if with_modules else []
+        lines = spelled(project)
+        for module in modules:
+            lines += ["module", *spelled_module(module)]
+        inputs.append("".join(text + "\n" for text in lines))
+        answers += [answer(module) for module in [project, *modules]]
     with open(given, "w") as file:
-        file.write("project\n".join("".join(text + "\n" for text in spelled(project)) for project in projects))
+        file.write("project\n".join(inputs))
     with open(wanted, "w") as file:
-        for project in projects:
-            file.write("".join(text + "\n" for text in answer(project)) + "\n")
+        for lines in answers:
+            file.write("".join(text + "\n" for text in lines) + "\n")
 
 
 main()

@@ -1,19 +1,23 @@
-use crate::models::{Declared, build, dependency, gav, model};
+use crate::models::{base, build, dependency, gav, model, word};
 use lookup_mem::MemLibraries;
-use model_types::{Build, Dependency};
+use model_types::{Build, Dependency, ModelBase};
 use mvn_base::Gav;
 use mvn_shared::{List, Mem, Shared, Text};
+use resolution::KeptRows;
 use std::alloc::{AllocError, Global};
 use std::collections::HashMap;
 use std::mem::replace;
 
-/// What was read: the libraries, the project's dependencies and what it manages; and the library that was begun, with
-/// its dependencies so far.
+/// What was read: the libraries, and the rows that the projects over them come to; the project's dependencies and what it manages; and
+/// the library that was begun, with its dependencies so far.
 #[derive(Drop)]
 pub struct Read {
     pub libraries: MemLibraries,
+    pub rows: KeptRows,
     pub direct: List<Shared<Dependency>>,
     pub managed: List<Shared<Dependency>>,
+    /// Whether only the number of the project's winners is told.
+    pub counted: bool,
     /// The versions of each artifact so far, under `group:artifact`.
     versions: HashMap<Text, List<Text>>,
     begun: Option<Gav>,
@@ -24,22 +28,6 @@ pub struct Read {
 // The words of a line.
 fn words<'a>(alloc: Global, line: &'a str) -> Result<Vec<&'a str>, AllocError> {
     line.split(' ').collect(alloc)
-}
-
-// The dependency of a line of seven or eight words.
-fn declared<'a>(words: &[&'a str], optional: &'a str, exclusions: &'a str) -> Option<Declared<'a>> {
-    match words {
-        [_, group, artifact, version, kind, scope, ..] => Some(Declared {
-            group,
-            artifact,
-            version,
-            kind,
-            scope,
-            optional,
-            exclusions,
-        }),
-        _ => None,
-    }
 }
 
 // What an artifact's versions are kept under.
@@ -55,8 +43,10 @@ impl Read {
         let build = build(alloc)?;
         Ok(Read {
             libraries: MemLibraries::new(alloc),
+            rows: KeptRows::new(alloc),
             direct: List::new(alloc),
             managed: List::new(alloc),
+            counted: false,
             versions: HashMap::new(alloc),
             begun: None,
             needs: List::new(alloc),
@@ -78,11 +68,16 @@ impl Read {
         Ok(())
     }
 
+    fn put_model(&mut self, alloc: Global, gav: Gav, base: &Shared<ModelBase>) -> Mem<()> {
+        self.add_version(alloc, &gav)?;
+        let model = model(alloc, &gav, base, &self.build)?;
+        self.libraries.put_model(gav, model)
+    }
+
     // Puts in a library with these dependencies.
     fn put(&mut self, alloc: Global, gav: Gav, needs: List<Shared<Dependency>>) -> Mem<()> {
-        self.add_version(alloc, &gav)?;
-        let model = model(alloc, gav.clone()?, &self.build, needs)?;
-        self.libraries.put_model(gav, model)
+        let base = base(alloc, needs)?;
+        self.put_model(alloc, gav, &base)
     }
 
     /// Ends the library that was begun.
@@ -97,33 +92,42 @@ impl Read {
         }
     }
 
+    /// Begins another project over the libraries that there are, of which nothing is copied.
+    pub(crate) fn go_on(&mut self, alloc: Global, counted: bool) {
+        self.direct = List::new(alloc);
+        self.managed = List::new(alloc);
+        self.counted = counted;
+    }
+
     // Begins a library.
     fn begin(&mut self, alloc: Global, words: &[&str]) -> Mem<()> {
-        if let [_, group, artifact, version] = words {
-            self.end(alloc)?;
-            self.begun = Some(gav(alloc, group, artifact, version)?);
+        if words.len() != 4 {
+            return Ok(());
         }
+        self.end(alloc)?;
+        self.begun = Some(gav(alloc, words)?);
         Ok(())
     }
 
     // One dependency more of what was begun.
     fn add_need(&mut self, alloc: Global, words: &[&str]) -> Mem<()> {
-        if let [_, .., optional, exclusions] = words {
-            if let Some(declared) = declared(words, optional, exclusions) {
-                self.needs.push(dependency(alloc, &declared)?)?;
-            }
+        let count = words.len();
+        if count < 6 {
+            return Ok(());
         }
-        Ok(())
+        let (optional, cut) = (word(words, count - 2), word(words, count - 1));
+        let need = dependency(alloc, words, optional, cut)?;
+        self.needs.push(need)
     }
 
     // One dependency more that the project manages.
     fn add_managed(&mut self, alloc: Global, words: &[&str]) -> Mem<()> {
-        if let [_, .., exclusions] = words {
-            if let Some(declared) = declared(words, "-", exclusions) {
-                self.managed.push(dependency(alloc, &declared)?)?;
-            }
+        let count = words.len();
+        if count < 6 {
+            return Ok(());
         }
-        Ok(())
+        let managed = dependency(alloc, words, "-", word(words, count - 1))?;
+        self.managed.push(managed)
     }
 
     /// One line more.

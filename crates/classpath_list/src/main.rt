@@ -2,9 +2,10 @@
 //! and `-` for what isn't stated: `managed GROUP ARTIFACT VERSION TYPE SCOPE EXCLUSIONS`, what the project manages;
 //! `pom GROUP ARTIFACT VERSION`, where a library begins; `needs GROUP ARTIFACT VERSION TYPE SCOPE OPTIONAL EXCLUSIONS`, a
 //! dependency of that library, or of the project where none has begun. Exclusions are `group:artifact`, with commas
-//! between; a library's versions stand in ascending order. `project` begins another project. Prints for each project its
-//! winners, each with its version, the place of the winner above it, from 1, and its scope; and then what isn't known of
-//! their POMs; or the refusal; then a blank line.
+//! between; a library's versions stand in ascending order. `project` begins another project, with libraries of its own; `module` one
+//! over the libraries that there are, with dependencies of its own and what it manages itself; `module counted` such a one of which
+//! only the number of its winners is told. Prints for each project its winners, each with its version and its scope; the places of those
+//! that stand on each classpath; the files to fetch; and then what isn't known of their POMs; or the refusal; then a blank line.
 #![tactic(auto)]
 
 ghost use Rattle.std.specs.Prelude.{All};
@@ -21,7 +22,7 @@ use managed_deps::{ManagedSet, managed};
 use mediation::MediationFault;
 use mvn_base::Gav;
 use names::are_named;
-use resolution::{KeptRows, mediate};
+use resolution::mediate;
 use std::alloc::Global;
 use std::collections::HashSet;
 
@@ -126,16 +127,25 @@ fn mediated(
     read: &mut Read,
     set: &ManagedSet,
 ) -> Result<Resolution, MediationFault> {
-    let mut rows = KeptRows::new(alloc);
     let direct = read.direct.as_slice();
-    mediate(alloc, direct, set, &mut read.libraries, &mut rows)
+    mediate(alloc, direct, set, &mut read.libraries, &mut read.rows)
+}
+
+// What is told of a project that is resolved.
+fn print_told(rt: &HostRuntime, resolution: &Resolution, counted: bool) -> anyhow::Result<()> {
+    if counted {
+        let count = resolution.winners.len();
+        println!(rt; "{count} winners")?;
+        return Ok(());
+    }
+    print_resolved(rt, resolution)
 }
 
 fn print_read(rt: &HostRuntime, read: &mut Read) -> anyhow::Result<()> {
     let alloc = rt.alloc();
     match managed(alloc, read.managed.as_slice(), &[]) {
         Ok(set) => match mediated(alloc, read, &set) {
-            Ok(resolution) => print_resolved(rt, &resolution),
+            Ok(resolution) => print_told(rt, &resolution, read.counted),
             Err(fault) => print_fault(rt, &fault),
         },
         Err(_) => {
@@ -153,16 +163,31 @@ fn tell(rt: &HostRuntime, read: &mut Read) -> anyhow::Result<()> {
     Ok(())
 }
 
+// A line that begins another project, and any other line.
+fn read_line(rt: &HostRuntime, read: &mut Read, line: &str) -> anyhow::Result<()> {
+    match line {
+        "project" => {
+            tell(rt, read)?;
+            *read = Read::new(rt.alloc())?;
+        }
+        "module" => {
+            tell(rt, read)?;
+            read.go_on(rt.alloc(), false);
+        }
+        "module counted" => {
+            tell(rt, read)?;
+            read.go_on(rt.alloc(), true);
+        }
+        _ => read.line(rt.alloc(), line)?,
+    }
+    Ok(())
+}
+
 fn main(rt: HostRuntime) -> anyhow::Result<()> {
     let mut read = Read::new(rt.alloc())?;
     for line in rt.lines(rt.alloc()) {
         let line = line?;
-        if line.as_str() == "project" {
-            tell(&rt, &mut read)?;
-            read = Read::new(rt.alloc())?;
-        } else {
-            read.line(rt.alloc(), line.as_str())?;
-        }
+        read_line(&rt, &mut read, line.as_str())?;
     }
     tell(&rt, &mut read)
 }

@@ -30,48 +30,85 @@ fn exclusions(alloc: Global, field: &str) -> Mem<List<Exclusion>> {
     Ok(list)
 }
 
-/// The fields of a declared dependency.
-#[derive(Clone, Copy)]
-pub struct Declared<'a> {
-    pub group: &'a str,
-    pub artifact: &'a str,
-    pub version: &'a str,
-    pub kind: &'a str,
-    pub scope: &'a str,
-    pub optional: &'a str,
-    pub exclusions: &'a str,
+/// A word, empty where there is none.
+pub(crate) fn word<'a>(words: &[&'a str], at: usize) -> &'a str {
+    match words.get(at) {
+        Some(word) => *word,
+        None => "",
+    }
 }
 
-/// The dependency that they declare.
-pub(crate) fn dependency(alloc: Global, declared: &Declared) -> Mem<Shared<Dependency>> {
-    let group = Text::from_str(alloc, declared.group)?;
-    let artifact = Text::from_str(alloc, declared.artifact)?;
-    let version = stated(alloc, declared.version)?;
-    let kind = stated_or(alloc, declared.kind, "jar")?;
-    let scope = stated(alloc, declared.scope)?;
-    let optional = stated_or(alloc, declared.optional, "")?;
-    let exclusions = exclusions(alloc, declared.exclusions)?;
-    let classifier = Text::from_str(alloc, "")?;
-    Shared::new(
-        alloc,
-        Dependency {
-            group,
-            artifact,
-            version,
-            kind,
-            classifier,
-            scope,
-            optional,
-            exclusions,
-        },
-    )
+// What a dependency is on.
+#[derive(Drop)]
+struct Artifact {
+    group: Text,
+    artifact: Text,
+    kind: Text,
 }
 
-/// A coordinate.
-pub(crate) fn gav(alloc: Global, group: &str, artifact: &str, version: &str) -> Mem<Gav> {
-    let group = Text::from_str(alloc, group)?;
-    let artifact = Text::from_str(alloc, artifact)?;
-    let version = Text::from_str(alloc, version)?;
+// On which terms.
+#[derive(Drop)]
+struct Terms {
+    version: Option<Text>,
+    scope: Option<Text>,
+    optional: Text,
+    exclusions: List<Exclusion>,
+}
+
+fn artifact(alloc: Global, words: &[&str]) -> Mem<Artifact> {
+    let group = Text::from_str(alloc, word(words, 1))?;
+    let artifact = Text::from_str(alloc, word(words, 2))?;
+    let kind = stated_or(alloc, word(words, 4), "jar")?;
+    Ok(Artifact {
+        group,
+        artifact,
+        kind,
+    })
+}
+
+fn terms(alloc: Global, words: &[&str], optional: &str, cut: &str) -> Mem<Terms> {
+    let version = stated(alloc, word(words, 3))?;
+    let scope = stated(alloc, word(words, 5))?;
+    let optional = stated_or(alloc, optional, "")?;
+    let exclusions = exclusions(alloc, cut)?;
+    Ok(Terms {
+        version,
+        scope,
+        optional,
+        exclusions,
+    })
+}
+
+fn on_terms(alloc: Global, artifact: Artifact, terms: Terms) -> Dependency {
+    Dependency {
+        group: artifact.group,
+        artifact: artifact.artifact,
+        version: terms.version,
+        kind: artifact.kind,
+        classifier: Text::of(String::new(alloc)),
+        scope: terms.scope,
+        optional: terms.optional,
+        exclusions: terms.exclusions,
+    }
+}
+
+/// The dependency that the first six words of a line declare, with whether it is optional and what is left out below it.
+pub(crate) fn dependency(
+    alloc: Global,
+    words: &[&str],
+    optional: &str,
+    cut: &str,
+) -> Mem<Shared<Dependency>> {
+    let artifact = artifact(alloc, words)?;
+    let terms = terms(alloc, words, optional, cut)?;
+    Shared::new(alloc, on_terms(alloc, artifact, terms))
+}
+
+/// The coordinate of a line.
+pub(crate) fn gav(alloc: Global, words: &[&str]) -> Mem<Gav> {
+    let group = Text::from_str(alloc, word(words, 1))?;
+    let artifact = Text::from_str(alloc, word(words, 2))?;
+    let version = Text::from_str(alloc, word(words, 3))?;
     Ok(Gav {
         group,
         artifact,
@@ -122,7 +159,11 @@ pub(crate) fn build(alloc: Global) -> Mem<Shared<Build>> {
     Shared::new(alloc, build)
 }
 
-fn base(alloc: Global, dependencies: List<Shared<Dependency>>) -> Mem<Shared<ModelBase>> {
+/// What a library's POM states: its dependencies alone.
+pub(crate) fn base(
+    alloc: Global,
+    dependencies: List<Shared<Dependency>>,
+) -> Mem<Shared<ModelBase>> {
     let base = ModelBase {
         modules: List::new(alloc),
         properties: List::new(alloc),
@@ -132,25 +173,44 @@ fn base(alloc: Global, dependencies: List<Shared<Dependency>>) -> Mem<Shared<Mod
     Shared::new(alloc, base)
 }
 
-/// A library's model, which has its dependencies alone.
-pub(crate) fn model(
+fn pom(alloc: Global, gav: &Gav) -> Mem<Shared<PomId>> {
+    let gav = gav.clone()?;
+    Shared::new(alloc, PomId::Gav(gav))
+}
+
+fn shared_gav(alloc: Global, gav: &Gav) -> Mem<Shared<Gav>> {
+    let gav = gav.clone()?;
+    Shared::new(alloc, gav)
+}
+
+fn model_of(
     alloc: Global,
-    gav: Gav,
+    gav: &Gav,
+    base: &Shared<ModelBase>,
     build: &Shared<Build>,
-    dependencies: List<Shared<Dependency>>,
-) -> Mem<Shared<Model>> {
-    let pom = Shared::new(alloc, PomId::Gav(gav.clone()?))?;
-    let gav = Shared::new(alloc, gav)?;
+) -> Mem<Model> {
     let packaging = Text::from_str(alloc, "jar")?;
-    let base = base(alloc, dependencies)?;
+    let pom = pom(alloc, gav)?;
+    let gav = shared_gav(alloc, gav)?;
+    let base = base.share()?;
     let build = build.share()?;
-    let model = Model {
+    Ok(Model {
         pom,
         gav,
         packaging,
         parent: None,
         base,
         build,
-    };
+    })
+}
+
+/// The model of a library.
+pub(crate) fn model(
+    alloc: Global,
+    gav: &Gav,
+    base: &Shared<ModelBase>,
+    build: &Shared<Build>,
+) -> Mem<Shared<Model>> {
+    let model = model_of(alloc, gav, base, build)?;
     Shared::new(alloc, model)
 }

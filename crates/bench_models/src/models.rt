@@ -12,22 +12,24 @@ fn text(alloc: Global, text: &str) -> Mem<Text> {
     Text::from_str(alloc, text)
 }
 
+fn no_text(alloc: Global) -> Text {
+    Text::of(String::new(alloc))
+}
+
 // The dependency of a number.
 fn dependency(alloc: Global, number: u32) -> Mem<Shared<Dependency>> {
-    let group = text(alloc, "g")?;
     let artifact = Text::of(format!(in alloc; "artifact{number}")?);
-    let version = Some(text(alloc, "1.0")?);
+    let group = text(alloc, "g")?;
+    let version = text(alloc, "1.0")?;
     let kind = text(alloc, "jar")?;
-    let classifier = text(alloc, "")?;
-    let optional = text(alloc, "")?;
     let dependency = Dependency {
         group,
         artifact,
-        version,
+        version: Some(version),
         kind,
-        classifier,
+        classifier: no_text(alloc),
         scope: None,
-        optional,
+        optional: no_text(alloc),
         exclusions: List::new(alloc),
     };
     Shared::new(alloc, dependency)
@@ -55,6 +57,12 @@ fn base(
         dependencies,
     };
     Shared::new(alloc, base)
+}
+
+// The dependencies of some numbers, and nothing else.
+fn base_of(alloc: Global, from: u32, to: u32) -> Mem<Shared<ModelBase>> {
+    let dependencies = dependencies(alloc, from, to)?;
+    base(alloc, List::new(alloc), dependencies)
 }
 
 // No plugins.
@@ -117,25 +125,51 @@ fn pom(alloc: Global) -> Mem<Shared<PomId>> {
     Shared::new(alloc, PomId::Path(path))
 }
 
-fn model(alloc: Global, base: Shared<ModelBase>, profiles: Shared<List<Profile>>) -> Mem<RawModel> {
+// What a model of no size has.
+#[derive(Drop)]
+struct FixedParts {
+    pom: Shared<PomId>,
+    coordinates: Shared<Coordinates>,
+    build: Shared<Build>,
+}
+
+fn fixed(alloc: Global) -> Mem<FixedParts> {
     let pom = pom(alloc)?;
     let coordinates = coordinates(alloc)?;
     let build = build(alloc)?;
-    Ok(RawModel {
+    Ok(FixedParts {
         pom,
-        parent: None,
         coordinates,
-        base,
         build,
-        profiles,
     })
+}
+
+fn model(fixed: FixedParts, base: Shared<ModelBase>, profiles: Shared<List<Profile>>) -> RawModel {
+    RawModel {
+        pom: fixed.pom,
+        parent: None,
+        coordinates: fixed.coordinates,
+        base,
+        build: fixed.build,
+        profiles,
+    }
+}
+
+// A model with these properties and dependencies, and no profile.
+fn without_profile(
+    alloc: Global,
+    properties: List<Pair>,
+    dependencies: List<Shared<Dependency>>,
+) -> Mem<RawModel> {
+    let base = base(alloc, properties, dependencies)?;
+    let none = Shared::new(alloc, List::new(alloc))?;
+    Ok(model(fixed(alloc)?, base, none))
 }
 
 // A model that has some dependencies alone.
 fn with_dependencies(alloc: Global, from: u32, to: u32) -> Mem<RawModel> {
-    let base = base(alloc, List::new(alloc), dependencies(alloc, from, to)?)?;
-    let none = Shared::new(alloc, List::new(alloc))?;
-    model(alloc, base, none)
+    let dependencies = dependencies(alloc, from, to)?;
+    without_profile(alloc, List::new(alloc), dependencies)
 }
 
 fn count_inherited(alloc: Global, child: &RawModel, parent: &RawModel) -> Mem<usize> {
@@ -153,7 +187,7 @@ pub(crate) fn inherited(alloc: Global, number: u32) -> Mem<usize> {
 // A profile that has some dependencies.
 fn profile(alloc: Global, from: u32, to: u32) -> Mem<Profile> {
     let id = text(alloc, "p")?;
-    let base = base(alloc, List::new(alloc), dependencies(alloc, from, to)?)?;
+    let base = base_of(alloc, from, to)?;
     let build = build_base(alloc)?;
     Ok(Profile {
         id,
@@ -171,8 +205,8 @@ fn profiles(alloc: Global, from: u32, to: u32) -> Mem<Shared<List<Profile>>> {
 
 fn with_profile(alloc: Global, number: u32) -> Mem<RawModel> {
     let profiles = profiles(alloc, number / 2, number)?;
-    let base = base(alloc, List::new(alloc), dependencies(alloc, 0, number)?)?;
-    model(alloc, base, profiles)
+    let base = base_of(alloc, 0, number)?;
+    Ok(model(fixed(alloc)?, base, profiles))
 }
 
 fn count_injected(alloc: Global, raw: &RawModel) -> Mem<usize> {
@@ -186,34 +220,23 @@ pub(crate) fn injected(alloc: Global, number: u32) -> Mem<usize> {
     count_injected(alloc, &raw)
 }
 
-fn machine(alloc: Global) -> Mem<Machine> {
-    let root = text(alloc, "/w")?;
-    let jdk = text(alloc, "17")?;
-    let os_name = text(alloc, "Linux")?;
-    let os_family = text(alloc, "unix")?;
-    let os_arch = text(alloc, "amd64")?;
-    let os_version = text(alloc, "5")?;
-    Ok(Machine {
-        root,
+// A machine of which nothing is known.
+fn machine(alloc: Global) -> Machine {
+    Machine {
+        root: no_text(alloc),
         env: List::new(alloc),
         system: List::new(alloc),
-        jdk,
-        os_name,
-        os_family,
-        os_arch,
-        os_version,
-    })
+        jdk: no_text(alloc),
+        os_name: no_text(alloc),
+        os_family: no_text(alloc),
+        os_arch: no_text(alloc),
+        os_version: no_text(alloc),
+    }
 }
 
 fn push(alloc: Global, list: &mut List<Pair>, number: u32, value: Text) -> Mem<()> {
     let name = Text::of(format!(in alloc; "p{number}")?);
     list.push(Pair { name, value })
-}
-
-fn with_properties(alloc: Global, properties: List<Pair>) -> Mem<RawModel> {
-    let base = base(alloc, properties, List::new(alloc))?;
-    let none = Shared::new(alloc, List::new(alloc))?;
-    model(alloc, base, none)
 }
 
 fn bytes_filled(alloc: Global, raw: &RawModel, machine: &Machine) -> usize {
@@ -225,8 +248,8 @@ fn bytes_filled(alloc: Global, raw: &RawModel, machine: &Machine) -> usize {
 
 // How many bytes the properties of a model have when they are filled.
 fn filled(alloc: Global, properties: List<Pair>) -> Mem<usize> {
-    let raw = with_properties(alloc, properties)?;
-    let machine = machine(alloc)?;
+    let raw = without_profile(alloc, properties, List::new(alloc))?;
+    let machine = machine(alloc);
     Ok(bytes_filled(alloc, &raw, &machine))
 }
 

@@ -55,7 +55,7 @@ struct Terms {
     exclusions: List<Exclusion>,
 }
 
-fn artifact(alloc: Global, words: &[&str]) -> Mem<Artifact> {
+fn artifact_of(alloc: Global, words: &[&str]) -> Mem<Artifact> {
     let group = Text::from_str(alloc, word(words, 1))?;
     let artifact = Text::from_str(alloc, word(words, 2))?;
     let kind = stated_or(alloc, word(words, 4), "jar")?;
@@ -66,7 +66,7 @@ fn artifact(alloc: Global, words: &[&str]) -> Mem<Artifact> {
     })
 }
 
-fn terms(alloc: Global, words: &[&str], optional: &str, cut: &str) -> Mem<Terms> {
+fn terms_of(alloc: Global, words: &[&str], optional: &str, cut: &str) -> Mem<Terms> {
     let version = stated(alloc, word(words, 3))?;
     let scope = stated(alloc, word(words, 5))?;
     let optional = stated_or(alloc, optional, "")?;
@@ -99,8 +99,8 @@ pub(crate) fn dependency(
     optional: &str,
     cut: &str,
 ) -> Mem<Shared<Dependency>> {
-    let artifact = artifact(alloc, words)?;
-    let terms = terms(alloc, words, optional, cut)?;
+    let artifact = artifact_of(alloc, words)?;
+    let terms = terms_of(alloc, words, optional, cut)?;
     Shared::new(alloc, on_terms(alloc, artifact, terms))
 }
 

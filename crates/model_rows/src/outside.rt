@@ -1,17 +1,24 @@
 // The files that the rows know.
 use goal_types::SourceFile;
-use mvn_shared::{Bytes, List, Mem};
+use mvn_shared::{Bytes, List, Mem, Text};
 use outside_mem::{Calls, MemTree};
 use row_models::words;
 use std::alloc::Global;
+
+// An empty file at a path.
+fn empty(alloc: Global, path: &Text) -> Mem<SourceFile> {
+    let path = path.clone()?;
+    let bytes = Bytes::of(Vec::new(alloc));
+    Ok(SourceFile { path, bytes })
+}
 
 // The files at these paths.
 fn files(alloc: Global, paths: &str) -> Mem<List<SourceFile>> {
     let paths = words(alloc, paths)?;
     let mut files = List::new(alloc);
-    for path in paths.into_vec() {
-        let bytes = Bytes::of(Vec::new(alloc));
-        files.push(SourceFile { path, bytes })?;
+    for path in paths.as_slice() {
+        let file = empty(alloc, path)?;
+        files.push(file)?;
     }
     Ok(files)
 }

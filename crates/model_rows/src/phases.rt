@@ -50,11 +50,11 @@ fn build_base(alloc: Global, plugins: List<Shared<Plugin>>) -> Mem<Shared<BuildB
     Shared::new(alloc, base)
 }
 
-// A build with these plugins in the place of its own.
-fn build(alloc: Global, own: &Build, plugins: List<Shared<Plugin>>) -> Mem<Shared<Build>> {
-    let base = build_base(alloc, plugins)?;
+// A build with another base in the place of its own.
+fn build(alloc: Global, own: &Build, base: &Shared<BuildBase>) -> Mem<Shared<Build>> {
     let outputs = own.outputs.share()?;
     let sources = own.sources.share()?;
+    let base = base.share()?;
     let build = Build {
         outputs,
         sources,
@@ -84,27 +84,37 @@ fn gav(alloc: Global, own: &Coordinates) -> Mem<Shared<Gav>> {
     Shared::new(alloc, gav)
 }
 
-// What holds for a module with these plugins and no parent.
-fn model(alloc: Global, raw: &RawModel, plugins: List<Shared<Plugin>>) -> Mem<Shared<Model>> {
-    let build = build(alloc, &raw.build, plugins)?;
-    let gav = gav(alloc, &raw.coordinates)?;
+// What holds for a module of this build and no parent.
+fn model(alloc: Global, raw: &RawModel, build: &Shared<Build>) -> Mem<Model> {
     let packaging = raw.coordinates.packaging.clone()?;
+    let gav = gav(alloc, &raw.coordinates)?;
     let pom = raw.pom.share()?;
     let base = raw.base.share()?;
-    let model = Model {
+    let build = build.share()?;
+    Ok(Model {
         pom,
         gav,
         packaging,
         parent: None,
         base,
         build,
-    };
-    Shared::new(alloc, model)
+    })
+}
+
+// The build of a POM with the plugins that its packaging binds.
+fn bound_build(alloc: Global, raw: &RawModel) -> Mem<Shared<Build>> {
+    let plugins = bound(alloc, raw)?;
+    let base = build_base(alloc, plugins)?;
+    build(alloc, &raw.build, &base)
+}
+
+fn bound_model(alloc: Global, raw: &RawModel) -> Mem<Model> {
+    let build = bound_build(alloc, raw)?;
+    model(alloc, raw, &build)
 }
 
 fn listed(alloc: Global, raw: &RawModel, phase: Phase) -> Mem<String> {
-    let plugins = bound(alloc, raw)?;
-    let model = model(alloc, raw, plugins)?;
+    let model = bound_model(alloc, raw)?;
     let list = goals(alloc, &model, phase)?;
     goals_text(alloc, &list)
 }

@@ -51,7 +51,7 @@ fn push_project(text: &mut Bytes, front: &str, inside: &[u8]) -> Mem<()> {
     text.extend_from_slice(PROJECT.as_bytes())?;
     text.extend_from_slice(front.as_bytes())?;
     text.extend_from_slice(inside)?;
-    text.extend_from_slice(b"</project>")
+    text.extend_from_slice("</project>".as_bytes())
 }
 
 // A project with this in it, behind what is in front.

@@ -1,7 +1,7 @@
 // The machine that the rows know.
 use crate::fields::pairs;
-use mvn_base::Machine;
-use mvn_shared::{Mem, Shared, Text};
+use mvn_base::{Machine, Pair};
+use mvn_shared::{List, Mem, Shared, Text};
 use std::alloc::Global;
 
 // What the system is.
@@ -26,13 +26,15 @@ fn linux(alloc: Global) -> Mem<System> {
     })
 }
 
-fn described(alloc: Global) -> Mem<Machine> {
-    let root = Text::from_str(alloc, "/w")?;
-    let jdk = Text::from_str(alloc, "17.0.2")?;
-    let env = pairs(alloc, "E=${s} HOME=/h")?;
-    let properties = pairs(alloc, "s=1 t=x")?;
-    let system = linux(alloc)?;
-    Ok(Machine {
+// What the machine is, with these variables and properties.
+fn described(
+    root: Text,
+    jdk: Text,
+    env: List<Pair>,
+    properties: List<Pair>,
+    system: System,
+) -> Machine {
+    Machine {
         root,
         env,
         system: properties,
@@ -41,11 +43,19 @@ fn described(alloc: Global) -> Mem<Machine> {
         os_family: system.family,
         os_arch: system.arch,
         os_version: system.version,
-    })
+    }
+}
+
+fn with_variables(alloc: Global, system: System) -> Mem<Machine> {
+    let root = Text::from_str(alloc, "/w")?;
+    let jdk = Text::from_str(alloc, "17.0.2")?;
+    let env = pairs(alloc, "E=${s} HOME=/h")?;
+    let properties = pairs(alloc, "s=1 t=x")?;
+    Ok(described(root, jdk, env, properties, system))
 }
 
 /// A Linux 5 for the JDK 17.0.2, with the project in `/w`, two variables and two properties of the system.
 pub fn machine(alloc: Global) -> Mem<Shared<Machine>> {
-    let machine = described(alloc)?;
+    let machine = with_variables(alloc, linux(alloc)?)?;
     Shared::new(alloc, machine)
 }

@@ -34,6 +34,21 @@ fn plugin_in<'a>(text: &'a str) -> Option<Plugin<'a>>
     })
 }
 
+// The coordinates that these texts are.
+fn coordinates_of(alloc: Global, group: &str, artifact: &str, version: &str) -> Mem<Gav>
+    ensures { IfOk result (λ gav.
+        gav ≡ record { group = group.now; artifact = artifact.now; version = version.now }) }
+{
+    let group = Text::from_str(alloc, group)?;
+    let artifact = Text::from_str(alloc, artifact)?;
+    let version = Text::from_str(alloc, version)?;
+    Ok(Gav {
+        group,
+        artifact,
+        version,
+    })
+}
+
 // A call of these parts, with the slot and the classpath that its goal has by default.
 fn call_of(
     alloc: Global,
@@ -52,11 +67,14 @@ fn call_of(
         plugin.artifact.as_bytes(),
         goal.as_bytes(),
     );
-    let group = Text::from_str(alloc, plugin.group)?;
-    let artifact = Text::from_str(alloc, plugin.artifact)?;
-    let version = Text::from_str(alloc, plugin.version)?;
     let goal = Text::from_str(alloc, goal)?;
     let execution = Text::from_str(alloc, execution)?;
+    let coordinates = coordinates_of(alloc, plugin.group, plugin.artifact, plugin.version)?;
+    let Gav {
+        group,
+        artifact,
+        version,
+    } = coordinates;
     Ok(GoalCall {
         group,
         artifact,
@@ -104,9 +122,5 @@ pub(crate) fn gav_in(alloc: Global, value: &Value) -> Mem<Option<Gav>>
     ) else {
         return Ok(None);
     };
-    Ok(Some(Gav {
-        group: Text::from_str(alloc, group)?,
-        artifact: Text::from_str(alloc, artifact)?,
-        version: Text::from_str(alloc, version)?,
-    }))
+    Ok(Some(coordinates_of(alloc, group, artifact, version)?))
 }

@@ -43,10 +43,10 @@ const KEPT: [Slot; 6] = [
 fn pair_of(values: &[Value]) -> Option<(&str, &Value)>
     ensures { option_map (λ p. (p.0.now, view p.1.now)) result ≡ pair_of values.now }
 {
-    match values {
-        [name, count] => Some((name.as_str()?, count)),
-        _ => None,
-    }
+    let [name, count] = values else {
+        return None;
+    };
+    Some((name.as_str()?, count))
 }
 
 // The same of an array.

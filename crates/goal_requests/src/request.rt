@@ -1,6 +1,9 @@
 // A goal's request, read from its bytes.
 ghost use Rattle.std.specs.Prelude.{◌≡◌, IfOk, IfSome, IsUtf8, None};
+ghost use Rattle.std.specs.Option.{option_map};
 ghost use Rattle.serde_json.specs.View.{view};
+ghost use Rattle.mvn_base.specs.declared.gav.Gav.{Gav};
+ghost use Rattle.goal_types.specs.declared.goal.GoalCall.{GoalCall};
 ghost use Rattle.goal_types.specs.Goals.{HasOwnSlots};
 ghost use Rattle.goal_types.specs.Lines.{line_of};
 ghost use Rattle.goal_requests.specs.Requests.{lists_of, request_of, request_in};
@@ -8,25 +11,34 @@ ghost use Rattle.goal_requests.specs.Requests.{lists_of, request_of, request_in}
 use crate::call::{call_in, gav_in};
 use crate::lists::list_in;
 use crate::members::keys_of;
-use goal_types::{GoalCall, GoalRequest, split_line};
+use goal_types::{GoalCall, GoalRequest, OwnBytes, PathEntry, SourceFile, split_line};
 use mvn_base::Gav;
-use mvn_shared::{Mem, OutOfMemory};
+use mvn_shared::{List, Mem, OutOfMemory};
 use serde_json::Value;
 use std::alloc::Global;
 
 /// The most bytes of a request. Project rule.
 pub const MOST_REQUEST: usize = 536_870_912;
 
-// A request of these, with its lists from the bytes behind the line, which they use up.
-fn lists_of(
-    alloc: Global,
-    gav: Gav,
-    call: GoalCall,
-    value: &Value,
-    bytes: &[u8],
-) -> Mem<Option<GoalRequest>>
-    ensures value { IfOk result (λ found. found ≡ lists_of gav call (view value.now) bytes.now) }
-    ensures slots { IfOk result (λ found. IfSome found (λ request. HasOwnSlots request.own)) }
+/// The lists of a request.
+struct Lists {
+    sources: List<SourceFile>,
+    own: List<OwnBytes>,
+    classpath: List<PathEntry>,
+}
+
+// The lists of a request, from the bytes behind the line, which they use up.
+fn lists_in(alloc: Global, value: &Value, bytes: &[u8]) -> Mem<Option<Lists>>
+    ensures value { (gav : Gav) (call : GoalCall) → IfOk result (λ found.
+        option_map (λ lists. record {
+          «module» = gav;
+          call = call;
+          sources = lists.sources;
+          own = lists.own;
+          classpath = lists.classpath;
+        }) found
+        ≡ lists_of gav call (view value.now) bytes.now) }
+    ensures slots { IfOk result (λ found. IfSome found (λ lists. HasOwnSlots lists.own)) }
 {
     let Some((sources, rest)) = list_in(alloc, value, "sources", bytes)? else {
         return Ok(None);
@@ -40,13 +52,50 @@ fn lists_of(
     if !rest.is_empty() {
         return Ok(None);
     }
-    Ok(Some(GoalRequest {
+    Ok(Some(Lists {
+        sources,
+        own,
+        classpath,
+    }))
+}
+
+// A request of these, where its lists are there.
+fn with_lists(gav: Gav, call: GoalCall, lists: Option<Lists>) -> Option<GoalRequest>
+    ensures { result ≡ option_map (λ lists. record {
+      «module» = gav;
+      call = call;
+      sources = lists.sources;
+      own = lists.own;
+      classpath = lists.classpath;
+    }) lists }
+{
+    let Lists {
+        sources,
+        own,
+        classpath,
+    } = lists?;
+    Some(GoalRequest {
         module: gav,
         call,
         sources,
         own,
         classpath,
-    }))
+    })
+}
+
+// A request of these, with its lists from the bytes behind the line, which they use up.
+fn lists_of(
+    alloc: Global,
+    gav: Gav,
+    call: GoalCall,
+    value: &Value,
+    bytes: &[u8],
+) -> Mem<Option<GoalRequest>>
+    ensures value { IfOk result (λ found. found ≡ lists_of gav call (view value.now) bytes.now) }
+    ensures slots { IfOk result (λ found. IfSome found (λ request. HasOwnSlots request.own)) }
+{
+    let lists = lists_in(alloc, value, bytes)?;
+    Ok(with_lists(gav, call, lists))
 }
 
 // The request of a line's value, with what stands behind the line.

@@ -152,6 +152,7 @@ fn default_like(alloc: Global, default: &str, like: Option<&Text>) -> Mem<Text>
 }
 
 /// The text of an element, where there is one and its text isn't empty. Costs the text.
+#[inline(always)]
 pub(crate) fn text_in(alloc: Global, found: Option<&Node>) -> Mem<Option<Text>>
     ensures { IfOk result (λ text. text ≡ text_in (option_copied found.entry)) }
 {
@@ -162,6 +163,7 @@ pub(crate) fn text_in(alloc: Global, found: Option<&Node>) -> Mem<Option<Text>>
 }
 
 /// Or a default, which is shared with a text that is it already.
+#[inline(always)]
 pub(crate) fn text_in_or(
     alloc: Global,
     found: Option<&Node>,

@@ -8,7 +8,7 @@ mod worked;
 use mvn_shared::Mem;
 use std::alloc::Global;
 use walks::{front, long, walk};
-use worked::{answers_to, stands};
+use worked::{push_answers, push_stands};
 
 // The sum and the count of a word and a number.
 fn counted(alloc: Global, word: &str, number: u32) -> Mem<(u32, usize)> {
@@ -21,31 +21,28 @@ fn counted(alloc: Global, word: &str, number: u32) -> Mem<(u32, usize)> {
 }
 
 // What is told of a word and a number.
-fn counts(alloc: Global, word: &str, number: u32) -> Mem<String> {
+fn push_counts(alloc: Global, shown: &mut String, word: &str, number: u32) -> Mem<()> {
     let (sum, count) = counted(alloc, word, number)?;
-    Ok(format!(in alloc; "{word} {number}: {sum} {count}")?)
+    let told = format!(in alloc; "{word} {number}: {sum} {count}")?;
+    shown.push_str(told.as_str())?;
+    Ok(())
 }
 
 // What is told of a row.
-fn told(alloc: Global, word: &str, rest: &str) -> Mem<String> {
+fn push_told(alloc: Global, shown: &mut String, word: &str, rest: &str) -> Mem<()> {
     match word {
-        "worked" => answers_to(alloc, rest),
-        "stands" => stands(alloc, rest),
-        _ => counts(alloc, word, rest.parse::<u32>().unwrap_or(0)),
-    }
-}
-
-// The line that is printed.
-fn line_of(told: &Mem<String>) -> &str {
-    match told {
-        Ok(shown) => shown.as_str(),
-        Err(_) => "out of memory",
+        "worked" => push_answers(alloc, shown, rest),
+        "stands" => push_stands(alloc, shown, rest),
+        _ => push_counts(alloc, shown, word, rest.parse::<u32>().unwrap_or(0)),
     }
 }
 
 fn print_told(rt: &HostRuntime, word: &str, rest: &str) -> anyhow::Result<()> {
-    let told = told(rt.alloc(), word, rest);
-    let line = line_of(&told);
+    let mut shown = String::new(rt.alloc());
+    let line = match push_told(rt.alloc(), &mut shown, word, rest) {
+        Ok(()) => shown.as_str(),
+        Err(_) => "out of memory",
+    };
     println!(rt; "{line}")?;
     Ok(())
 }

@@ -127,15 +127,16 @@ fn module_number(module: Option<u32>) -> u32 {
     }
 }
 
-/// What is told of where a build stands: which module may begin, which is to be skipped, whether all are over, and how the first
-/// modules stand.
-pub(crate) fn told_of(core: &Core) -> [u32; 6] {
-    [
-        module_number(core.ready()),
-        module_number(core.skippable()),
-        core.is_complete() as u32,
-        state_number(core.state(0)),
-        state_number(core.state(1)),
-        state_number(core.state(2)),
-    ]
+/// How much is told of where a build stands: see `told_at`.
+pub(crate) const TOLD: u32 = 6;
+
+/// What is told of where a build stands, by its place: which module may begin, which is to be skipped, whether all are over, and how the
+/// first modules stand.
+pub(crate) fn told_at(core: &Core, place: u32) -> u32 {
+    match place {
+        0 => module_number(core.ready()),
+        1 => module_number(core.skippable()),
+        2 => core.is_complete() as u32,
+        _ => state_number(core.state(place.saturating_sub(3))),
+    }
 }

@@ -7,44 +7,68 @@ use std::alloc::Global;
 /// How many names and files are fetched under; the own names and files stand behind them.
 pub(crate) const SHARED: u32 = 3;
 
-// The numbers below one that are drawn, one of so many.
-fn some_below(alloc: Global, draws: &mut Draws, bound: u32, one_of: u32) -> Mem<List<u32>> {
-    let mut list = List::new(alloc);
+// Some of the numbers below one, one of two.
+fn push_some(list: &mut List<u32>, draws: &mut Draws, bound: u32) -> Mem<()> {
     for number in 0..bound {
-        if draws.below(one_of) == 0 {
+        if draws.below(2) == 0 {
             list.push(number)?;
         }
     }
-    Ok(list)
+    Ok(())
+}
+
+// A file that a module needs, under the name that covers it.
+fn push_need(module: &mut ModuleOutline, file: u32) -> Mem<()> {
+    module.batch.push(file)?;
+    module.fetch.push(file)?;
+    module.reads.push(file)
+}
+
+// The files that a module needs.
+fn push_needs(module: &mut ModuleOutline, draws: &mut Draws) -> Mem<()> {
+    for file in 0..SHARED {
+        if draws.below(2) == 0 {
+            push_need(module, file)?;
+        }
+    }
+    Ok(())
 }
 
 // The own files of a module: its POM's, and perhaps another.
-fn own(alloc: Global, draws: &mut Draws, number: u32) -> Mem<List<u32>> {
-    let mut list = List::new(alloc);
-    list.push(SHARED + 2 * (number % 16))?;
+fn push_own(list: &mut List<u32>, draws: &mut Draws, number: u32) -> Mem<()> {
+    let file = (number % 16).wrapping_mul(2).wrapping_add(SHARED);
+    list.push(file)?;
     if draws.below(2) == 0 {
-        list.push(SHARED + 2 * (number % 16) + 1)?;
+        list.push(file.wrapping_add(1))?;
     }
-    Ok(list)
+    Ok(())
+}
+
+/// A module that has nothing and isn't installed.
+pub(crate) fn bare(alloc: Global) -> ModuleOutline {
+    ModuleOutline {
+        upstream: List::new(alloc),
+        batch: List::new(alloc),
+        fetch: List::new(alloc),
+        reads: List::new(alloc),
+        goals: 0,
+        own_name: 0,
+        own: List::new(alloc),
+        installs: false,
+        needs_artifact: false,
+    }
 }
 
 fn module(alloc: Global, draws: &mut Draws, number: u32) -> Mem<ModuleOutline> {
-    let upstream = some_below(alloc, draws, number, 2)?;
-    let batch = some_below(alloc, draws, SHARED, 2)?;
-    let fetch = batch.clone()?;
-    let reads = fetch.clone()?;
-    let own = own(alloc, draws, number)?;
-    Ok(ModuleOutline {
-        upstream,
-        batch,
-        fetch,
-        reads,
-        goals: draws.below(3) as usize,
-        own_name: SHARED + number % 16,
-        own,
-        installs: draws.below(4) != 0,
-        needs_artifact: draws.below(2) == 0,
-    })
+    let mut module = bare(alloc);
+    push_some(&mut module.upstream, draws, number)?;
+    push_needs(&mut module, draws)?;
+    push_own(&mut module.own, draws, number)?;
+    module.goals = draws.below(3) as usize;
+    module.own_name = (number % 16).wrapping_add(SHARED);
+    module.installs = draws.below(4) != 0;
+    module.needs_artifact = draws.below(2) == 0;
+    Ok(module)
 }
 
 fn modules(alloc: Global, draws: &mut Draws, count: u32) -> Mem<List<ModuleOutline>> {
@@ -65,33 +89,24 @@ fn present(alloc: Global, draws: &mut Draws, count: u32) -> Mem<List<bool>> {
 
 /// A build of one to three modules by one to three workers.
 pub(crate) fn small(alloc: Global, draws: &mut Draws) -> Mem<Outline> {
-    let count = 1 + draws.below(3);
+    let count = draws.below(3).wrapping_add(1);
     let modules = modules(alloc, draws, count)?;
     let present = present(alloc, draws, SHARED + 6)?;
     Ok(Outline {
         modules,
         names: SHARED + 3,
         present,
-        workers: 1 + draws.below(3),
+        workers: draws.below(3).wrapping_add(1),
         events: 200,
     })
 }
 
 // A module that has nothing but its POM.
 fn plain(alloc: Global, number: u32) -> Mem<ModuleOutline> {
-    let mut own = List::new(alloc);
-    own.push(number)?;
-    Ok(ModuleOutline {
-        upstream: List::new(alloc),
-        batch: List::new(alloc),
-        fetch: List::new(alloc),
-        reads: List::new(alloc),
-        goals: 0,
-        own_name: 0,
-        own,
-        installs: true,
-        needs_artifact: false,
-    })
+    let mut module = bare(alloc);
+    module.own.push(number)?;
+    module.installs = true;
+    Ok(module)
 }
 
 /// A build of so many modules that have nothing but their POM, by one worker.
@@ -113,21 +128,11 @@ pub(crate) fn wide(alloc: Global, count: u32) -> Mem<Outline> {
 
 // A module that needs nothing but the four before it.
 fn link(alloc: Global, number: u32) -> Mem<ModuleOutline> {
-    let mut upstream = List::new(alloc);
+    let mut module = bare(alloc);
     for before in number.saturating_sub(4)..number {
-        upstream.push(before)?;
+        module.upstream.push(before)?;
     }
-    Ok(ModuleOutline {
-        upstream,
-        batch: List::new(alloc),
-        fetch: List::new(alloc),
-        reads: List::new(alloc),
-        goals: 0,
-        own_name: 0,
-        own: List::new(alloc),
-        installs: false,
-        needs_artifact: false,
-    })
+    Ok(module)
 }
 
 /// A build of so many modules, each with the four before it as upstreams, by one worker.

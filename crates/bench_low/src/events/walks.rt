@@ -1,5 +1,5 @@
 // Walks through builds.
-use crate::events::answers::{KINDS, answer_at, event_at, told_of};
+use crate::events::answers::{KINDS, TOLD, answer_at, event_at, told_at};
 use crate::events::builds::{linked, small, wide};
 use crate::events::draws::Draws;
 use build_core::{Ending, Event};
@@ -27,8 +27,8 @@ pub(crate) fn begun(alloc: Global, outline: Outline) -> Mem<Core> {
 // A sum with what is told of where the build stands.
 fn readings(core: &Core, answers: u32) -> u32 {
     let mut sum = answers;
-    for value in told_of(core) {
-        sum = sum.wrapping_mul(31).wrapping_add(value);
+    for place in 0..TOLD {
+        sum = sum.wrapping_mul(31).wrapping_add(told_at(core, place));
     }
     sum
 }
@@ -99,35 +99,25 @@ pub(crate) fn walk(alloc: Global, seed: u32) -> Mem<(u32, usize)> {
     Ok((total, core.events().len()))
 }
 
-// The events of a module that has nothing but its POM; how many were taken.
-fn one_module(core: &mut Core, number: u32) -> u32 {
-    let events = [
-        Event::Start {
-            worker: 0,
-            module: number,
-        },
-        Event::Take {
-            worker: 0,
-            name: 0,
-            mode: Mode::Exclusive,
-        },
-        Event::Publish {
-            worker: 0,
-            file: number,
-        },
-        Event::Free { worker: 0, name: 0 },
-        Event::End {
-            worker: 0,
-            ending: Ending::Built,
-        },
-    ];
-    let mut taken = 0u32;
-    for event in events {
-        if core.step(event).is_ok() {
-            taken = taken.wrapping_add(1);
-        }
+// One event more, and one more of those that were taken.
+fn count(core: &mut Core, taken: u32, event: Event) -> u32 {
+    match core.step(event) {
+        Ok(()) => taken.wrapping_add(1),
+        Err(_) => taken,
     }
-    taken
+}
+
+// The events of a module that has nothing but its POM, behind as many that were taken; how many were taken.
+fn one_module(core: &mut Core, taken: u32, module: u32) -> u32 {
+    let (worker, name) = (0, 0);
+    let mode = Mode::Exclusive;
+    let ending = Ending::Built;
+    let taken = count(core, taken, Event::Start { worker, module });
+    let taken = count(core, taken, Event::Take { worker, name, mode });
+    let file = module;
+    let taken = count(core, taken, Event::Publish { worker, file });
+    let taken = count(core, taken, Event::Free { worker, name });
+    count(core, taken, Event::End { worker, ending })
 }
 
 /// How many of so many events of a long build were taken.
@@ -136,7 +126,7 @@ pub(crate) fn long(alloc: Global, count: u32) -> Mem<u32> {
     let mut core = begun(alloc, wide(alloc, modules)?)?;
     let mut taken = 0u32;
     for number in 0..modules {
-        taken = taken.wrapping_add(one_module(&mut core, number));
+        taken = one_module(&mut core, taken, number);
     }
     Ok(taken)
 }

@@ -1,18 +1,56 @@
 // A build worked out by hand: three modules, of which the second builds on the first. The first needs the file 0 under the name 0 and is
 // installed as the files 1 and 2 under the name 1; the second has nothing but its POM, the file 3, under the name 2; the third has nothing.
-use crate::events::answers::{event_at, number_of, told_of};
+use crate::events::answers::{TOLD, event_at, number_of, told_at};
+use crate::events::builds::bare;
 use crate::events::walks::begun;
 use build_core::Event;
 use event_core::{Core, ModuleOutline, Outline};
 use mvn_shared::{List, Mem};
 use std::alloc::Global;
 
-fn numbers(alloc: Global, items: &[u32]) -> Mem<List<u32>> {
-    let mut list = List::new(alloc);
-    for item in items {
-        list.push(*item)?;
+// The kinds of events by their numbers: see `event_at`.
+const WORDS: &[&str] = &[
+    "start",
+    "skip",
+    "share",
+    "take",
+    "free",
+    "read",
+    "publish",
+    "answer",
+    "built",
+    "goal",
+    "missing",
+    "no-artifact",
+    "output",
+    "classpath",
+    "remote",
+    "gate",
+    "memory",
+];
+
+fn push_all(list: &mut List<u32>, numbers: &[u32]) -> Mem<()> {
+    for number in numbers {
+        list.push(*number)?;
     }
-    Ok(list)
+    Ok(())
+}
+
+// The files that a module needs, each under its own number as the name that covers it.
+fn push_needs(module: &mut ModuleOutline, needs: &[u32]) -> Mem<()> {
+    push_all(&mut module.batch, needs)?;
+    push_all(&mut module.fetch, needs)?;
+    push_all(&mut module.reads, needs)?;
+    module.goals = needs.len();
+    Ok(())
+}
+
+// The files that a module is installed as, and their name.
+fn push_own(module: &mut ModuleOutline, own: &[u32], name: u32) -> Mem<()> {
+    push_all(&mut module.own, own)?;
+    module.own_name = name;
+    module.installs = !own.is_empty();
+    Ok(())
 }
 
 fn module(
@@ -22,22 +60,12 @@ fn module(
     own: &[u32],
     own_name: u32,
 ) -> Mem<ModuleOutline> {
-    let upstream = numbers(alloc, upstream)?;
-    let batch = numbers(alloc, needs)?;
-    let fetch = numbers(alloc, needs)?;
-    let reads = numbers(alloc, needs)?;
-    let own = numbers(alloc, own)?;
-    Ok(ModuleOutline {
-        upstream,
-        batch,
-        fetch,
-        reads,
-        goals: needs.len(),
-        own_name,
-        installs: !own.is_empty(),
-        own,
-        needs_artifact: true,
-    })
+    let mut module = bare(alloc);
+    push_all(&mut module.upstream, upstream)?;
+    push_needs(&mut module, needs)?;
+    push_own(&mut module, own, own_name)?;
+    module.needs_artifact = true;
+    Ok(module)
 }
 
 fn modules(alloc: Global) -> Mem<List<ModuleOutline>> {
@@ -68,28 +96,9 @@ fn core(alloc: Global) -> Mem<Core> {
 
 // The number of a kind of events: see `event_at`.
 fn kind_of(word: &str) -> u32 {
-    let words = [
-        "start",
-        "skip",
-        "share",
-        "take",
-        "free",
-        "read",
-        "publish",
-        "answer",
-        "built",
-        "goal",
-        "missing",
-        "no-artifact",
-        "output",
-        "classpath",
-        "remote",
-        "gate",
-        "memory",
-    ];
     let mut kind = 0u32;
-    for known in words {
-        if known == word {
+    for known in WORDS {
+        if *known == word {
             return kind;
         }
         kind = kind.wrapping_add(1);
@@ -111,33 +120,33 @@ fn push_number(alloc: Global, shown: &mut String, number: u32) -> Mem<()> {
 }
 
 /// What is answered to events of the build, one after another: 0 where one is taken, a number for the cause where not.
-pub(crate) fn answers_to(alloc: Global, events: &str) -> Mem<String> {
+pub(crate) fn push_answers(alloc: Global, shown: &mut String, events: &str) -> Mem<()> {
+    shown.push_str("answers")?;
     let mut core = core(alloc)?;
-    let mut shown = String::from_str(alloc, "answers")?;
     for event in events.split_whitespace() {
         let answer = number_of(core.step(event_of(event)));
-        push_number(alloc, &mut shown, answer)?;
+        push_number(alloc, shown, answer)?;
     }
-    Ok(shown)
+    Ok(())
 }
 
 // Where a build stands, and which of four files it has.
-fn standing(alloc: Global, core: &Core) -> Mem<String> {
-    let mut shown = String::from_str(alloc, "stands")?;
-    for value in told_of(core) {
-        push_number(alloc, &mut shown, value)?;
+fn push_standing(alloc: Global, shown: &mut String, core: &Core) -> Mem<()> {
+    shown.push_str("stands")?;
+    for place in 0..TOLD {
+        push_number(alloc, shown, told_at(core, place))?;
     }
     for file in 0..4u32 {
-        push_number(alloc, &mut shown, core.has(file) as u32)?;
+        push_number(alloc, shown, core.has(file) as u32)?;
     }
-    Ok(shown)
+    Ok(())
 }
 
 /// Where the build stands behind events.
-pub(crate) fn stands(alloc: Global, events: &str) -> Mem<String> {
+pub(crate) fn push_stands(alloc: Global, shown: &mut String, events: &str) -> Mem<()> {
     let mut core = core(alloc)?;
     for event in events.split_whitespace() {
         let _answer = core.step(event_of(event));
     }
-    standing(alloc, &core)
+    push_standing(alloc, shown, &core)
 }

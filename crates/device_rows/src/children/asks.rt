@@ -111,19 +111,21 @@ fn shown(
     Bytes::from_slice(alloc, shown.as_bytes())
 }
 
-// What a call of the gate comes to.
-fn called(alloc: Global, gate: &mut ProcessGate<MemSpawner<Calls>>) -> Mem<Bytes> {
-    let request = request(alloc)?;
-    let wanted = request_bytes(alloc, &request)?;
-    let answer = gate.call(&request);
+// What a call of a gate over a spawner comes to.
+fn called(alloc: Global, spawner: MemSpawner<Calls>, request: &GoalRequest) -> Mem<Bytes>
+    requires { HasOwnSlots request.now.own }
+{
+    let wanted = request_bytes(alloc, request)?;
+    let mut gate = ProcessGate::new(alloc, spawner);
+    let answer = gate.call(request);
     shown(alloc, &answer, wanted.as_slice(), gate.spawner())
 }
 
 // The same of a gate with one child, some of whose calls fail.
 fn asked(alloc: Global, script: ChildScript, failing: &List<u64>) -> Mem<Bytes> {
     let spawner = spawner(alloc, script, failing)?;
-    let mut gate = ProcessGate::new(alloc, spawner);
-    called(alloc, &mut gate)
+    let request = request(alloc)?;
+    called(alloc, spawner, &request)
 }
 
 /// The gate's answer to an output and a status.

@@ -53,8 +53,7 @@ fn takes<S: Shelf>(shelf: &mut S, area: &mut S::Area, name: &FileName, bytes: &[
 fn is_taken(rt: &HostRuntime, folder: &str, name: &FileName, bytes: &[u8]) -> Mem<bool> {
     let root = Text::from_str(rt.alloc(), folder)?;
     let mut area = area(rt, folder, "one")?;
-    let mut shelf = RealShelf::new(rt, root);
-    Ok(takes(&mut shelf, &mut area, name, bytes))
+    Ok(takes(&mut RealShelf::new(rt, root), &mut area, name, bytes))
 }
 
 fn answer(alloc: Global, is_done: bool, done: &str) -> Mem<String> {
@@ -81,13 +80,18 @@ pub(crate) fn swept(rt: &HostRuntime, folder: &str) -> Mem<String> {
     answer(rt.alloc(), sweep(&mut area).is_ok(), "swept")
 }
 
+fn swept_if(rt: &HostRuntime, folder: &str, is_held: bool) -> Mem<String> {
+    if is_held {
+        return swept(rt, folder);
+    }
+    word(rt.alloc(), "a fault")
+}
+
 /// The same while another user of the folder holds a piece there.
 pub(crate) fn swept_beside(rt: &HostRuntime, folder: &str) -> Mem<String> {
     let mut other = area(rt, folder, "two")?;
-    if other.begin().is_err() {
-        return word(rt.alloc(), "a fault");
-    }
-    swept(rt, folder)
+    let is_held = other.begin().is_ok();
+    swept_if(rt, folder, is_held)
 }
 
 // What a remote gives of a name.
@@ -123,10 +127,15 @@ fn versions_of<R: Remote>(alloc: Global, remote: &mut R, gav: &Gav) -> Mem<Strin
     word(alloc, "no name")
 }
 
+// The same of the remote in a folder.
+fn versions_in(rt: &HostRuntime, folder: &str, gav: &Gav) -> Mem<String> {
+    let root = Text::from_str(rt.alloc(), folder)?;
+    let mut remote = RealRemote::new(rt, root);
+    versions_of(rt.alloc(), &mut remote, gav)
+}
+
 /// How many versions of the artifact `a` a remote lists.
 pub(crate) fn versions(rt: &HostRuntime, folder: &str) -> Mem<String> {
     let gav = demo(rt.alloc(), "a")?;
-    let root = Text::from_str(rt.alloc(), folder)?;
-    let mut remote = RealRemote::new(rt, root);
-    versions_of(rt.alloc(), &mut remote, &gav)
+    versions_in(rt, folder, &gav)
 }

@@ -4,4 +4,4 @@ use Rattle.mvn_outside.proofs.NumberMaps.{put_there}
 use Rattle.device_rows.proofs.disk.store.takes.Goals as goal
 
 pub put-requires : goal.put-requires
-put-requires c = ap (λ m. map.get m c.in-Ok.piece) c.in-Ok.ensures.sealed ∙ put_there _ c.in-Ok.piece true
+put-requires g c = ap (λ m. map.get m c.in-Ok.piece) c.in-Ok.ensures.sealed ∙ put_there _ c.in-Ok.piece true

@@ -4,19 +4,14 @@ ghost use Rattle.goal_types.specs.Goals.{HasOwnSlots};
 
 use crate::coordinates::gav;
 use gate_builtin::Builtin;
-use goal_types::{GoalAnswer, GoalCall, GoalRequest, Need, Slot, SourceFile};
-use mvn_base::{Gav, Phase};
-use mvn_outside::Gate;
+use goal_types::{GoalAnswer, GoalCall, GoalRequest, Need, OwnBytes, Slot, SourceFile};
+use mvn_base::{Phase, Setting};
+use mvn_outside::{DeviceFault, Gate};
 use mvn_shared::{Bytes, List, Mem, Text};
 use std::alloc::Global;
 
-// The module demo:app:1.0.
-fn module(alloc: Global) -> Mem<Gav> {
-    gav(alloc, "demo", "app", "1.0")
-}
-
-// The goal surefire:test.
-fn goal_call(alloc: Global, slot: Slot) -> Mem<GoalCall> {
+// The goal surefire:test with these settings.
+fn goal_call(alloc: Global, slot: Slot, configuration: List<Setting>) -> Mem<GoalCall> {
     let group = Text::from_str(alloc, "org.apache.maven.plugins")?;
     let artifact = Text::from_str(alloc, "maven-surefire-plugin")?;
     let goal = Text::from_str(alloc, "test")?;
@@ -28,23 +23,30 @@ fn goal_call(alloc: Global, slot: Slot) -> Mem<GoalCall> {
         goal,
         execution,
         phase: Phase::Test,
-        configuration: List::new(alloc),
+        configuration,
         slot,
         need: Need::Test,
     })
 }
 
-/// A request of surefire:test for demo:app:1.0, without sources.
-pub(crate) fn request(alloc: Global, slot: Slot) -> Mem<GoalRequest>
+/// A request of surefire:test for demo:app:1.0 with these settings, sources and outputs.
+pub(crate) fn request(
+    alloc: Global,
+    slot: Slot,
+    settings: List<Setting>,
+    sources: List<SourceFile>,
+    own: List<OwnBytes>,
+) -> Mem<GoalRequest>
+    requires { HasOwnSlots own }
     ensures { IfOk result (λ request. HasOwnSlots request.own) }
 {
-    let module = module(alloc)?;
-    let call = goal_call(alloc, slot)?;
+    let module = gav(alloc, "demo", "app", "1.0")?;
+    let call = goal_call(alloc, slot, settings)?;
     Ok(GoalRequest {
         module,
         call,
-        sources: List::new(alloc),
-        own: List::new(alloc),
+        sources,
+        own,
         classpath: List::new(alloc),
     })
 }
@@ -84,14 +86,24 @@ fn shown(alloc: Global, answer: &GoalAnswer) -> Mem<Bytes> {
     }
 }
 
-fn answered(alloc: Global, slot: Slot, fields: &[Bytes]) -> Mem<Bytes> {
-    let mut request = request(alloc, slot)?;
-    request.sources = sources(alloc, fields)?;
-    let mut gate = Builtin::new(alloc);
-    match &gate.call(&request) {
+fn told_of_answer(alloc: Global, answer: &Result<GoalAnswer, DeviceFault>) -> Mem<Bytes> {
+    match answer {
         Ok(answer) => shown(alloc, answer),
         Err(_) => spelled(alloc, "the gate failed", "".as_bytes()),
     }
+}
+
+fn called(alloc: Global, request: &GoalRequest) -> Mem<Bytes>
+    requires { HasOwnSlots request.now.own }
+{
+    let mut gate = Builtin::new(alloc);
+    told_of_answer(alloc, &gate.call(request))
+}
+
+fn answered(alloc: Global, slot: Slot, fields: &[Bytes]) -> Mem<Bytes> {
+    let sources = sources(alloc, fields)?;
+    let request = request(alloc, slot, List::new(alloc), sources, List::new(alloc))?;
+    called(alloc, &request)
 }
 
 /// What surefire:test answers for demo:app:1.0: `main` where it has an output, and sources, each a path and its bytes.

@@ -1,36 +1,39 @@
 // Rows about the bytes of requests.
-ghost use Rattle.std.specs.Prelude.{IfOk, OnOk};
+ghost use Rattle.std.specs.Prelude.{IfOk};
 ghost use Rattle.goal_types.specs.Goals.{HasOwnSlots};
 
 use crate::goals::builtin::request;
-use goal_types::{GoalRequest, OwnBytes, Slot, SourceFile, request_bytes};
+use goal_types::{OwnBytes, Slot, SourceFile, request_bytes};
 use mvn_base::Setting;
 use mvn_shared::{Bytes, List, Mem, Text};
 use std::alloc::Global;
 
-fn setting(alloc: Global, name: &str, text: &str) -> Mem<Setting> {
+// A list of a setting.
+fn settings(alloc: Global, name: &str, text: &str, children: List<Setting>) -> Mem<List<Setting>> {
     let name = Text::from_str(alloc, name)?;
     let text = Text::from_str(alloc, text)?;
-    Ok(Setting {
+    let mut settings = List::new(alloc);
+    settings.push(Setting {
         name,
         text,
-        children: List::new(alloc),
-    })
+        children,
+    })?;
+    Ok(settings)
 }
 
 // A setting with a child.
-fn parent(alloc: Global) -> Mem<Setting> {
-    let mut parent = setting(alloc, "config", "")?;
-    parent
-        .children
-        .push(setting(alloc, "fork", "no \"fork\"")?)?;
-    Ok(parent)
+fn nested(alloc: Global) -> Mem<List<Setting>> {
+    let children = settings(alloc, "fork", "no \"fork\"", List::new(alloc))?;
+    settings(alloc, "config", "", children)
 }
 
-fn source(alloc: Global) -> Mem<SourceFile> {
+// A source.
+fn sources(alloc: Global) -> Mem<List<SourceFile>> {
     let path = Text::from_str(alloc, "src/A.java")?;
     let bytes = Bytes::from_slice(alloc, "class A {}\n".as_bytes())?;
-    Ok(SourceFile { path, bytes })
+    let mut sources = List::new(alloc);
+    sources.push(SourceFile { path, bytes })?;
+    Ok(sources)
 }
 
 // An output.
@@ -46,21 +49,30 @@ fn outputs(alloc: Global) -> Mem<List<OwnBytes>>
     Ok(own)
 }
 
-// Puts an item into each list.
-fn fill(alloc: Global, request: &mut GoalRequest) -> Mem<()>
-    ensures { OnOk result (HasOwnSlots request.new.own) }
+fn bytes_of(
+    alloc: Global,
+    settings: List<Setting>,
+    sources: List<SourceFile>,
+    own: List<OwnBytes>,
+) -> Mem<Bytes>
+    requires { HasOwnSlots own }
 {
-    request.call.configuration.push(parent(alloc)?)?;
-    request.sources.push(source(alloc)?)?;
-    request.own = outputs(alloc)?;
-    Ok(())
+    let request = request(alloc, Slot::Nowhere, settings, sources, own)?;
+    request_bytes(alloc, &request)
+}
+
+// The bytes of a request with an item in each list.
+fn full_bytes(alloc: Global) -> Mem<Bytes> {
+    let settings = nested(alloc)?;
+    let sources = sources(alloc)?;
+    let own = outputs(alloc)?;
+    bytes_of(alloc, settings, sources, own)
 }
 
 /// The bytes of a request with an item in each list, or with none.
 pub(crate) fn told(alloc: Global, kind: &str) -> Mem<Bytes> {
-    let mut request = request(alloc, Slot::Nowhere)?;
-    if kind == "full" {
-        fill(alloc, &mut request)?;
+    match kind {
+        "full" => full_bytes(alloc),
+        _ => bytes_of(alloc, List::new(alloc), List::new(alloc), List::new(alloc)),
     }
-    request_bytes(alloc, &request)
 }

@@ -1,6 +1,6 @@
 // Command lines.
 use crate::word;
-use cli_words::{CommandLine, Word, options};
+use cli_words::{CommandLine, Word, WordError, options};
 use mvn_base::Pair;
 use mvn_shared::{Bytes, Mem, Text};
 use std::alloc::Global;
@@ -86,15 +86,20 @@ fn shown(alloc: Global, line: &CommandLine) -> Mem<String> {
     Ok(shown)
 }
 
+// What a command line asks for, or its first fault.
+fn told_of_line(alloc: Global, line: &Result<CommandLine, WordError>) -> Mem<String> {
+    match line {
+        Ok(line) => shown(alloc, line),
+        Err(error) => Ok(format!(in alloc; "{error}")?),
+    }
+}
+
 // What the words ask for, or the first fault.
 fn asked(alloc: Global, words: &[Bytes], hands: u32) -> Mem<String> {
     if words.len() > 1000 || hands == 0 || hands > 16 {
         return word(alloc, "too many");
     }
-    match &options(alloc, words, hands) {
-        Ok(line) => shown(alloc, line),
-        Err(error) => Ok(format!(in alloc; "{error}")?),
-    }
+    told_of_line(alloc, &options(alloc, words, hands))
 }
 
 // A number from its digits.

@@ -6,7 +6,6 @@ use mvn_base::{FileName, Gav};
 use mvn_shared::{Bytes, List, Mem, Text};
 use run_report::{FullPart, ReportRow, RowEnd, report};
 use std::alloc::Global;
-use std::slice::from_ref;
 
 // A text with line feeds for its tildes.
 fn text(alloc: Global, spelled: &str) -> Mem<Text> {
@@ -38,34 +37,35 @@ fn end(alloc: Global, sections: &str) -> Mem<RowEnd> {
     }
 }
 
-// The row of a module demo:a:1 that ended so.
-fn row(alloc: Global, end: RowEnd) -> Mem<ReportRow> {
-    let gav = demo(alloc, "a")?;
-    Ok(ReportRow {
-        gav,
-        end,
-        notes: List::new(alloc),
-        full: None,
-    })
-}
-
 // Bytes of ASCII with tildes for their line feeds.
 fn spelled(alloc: Global, bytes: &[u8]) -> Mem<String> {
     let text = std::str::from_utf8(bytes).unwrap_or("");
     Ok(text.replace(alloc, '\n', "~")?)
 }
 
-// A report of one row.
-fn shown(alloc: Global, row: &ReportRow) -> Mem<String> {
-    let report = report(alloc, from_ref(row))?;
+fn spelled_report(alloc: Global, rows: &[ReportRow]) -> Mem<String> {
+    let report = report(alloc, rows)?;
     spelled(alloc, report.as_slice())
+}
+
+// A report of one row.
+fn shown(alloc: Global, row: ReportRow) -> Mem<String> {
+    let mut rows = List::new(alloc);
+    rows.push(row)?;
+    spelled_report(alloc, rows.as_slice())
 }
 
 /// The report of a module demo:a:1 that ended so.
 pub(crate) fn report_row(alloc: Global, sections: &str) -> Mem<String> {
+    let gav = demo(alloc, "a")?;
     let end = end(alloc, sections)?;
-    let row = row(alloc, end)?;
-    shown(alloc, &row)
+    let row = ReportRow {
+        gav,
+        end,
+        notes: List::new(alloc),
+        full: None,
+    };
+    shown(alloc, row)
 }
 
 // The name of a jar.
@@ -75,51 +75,61 @@ fn jar_of(alloc: Global, gav: &Gav) -> Mem<Option<FileName>> {
     file_name(alloc, gav, &none, &jar)
 }
 
-fn push_jar(alloc: Global, list: &mut List<FileName>, name: &str) -> Mem<()> {
-    let gav = demo(alloc, name)?;
-    match jar_of(alloc, &gav)? {
-        Some(jar) => list.push(jar),
-        None => Ok(()),
+fn push_jar(alloc: Global, jars: &mut List<FileName>, gav: &Gav) -> Mem<()> {
+    if let Some(jar) = jar_of(alloc, gav)? {
+        jars.push(jar)?;
     }
+    Ok(())
+}
+
+fn push_jar_named(alloc: Global, jars: &mut List<FileName>, name: &str) -> Mem<()> {
+    let gav = demo(alloc, name)?;
+    push_jar(alloc, jars, &gav)
 }
 
 // The jars of demo:NAME:1 for these names.
-fn push_jars(alloc: Global, list: &mut List<FileName>, names: &str) -> Mem<()> {
+fn jars(alloc: Global, names: &str) -> Mem<List<FileName>> {
+    let mut jars = List::new(alloc);
     for name in names.split_whitespace() {
-        push_jar(alloc, list, name)?;
+        push_jar_named(alloc, &mut jars, name)?;
     }
-    Ok(())
+    Ok(jars)
 }
 
-// A part with a model and no jars.
-fn full_part(alloc: Global, model: &str) -> Mem<FullPart> {
+// The part with a model and the names of jars.
+fn full_part(alloc: Global, model: &str, sections: &str) -> Mem<FullPart> {
+    let (compile, others) = split_section(sections);
+    let (runtime, test) = split_section(others);
     let model = Bytes::from_slice(alloc, model.as_bytes())?;
+    let compile = jars(alloc, compile)?;
+    let runtime = jars(alloc, runtime)?;
+    let test = jars(alloc, test)?;
     Ok(FullPart {
         model,
-        compile: List::new(alloc),
-        runtime: List::new(alloc),
-        test: List::new(alloc),
+        compile,
+        runtime,
+        test,
     })
 }
 
-// Gives a row a part with a model and the names of jars, and a note.
-fn fill(alloc: Global, row: &mut ReportRow, sections: &str) -> Mem<()> {
-    let (model, others) = split_section(sections);
-    let (compile, others) = split_section(others);
-    let (runtime, others) = split_section(others);
-    let (test, note) = split_section(others);
-    row.notes.push(text(alloc, note.trim())?)?;
-    let mut part = full_part(alloc, model)?;
-    push_jars(alloc, &mut part.compile, compile)?;
-    push_jars(alloc, &mut part.runtime, runtime)?;
-    push_jars(alloc, &mut part.test, test)?;
-    row.full = Some(part);
-    Ok(())
+fn notes(alloc: Global, note: &str) -> Mem<List<Text>> {
+    let mut notes = List::new(alloc);
+    notes.push(text(alloc, note.trim())?)?;
+    Ok(notes)
 }
 
 /// The report of a built module demo:a:1 with a model, the names of its jars and a note.
 pub(crate) fn full_row(alloc: Global, sections: &str) -> Mem<String> {
-    let mut row = row(alloc, RowEnd::Built)?;
-    fill(alloc, &mut row, sections)?;
-    shown(alloc, &row)
+    let (sections, note) = sections.rsplit_once('/').unwrap_or((sections, ""));
+    let (model, names) = split_section(sections);
+    let gav = demo(alloc, "a")?;
+    let notes = notes(alloc, note)?;
+    let full = full_part(alloc, model, names)?;
+    let row = ReportRow {
+        gav,
+        end: RowEnd::Built,
+        notes,
+        full: Some(full),
+    };
+    shown(alloc, row)
 }

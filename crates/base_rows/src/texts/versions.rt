@@ -3,7 +3,7 @@ use crate::word;
 use mvn_shared::{Mem, Text};
 use std::alloc::Global;
 use std::cmp::Ordering;
-use version_order::{Requirement, Version};
+use version_order::{Requirement, RequirementError, Version};
 
 // How two versions compare, asked both ways.
 fn mark(a: &Version, b: &Version) -> &'static str {
@@ -72,15 +72,30 @@ fn short_text(alloc: Global, number: u32) -> Mem<Text> {
     Ok(Text::of(text))
 }
 
+fn push_mark(alloc: Global, shown: &mut String, version: &Version, other: &Text) -> Mem<()> {
+    let other = Version::parse(alloc, other)?;
+    Ok(shown.push_str(mark(version, &other))?)
+}
+
+fn push_marks(alloc: Global, shown: &mut String, version: &Version) -> Mem<()> {
+    for number in 0..625u32 {
+        let other = short_text(alloc, number)?;
+        push_mark(alloc, shown, version, &other)?;
+    }
+    Ok(())
+}
+
 // How a version compares with each of all texts of four bytes of `01a.-`.
 fn among_short(alloc: Global, text: &Text) -> Mem<String> {
     let version = Version::parse(alloc, text)?;
     let mut shown = String::new(alloc);
-    for number in 0..625u32 {
-        let other = Version::parse(alloc, &short_text(alloc, number)?)?;
-        shown.push_str(mark(&version, &other))?;
-    }
+    push_marks(alloc, &mut shown, &version)?;
     Ok(shown)
+}
+
+// Why a text is no requirement.
+fn spelled(alloc: Global, error: &RequirementError) -> Mem<String> {
+    Ok(format!(in alloc; "{error}")?)
 }
 
 fn marks(alloc: Global, requirement: &Requirement, versions: &[Version]) -> Mem<String> {
@@ -106,7 +121,7 @@ fn marked(alloc: Global, requirement: &Requirement, texts: &[Text]) -> Mem<Strin
 fn admitted(alloc: Global, requirement: &Text, texts: &[Text]) -> Mem<String> {
     match &Requirement::parse(alloc, requirement) {
         Ok(requirement) => marked(alloc, requirement, texts),
-        Err(error) => Ok(format!(in alloc; "{error}")?),
+        Err(error) => spelled(alloc, error),
     }
 }
 
@@ -120,13 +135,17 @@ fn highest_of(alloc: Global, requirement: &Requirement, versions: &[Version]) ->
     }
 }
 
+fn highest_among(alloc: Global, requirement: &Text, versions: &[Version]) -> Mem<String> {
+    match &Requirement::parse(alloc, requirement) {
+        Ok(requirement) => highest_of(alloc, requirement, versions),
+        Err(error) => spelled(alloc, error),
+    }
+}
+
 // The place of the highest version that a requirement admits.
 fn highest(alloc: Global, requirement: &Text, texts: &[Text]) -> Mem<String> {
     let versions = versions(alloc, texts)?;
-    match &Requirement::parse(alloc, requirement) {
-        Ok(requirement) => highest_of(alloc, requirement, versions.as_slice()),
-        Err(error) => Ok(format!(in alloc; "{error}")?),
-    }
+    highest_among(alloc, requirement, versions.as_slice())
 }
 
 /// What is told of a row of versions.

@@ -3,8 +3,8 @@
 # people write, elements in 63 others, one long text, white space, references alone, empty elements of three attributes,
 # properties that each have a name of their own, and one comment that doesn't end. A tenth of each is measured beside it: ten times its time is what linear costs.
 # One process reads the text 100 times and lets go of each result before the next, as a build reads many POMs in one process. The time that is told is that of one
-# reading: a hundredth of the process's time above that of the smallest text. Where xmllint is installed, its SAX reader runs beside it on the same bytes, 100 times in
-# one process too, and the ratio is told, in which 0.5 is half of its speed. Behind it stands what a single reading costs in a process of its own, in which each page of
+# reading: a hundredth of the process's time above that of the smallest text. Where xmllint is installed, its SAX reader runs in turn with it on the same bytes, 100 times in
+# one process too, and the ratio is told, in which 0.5 is half of its speed. Of runs in turn the middle one counts, since the speed of a machine may change by a half in seconds. Behind it stands what a single reading costs in a process of its own, in which each page of
 # memory is new. On Linux the memory of such a process is told, above that of the start and the text itself: the most that was resident, what still is when the program
 # tells its answer and has freed no element yet, and how many times that the most is. The last lines tell what the model of a POM costs
 # beside its text: the same program reads both of a POM of dependencies, as many times, and the time of the text alone is taken off.
@@ -51,6 +51,18 @@ unfinished() { printf '<r><!--'; head -c $(($1 - 8)) /dev/zero | tr '\0' '-'; }
 white() { printf '<r>'; head -c $(($1 - 8)) /dev/zero | tr '\0' ' '; printf '</r>'; }
 attributes() { awk -v most="$1" 'BEGIN { printf "<r>"; for (i = 0; (i + 1) * 47 + 7 < most; i++) printf "<b name=\"one\" second=\"two\" third=\"%010d\"/>", i; printf "</r>" }'; }
 properties() { awk -v most="$1" 'BEGIN { printf "<r>\n"; for (i = 0; (i + 1) * 62 < most; i++) printf "    <some.property-%06d>value %06d</some.property-%06d>\n", i, i, i; printf "</r>" }'; }
+
+# READER, READER: runs both in turn on the text, and leaves the nanoseconds of the middle run of each in `one` and `other`
+in_turn() {
+  : > times.one
+  : > times.other
+  for _ in $(seq 15); do
+    spent_by "$1" 1 >> times.one
+    spent_by "$2" 1 >> times.other
+  done
+  one=$(sort -n times.one | sed -n 8p)
+  other=$(sort -n times.other | sed -n 8p)
+}
 
 # A POM whose dependencies stand in profiles of 1,000, since a list has at most 1,024 items
 modelled() {
@@ -105,10 +117,13 @@ for kind in dependencies nested long white references attributes properties unfi
   for most in 104857 1048576; do
     "$kind" "$most" > in
     alone=$(($(spent_by alone 15) - base_alone))
-    spent=$(($(spent_by text 5) - base))
     ratio=
-    if [ -n "$sax_base" ]; then
-      sax=$(($(spent_by sax 5) - sax_base))
+    if [ -z "$sax_base" ]; then
+      spent=$(($(spent_by text 5) - base))
+    else
+      in_turn text sax
+      spent=$((one - base))
+      sax=$((other - sax_base))
       ratio=$(awk -v own="$spent" -v sax="$sax" 'BEGIN { printf "%5.2f of SAX", sax / own }')
     fi
     awk -v kind="$kind" -v bytes="$(wc -c < in)" -v spent="$((spent / repeats))" -v ratio="$ratio" -v alone="$alone" -v most="$(above_start "$(memory)" "$memory_base")" -v told="$(cat out)" \
@@ -118,8 +133,9 @@ done
 
 for most in 104857 1048576; do
   modelled "$most" > in
-  spent=$((($(spent_by text 9) - base) / repeats))
-  both=$((($(spent_by model 9) - base) / repeats))
+  in_turn text model
+  spent=$(((one - base) / repeats))
+  both=$(((other - base) / repeats))
   awk -v bytes="$(wc -c < in)" -v spent="$spent" -v model="$((both - spent))" -v told="$(cat out)" \
     'BEGIN { printf "model        %7d bytes  %8.3f ms beside %8.3f ms of the text  %5.2f of its time  %s\n", bytes, model / 1e6, spent / 1e6, model / spent, told }'
 done

@@ -3,18 +3,23 @@ use mvn_base::{Gav, PomId};
 use mvn_shared::{List, Mem, Shared, Text};
 use std::alloc::Global;
 
+// A text, which its copies share, as they share those of a POM.
+fn text(alloc: Global, word: &str) -> Mem<Text> {
+    Text::from_str(alloc, word)?.shared(alloc)
+}
+
 // A text, unless it isn't stated.
 fn stated(alloc: Global, field: &str) -> Mem<Option<Text>> {
     if field == "-" {
         Ok(None)
     } else {
-        Ok(Some(Text::from_str(alloc, field)?))
+        Ok(Some(text(alloc, field)?))
     }
 }
 
 // A text, or another where it isn't stated.
 fn stated_or(alloc: Global, field: &str, other: &str) -> Mem<Text> {
-    Text::from_str(alloc, if field == "-" { other } else { field })
+    text(alloc, if field == "-" { other } else { field })
 }
 
 // The exclusions of a field.
@@ -22,8 +27,8 @@ fn exclusions(alloc: Global, field: &str) -> Mem<List<Exclusion>> {
     let mut list = List::new(alloc);
     for part in field.split(',') {
         if let Some((group, artifact)) = part.split_once(':') {
-            let group = Text::from_str(alloc, group)?;
-            let artifact = Text::from_str(alloc, artifact)?;
+            let group = text(alloc, group)?;
+            let artifact = text(alloc, artifact)?;
             list.push(Exclusion { group, artifact })?;
         }
     }
@@ -56,8 +61,8 @@ struct Terms {
 }
 
 fn artifact_of(alloc: Global, words: &[&str]) -> Mem<Artifact> {
-    let group = Text::from_str(alloc, word(words, 1))?;
-    let artifact = Text::from_str(alloc, word(words, 2))?;
+    let group = text(alloc, word(words, 1))?;
+    let artifact = text(alloc, word(words, 2))?;
     let kind = stated_or(alloc, word(words, 4), "jar")?;
     Ok(Artifact {
         group,
@@ -106,9 +111,9 @@ pub(crate) fn dependency(
 
 /// The coordinate of a line.
 pub(crate) fn gav(alloc: Global, words: &[&str]) -> Mem<Gav> {
-    let group = Text::from_str(alloc, word(words, 1))?;
-    let artifact = Text::from_str(alloc, word(words, 2))?;
-    let version = Text::from_str(alloc, word(words, 3))?;
+    let group = text(alloc, word(words, 1))?;
+    let artifact = text(alloc, word(words, 2))?;
+    let version = text(alloc, word(words, 3))?;
     Ok(Gav {
         group,
         artifact,
@@ -189,7 +194,7 @@ fn model_of(
     base: &Shared<ModelBase>,
     build: &Shared<Build>,
 ) -> Mem<Model> {
-    let packaging = Text::from_str(alloc, "jar")?;
+    let packaging = text(alloc, "jar")?;
     let pom = pom(alloc, gav)?;
     let gav = shared_gav(alloc, gav)?;
     let base = base.share()?;

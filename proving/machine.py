@@ -3,6 +3,7 @@ import importlib.machinery
 import importlib.util
 import os
 import shutil
+import subprocess
 import sys
 from typing import NamedTuple
 
@@ -46,6 +47,31 @@ def load_rt():
     sys.modules["rt_command"] = module
     loader.exec_module(module)
     return module
+
+
+def spent(number, *, last):
+    """The processor seconds of a process so far, or the last figure if it has ended."""
+    try:
+        with open(f"/proc/{number}/stat") as file:
+            fields = file.read().rpartition(")")[2].split()
+        return sum(map(int, fields[11:15])) / TICKS
+    except (OSError, IndexError):
+        return last
+
+
+def begin_check(name, *flags, tests=False):
+    """Begins the check of a crate of this repository as `rt ci` does it, from nothing and in one session, and returns its process, which writes text."""
+    rt = load_rt()
+    os.chdir(TOP)
+    rt.Crate.allowed = rt.handles_of(TOP)
+    crate = next((it for it in rt.crates_of(TOP) if it.name == name), None)
+    if crate is None:
+        sys.exit(f"crates.txt has no crate {name}")
+    crate.out = sys.stderr
+    words = crate.words(["--jobs", "1", *(["--test"] if tests else [])], keeps=False)
+    rattle = f"{os.path.dirname(os.path.realpath(shutil.which('rt')))}/rattle"
+    argv = [rattle, "check", *words, *flags]
+    return subprocess.Popen(argv, cwd=f"{TOP}/crates/{name}", stdout=subprocess.PIPE, stderr=subprocess.STDOUT, text=True)
 
 
 def running(*commands):

@@ -10,13 +10,11 @@ usage: proving/module_costs.py CRATE [FLAGS OF rattle check..]     with TEST=1 b
 import bisect
 import glob
 import os
-import shutil
-import subprocess
 import sys
 import threading
 import time
 
-from machine import TICKS, TOP, load_rt
+from machine import begin_check, spent
 
 
 class Samples:
@@ -28,14 +26,6 @@ class Samples:
         self.goes_on = True
         self.thread = threading.Thread(target=self.watch)
         self.thread.start()
-
-    def spent(self):
-        try:
-            with open(f"/proc/{self.number}/stat") as file:
-                fields = file.read().rpartition(")")[2].split()
-            return sum(map(int, fields[11:15])) / TICKS
-        except (OSError, IndexError):
-            return self.used[-1] if self.used else 0.0
 
     def look(self):
         for folder in glob.glob(f"/tmp/rattle-logic-built-locked-{self.number}-*"):
@@ -51,7 +41,7 @@ class Samples:
     def watch(self):
         while self.goes_on:
             for _ in range(20):
-                self.used.append(self.spent())
+                self.used.append(spent(self.number, last=self.used[-1] if self.used else 0.0))
                 self.times.append(time.time())
                 time.sleep(0.05)
             self.look()
@@ -77,16 +67,8 @@ def costs(samples):
 def main():
     if len(sys.argv) < 2:
         sys.exit(__doc__.rpartition("\n\n")[2])
-    name, flags = sys.argv[1], sys.argv[2:]
-    rt = load_rt()
-    os.chdir(TOP)
-    rt.Crate.allowed = rt.handles_of(TOP)
-    crate = next(it for it in rt.crates_of(TOP) if it.name == name)
-    crate.out = sys.stderr
-    tests = ["--test"] if os.environ.get("TEST") else []
-    words = crate.words(["--jobs", "1", *tests], keeps=False)
-    rattle = f"{os.path.dirname(os.path.realpath(shutil.which('rt')))}/rattle"
-    check = subprocess.Popen([rattle, "check", *words, *flags], cwd=f"{TOP}/crates/{name}", stdout=subprocess.PIPE, stderr=subprocess.STDOUT, text=True)
+    name = sys.argv[1]
+    check = begin_check(name, *sys.argv[2:], tests=bool(os.environ.get("TEST")))
     samples = Samples(check.pid, name)
     said = check.stdout.read().splitlines()
     status = check.wait()

@@ -1,8 +1,9 @@
-ghost use Rattle.std.specs.Prelude.{◌≡◌, ◌<◌, ◌==◌, ◌++◌, [], ◌∷◌, true, map, codes, IfOk, OnOk};
+ghost use Rattle.std.specs.Prelude.{◌≡◌, ◌<◌, ◌==◌, nat_eq, ◌++◌, [], ◌∷◌, true, map, codes, IfOk, OnOk};
 ghost use Rattle.std.specs.String.{string_bytes};
-ghost use Rattle.mvn_base.specs.FileName.{artifact_folder, folder_byte, classifier_part, file_name, IsValid, is_classifier, step_before_last, version_in};
+ghost use Rattle.mvn_base.specs.FileName.{artifact_folder, folder_byte, classifier_part, file_name, IsValid, is_classifier, pom_name, step_before_last, version_in};
+ghost use Rattle.std.specs.Cmp.Lexicographic.{pointwise};
 ghost use Rattle.std.specs.List.{slice_split};
-ghost use Rattle.mvn_base.specs.Names.{is_group, is_name};
+ghost use Rattle.mvn_base.specs.Names.{is_group, is_name, is_version};
 
 use crate::gav::Gav;
 use crate::names::valid_version;
@@ -140,6 +141,15 @@ fn step_before_last<'a>(steps: &[&'a str]) -> &'a str
     }
 }
 
+// The step before the last of a path, as a text.
+fn folder_step(alloc: Global, path: &str) -> Mem<Text>
+    ensures { IfOk result (λ step.
+        step ≡ step_before_last (slice_split (λ b. b == 47) path.now)) }
+{
+    let steps = steps(alloc, path)?;
+    Text::from_str(alloc, step_before_last(&steps))
+}
+
 // The extension of a POM.
 #[tactic(auto, unfolding(crate::specs::Names::is_name, crate::specs::Names::is_name_byte))]
 fn pom_extension(alloc: Global) -> Mem<Text>
@@ -149,6 +159,51 @@ fn pom_extension(alloc: Global) -> Mem<Text>
     Text::from_str(alloc, "pom")
 }
 
+// The name of the POM of a coordinate.
+fn pom_of(alloc: Global, gav: &Gav) -> Mem<FileName>
+    requires { IsValid gav.now }
+    ensures { IfOk result (λ name. name ≡ file_name gav.now [] (codes "pom")) }
+{
+    let none = Text::from_str(alloc, "")?;
+    let pom = pom_extension(alloc)?;
+    file_of(alloc, gav, &none, &pom)
+}
+
+// A coordinate of these parts.
+fn gav_of(group: &Text, artifact: &Text, version: &Text) -> Mem<Gav>
+    ensures group { IfOk result (λ gav. gav.group ≡ group.now) }
+    ensures artifact { IfOk result (λ gav. gav.artifact ≡ artifact.now) }
+    ensures version { IfOk result (λ gav. gav.version ≡ version.now) }
+{
+    let group = group.clone()?;
+    let artifact = artifact.clone()?;
+    let version = version.clone()?;
+    Ok(Gav {
+        group,
+        artifact,
+        version,
+    })
+}
+
+// Whether the POM of these parts has this name.
+fn is_pom_name(
+    alloc: Global,
+    group: &Text,
+    artifact: &Text,
+    version: &Text,
+    name: &Text,
+) -> Mem<bool>
+    requires group { is_group group.now ≡ true }
+    requires artifact { is_name artifact.now ≡ true }
+    requires version { is_version version.now ≡ true }
+    ensures { IfOk result (λ it.
+        it ≡ pointwise nat_eq (pom_name group.now artifact.now version.now) name.now) }
+{
+    let gav = gav_of(group, artifact, version)?;
+    let pom = pom_of(alloc, &gav)?;
+    Ok(pom.as_text() == name)
+}
+
 /// The version of an artifact whose POM has this name, where it is a valid one. Costs the name's length.
 #[tactic(auto, unfolding(crate::specs::FileName::version_in))]
 pub fn version_in(alloc: Global, group: &Text, artifact: &Text, name: &Text) -> Mem<Option<Text>>
@@ -156,24 +211,12 @@ pub fn version_in(alloc: Global, group: &Text, artifact: &Text, name: &Text) -> 
     requires artifact { is_name artifact.now ≡ true }
     ensures { IfOk result (λ found. found ≡ version_in group.now artifact.now name.now) }
 {
-    let steps = steps(alloc, name.as_str())?;
-    let version = Text::from_str(alloc, step_before_last(&steps))?;
+    let version = folder_step(alloc, name.as_str())?;
     if !valid_version(version.as_bytes()) {
         return Ok(None);
     }
-    let gav = Gav {
-        group: group.clone()?,
-        artifact: artifact.clone()?,
-        version,
-    };
-    let pom = file_of(
-        alloc,
-        &gav,
-        &Text::from_str(alloc, "")?,
-        &pom_extension(alloc)?,
-    )?;
-    if pom.as_text() == name {
-        Ok(Some(gav.version))
+    if is_pom_name(alloc, group, artifact, &version, name)? {
+        Ok(Some(version))
     } else {
         Ok(None)
     }

@@ -1,15 +1,17 @@
 // A goal's request as bytes: what a goal in a program of its own reads, and what the built-in goals digest.
-ghost use Rattle.std.specs.Prelude.{◌≡◌, ◌++◌, List, map, flat_map, IfOk, OnOk};
+ghost use Rattle.std.specs.Prelude.{◌≡◌, ◌++◌, List, map, flat_map, codes, IfOk, OnOk};
 ghost use Rattle.std.specs.String.{string_bytes};
-ghost use Rattle.serde_json.specs.View.{view, items_view, items_of};
+ghost use Rattle.serde_json.specs.Data.{string, put as with_member};
+ghost use Rattle.serde_json.specs.View.{view, items_view, items_of, members_view};
 ghost use Rattle.serde_json.specs.Written.{compact_text};
+ghost use Rattle.mvn_base.specs.Phase.{phase_name};
 ghost use Rattle.goal_types.specs.Goals.{HasOwnSlots};
-ghost use Rattle.goal_types.specs.Requests.{setting_object, setting_data, slot_name, source_data, own_data, count_data, entry_data, entry_bytes, plugin_text, request_object, request_data, request_line, request_text};
+ghost use Rattle.goal_types.specs.Requests.{setting_object, setting_data, slot_name, counted, list_data, source_data, own_data, count_data, entry_data, entry_bytes, plugin_text, request_object, request_data, request_line, request_text};
 
 use crate::goal::{GoalCall, GoalRequest, OwnBytes, PathEntry, Slot, SourceFile};
 use mvn_base::Setting;
 use mvn_shared::{Bytes, Mem};
-use serde_json::{Value, json};
+use serde_json::{Map, Value, json, put};
 use std::alloc::{AllocError, Global};
 
 impl Slot {
@@ -64,16 +66,37 @@ fn setting_values(alloc: Global, settings: &[Setting]) -> Mem<Vec<Value>>
     Ok(values)
 }
 
+// A name, and how many bytes stand for it.
+fn counted(alloc: Global, name: &str, count: Value) -> Result<Value, AllocError>
+    ensures { IfOk result (λ value. view value ≡ counted name.now (view count)) }
+{
+    json!(in alloc; [name, count])
+}
+
+// A source's path, and how many bytes it has.
+fn source_value(alloc: Global, source: &SourceFile) -> Mem<Value>
+    ensures { IfOk result (λ value. view value ≡ source_data source.now) }
+{
+    let count = Value::from(source.bytes.len() as u64);
+    Ok(counted(alloc, source.path.as_str(), count)?)
+}
+
 fn source_values(alloc: Global, sources: &[SourceFile]) -> Mem<Vec<Value>>
     ensures { IfOk result (λ values. map view values.items ≡ map source_data sources.now) }
 {
     let mut values = Vec::with_capacity(alloc, sources.len())?;
     for source in sources {
-        let path = source.path.as_str();
-        let count = source.bytes.len() as u64;
-        values.push(json!(in alloc; [path, count])?)?;
+        values.push(source_value(alloc, source)?)?;
     }
     Ok(values)
+}
+
+// An output's slot, and how many bytes it has.
+fn own_value(alloc: Global, output: &OwnBytes) -> Mem<Value>
+    ensures { IfOk result (λ value. view value ≡ own_data output.now) }
+{
+    let count = Value::from(output.bytes.len() as u64);
+    Ok(counted(alloc, output.slot.name(), count)?)
 }
 
 fn own_values(alloc: Global, own: &[OwnBytes]) -> Mem<Vec<Value>>
@@ -81,9 +104,7 @@ fn own_values(alloc: Global, own: &[OwnBytes]) -> Mem<Vec<Value>>
 {
     let mut values = Vec::with_capacity(alloc, own.len())?;
     for output in own {
-        let slot = output.slot.name();
-        let count = output.bytes.len() as u64;
-        values.push(json!(in alloc; [slot, count])?)?;
+        values.push(own_value(alloc, output)?)?;
     }
     Ok(values)
 }
@@ -98,14 +119,20 @@ fn count_value(bytes: &Option<Bytes>) -> Value
     }
 }
 
+// An entry's name, and how many bytes it has.
+fn entry_value(alloc: Global, entry: &PathEntry) -> Mem<Value>
+    ensures { IfOk result (λ value. view value ≡ entry_data entry.now) }
+{
+    let count = count_value(&entry.bytes);
+    Ok(counted(alloc, entry.name.as_text().as_str(), count)?)
+}
+
 fn entry_values(alloc: Global, entries: &[PathEntry]) -> Mem<Vec<Value>>
     ensures { IfOk result (λ values. map view values.items ≡ map entry_data entries.now) }
 {
     let mut values = Vec::with_capacity(alloc, entries.len())?;
     for entry in entries {
-        let name = entry.name.as_text().as_str();
-        let count = count_value(&entry.bytes);
-        values.push(json!(in alloc; [name, count])?)?;
+        values.push(entry_value(alloc, entry)?)?;
     }
     Ok(values)
 }
@@ -120,55 +147,107 @@ fn plugin_text(alloc: Global, call: &GoalCall) -> Mem<String>
     Ok(format!(in alloc; "{group}:{artifact}:{version}")?)
 }
 
-// The line of a request, of the values of its lists.
-#[tactic(auto, unfolding(crate::specs::Requests::request_object))]
-fn request_object(
+// A text under a key.
+fn put_text(map: &mut Map<String, Value>, alloc: Global, key: &str, text: &str) -> Mem<()>
+    ensures { OnOk result (members_view map.new.entries
+        ≡ with_member key.now (string text.now) (members_view map.old.entries)) }
+{
+    let value = Value::try_from_str(alloc, text)?;
+    Ok(put(map, alloc, key, value)?)
+}
+
+// The sources under their key.
+fn put_sources(map: &mut Map<String, Value>, alloc: Global, sources: &[SourceFile]) -> Mem<()>
+    ensures { OnOk result (members_view map.new.entries
+        ≡ with_member (codes "sources") (list_data source_data sources.now)
+        (members_view map.old.entries)) }
+{
+    let values = Value::Array(source_values(alloc, sources)?);
+    Ok(put(map, alloc, "sources", values)?)
+}
+
+// The kept outputs under their key.
+fn put_own(map: &mut Map<String, Value>, alloc: Global, own: &[OwnBytes]) -> Mem<()>
+    ensures { OnOk result (members_view map.new.entries
+        ≡ with_member (codes "own") (list_data own_data own.now)
+        (members_view map.old.entries)) }
+{
+    let values = Value::Array(own_values(alloc, own)?);
+    Ok(put(map, alloc, "own", values)?)
+}
+
+// The classpath under its key.
+fn put_classpath(map: &mut Map<String, Value>, alloc: Global, entries: &[PathEntry]) -> Mem<()>
+    ensures { OnOk result (members_view map.new.entries
+        ≡ with_member (codes "classpath") (list_data entry_data entries.now)
+        (members_view map.old.entries)) }
+{
+    let values = Value::Array(entry_values(alloc, entries)?);
+    Ok(put(map, alloc, "classpath", values)?)
+}
+
+// The configuration under its key.
+fn put_configuration(map: &mut Map<String, Value>, alloc: Global, settings: &[Setting]) -> Mem<()>
+    ensures { OnOk result (members_view map.new.entries
+        ≡ with_member (codes "configuration") (list_data setting_data settings.now)
+        (members_view map.old.entries)) }
+{
+    let values = Value::Array(setting_values(alloc, settings)?);
+    Ok(put(map, alloc, "configuration", values)?)
+}
+
+// The members of a request's line behind `groupId`, the last first.
+fn put_last(
+    map: &mut Map<String, Value>,
     alloc: Global,
     request: &GoalRequest,
     plugin: &str,
-    sources: Value,
-    own: Value,
-    classpath: Value,
-    configuration: Value,
-) -> Result<Value, AllocError>
-    ensures { IfOk result (λ value.
-        view value ≡ request_object request.now plugin.now (view sources) (view own)
-        (view classpath) (view configuration)) }
+) -> Mem<()>
+    ensures { OnOk result (members_view map.new.entries
+        ≡ with_member (codes "own") (list_data own_data request.now.own) (
+        with_member (codes "phase") (string (phase_name request.now.call.phase)) (
+        with_member (codes "plugin") (string plugin.now) (
+        with_member (codes "sources") (list_data source_data request.now.sources) (
+        with_member (codes "version") (string request.now.module.version)
+        (members_view map.old.entries)))))) }
 {
-    json!(in alloc; {
-        "artifactId": request.module.artifact.as_str(),
-        "classpath": classpath,
-        "configuration": configuration,
-        "execution": request.call.execution.as_str(),
-        "goal": request.call.goal.as_str(),
-        "groupId": request.module.group.as_str(),
-        "own": own,
-        "phase": request.call.phase.name(),
-        "plugin": plugin,
-        "sources": sources,
-        "version": request.module.version.as_str()
-    })
+    put_text(map, alloc, "version", request.module.version.as_str())?;
+    put_sources(map, alloc, request.sources.as_slice())?;
+    put_text(map, alloc, "plugin", plugin)?;
+    put_text(map, alloc, "phase", request.call.phase.name())?;
+    put_own(map, alloc, request.own.as_slice())
+}
+
+// The members of a request's line up to `groupId`, the last first.
+fn put_first(map: &mut Map<String, Value>, alloc: Global, request: &GoalRequest) -> Mem<()>
+    ensures { OnOk result (members_view map.new.entries
+        ≡ with_member (codes "artifactId") (string request.now.module.artifact) (
+        with_member (codes "classpath") (list_data entry_data request.now.classpath) (
+        with_member (codes "configuration")
+        (list_data setting_data request.now.call.configuration) (
+        with_member (codes "execution") (string request.now.call.execution) (
+        with_member (codes "goal") (string request.now.call.goal) (
+        with_member (codes "groupId") (string request.now.module.group)
+        (members_view map.old.entries))))))) }
+{
+    put_text(map, alloc, "groupId", request.module.group.as_str())?;
+    put_text(map, alloc, "goal", request.call.goal.as_str())?;
+    put_text(map, alloc, "execution", request.call.execution.as_str())?;
+    put_configuration(map, alloc, request.call.configuration.as_slice())?;
+    put_classpath(map, alloc, request.classpath.as_slice())?;
+    put_text(map, alloc, "artifactId", request.module.artifact.as_str())
 }
 
 // The line of a request, as a JSON value.
+#[tactic(auto, unfolding(crate::specs::Requests::request_object))]
 fn request_value(alloc: Global, request: &GoalRequest) -> Mem<Value>
     ensures { IfOk result (λ value. view value ≡ request_data request.now) }
 {
     let plugin = plugin_text(alloc, &request.call)?;
-    let sources = Value::Array(source_values(alloc, request.sources.as_slice())?);
-    let own = Value::Array(own_values(alloc, request.own.as_slice())?);
-    let classpath = Value::Array(entry_values(alloc, request.classpath.as_slice())?);
-    let configuration = Value::Array(setting_values(alloc, request.call.configuration.as_slice())?);
-    let plugin = plugin.as_str();
-    Ok(request_object(
-        alloc,
-        request,
-        plugin,
-        sources,
-        own,
-        classpath,
-        configuration,
-    )?)
+    let mut map = Map::new(alloc);
+    put_last(&mut map, alloc, request, plugin.as_str())?;
+    put_first(&mut map, alloc, request)?;
+    Ok(Value::Object(map))
 }
 
 /// The line that a request begins with: compact JSON, and a line feed. Own format. Costs the time and memory of what it

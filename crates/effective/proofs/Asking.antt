@@ -8,9 +8,9 @@ use Rattle.pom_source.specs.Chains.{goes_on, stop_fails}
 use Rattle.pom_source.specs.Worlds.{World}
 use Rattle.pom_source.specs.declared.fault.BuildFault.{BuildFault}
 use Rattle.pom_source.specs.declared.found.Given.{Given}
-use Rattle.pom_lineage.specs.Beside.{read_at}
-use Rattle.pom_lineage.specs.Lineage.{lineage}
-use Rattle.pom_lineage.specs.declared.joined.Joined.{Joined}
+use Rattle.pom_store.specs.Beside.{read_at}
+use Rattle.pom_store.specs.Lineage.{lineage}
+use Rattle.pom_store.specs.declared.joined.Joined.{Joined}
 use Rattle.model_steps.specs.Folders.{filled}
 use Rattle.effective.specs.Effective.{asked_path, full, if_there, managed_of, whole}
 

@@ -15,8 +15,8 @@ use Rattle.pom_source.specs.Refusals.{gav_refused}
 use Rattle.pom_source.specs.Worlds.{World}
 use Rattle.pom_source.specs.declared.found.Found.{Found}
 use Rattle.pom_source.specs.declared.found.Given.{Given}
-use Rattle.pom_lineage.specs.Lineage.{is_in, next_poms, pom_eq}
-use Rattle.pom_lineage.specs.Reading.{read}
+use Rattle.pom_store.specs.Lineage.{is_in, next_poms, pom_eq}
+use Rattle.pom_store.specs.Reading.{read}
 use Rattle.model_steps.specs.Assembly.{model_of}
 use Rattle.model_steps.specs.Building.{built}
 use Rattle.model_steps.specs.Imports.{import_gav}

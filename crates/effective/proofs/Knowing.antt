@@ -14,12 +14,12 @@ use Rattle.pom_source.specs.declared.fault.BuildFault.{BuildFault}
 use Rattle.pom_source.specs.declared.fault.BuildFault.TheVariants.{Refused, Absent, Source, Memory}
 use Rattle.pom_source.specs.declared.found.Found.{Found}
 use Rattle.pom_source.specs.declared.found.Given.{Given}
-use Rattle.pom_lineage.specs.Lineage.{is_in, known, known_at, known_of, next_poms, pom_of, text_of}
-use Rattle.pom_lineage.specs.Reading.{read}
-use Rattle.pom_lineage.specs.declared.origin.Candidate.{Candidate}
-use Rattle.pom_lineage.specs.declared.origin.Candidate.TheVariants as candidates
-use Rattle.pom_lineage.proofs.Knowing.{OnlyRefuses, only_read}
-use Rattle.pom_lineage.proofs.Naming.{read_pom, text_pom}
+use Rattle.pom_store.specs.Lineage.{is_in, known, known_at, known_of, next_poms, pom_of, text_of}
+use Rattle.pom_store.specs.Reading.{read}
+use Rattle.pom_store.specs.declared.origin.Candidate.{Candidate}
+use Rattle.pom_store.specs.declared.origin.Candidate.TheVariants as candidates
+use Rattle.pom_store.proofs.Knowing.{OnlyRefuses, only_read}
+use Rattle.pom_store.proofs.Naming.{read_pom, text_pom}
 use Rattle.effective.specs.Effective.{import_found, import_on, imported, met_import, read_found, wanted}
 use Rattle.effective.specs.Knowing.{import_of, raw_of, said_of, unbuilt}
 

@@ -4,10 +4,10 @@ use Rattle.std.proofs.Math.Seq.{drop-cons}
 use Rattle.std.proofs.lemmas.Bool.{le-leb, leb-true}
 use Rattle.mvn_base.specs.declared.refusal.PomId.{PomId}
 use Rattle.mvn_base.specs.declared.refusal.PomId.TheVariants as ids
-use Rattle.pom_lineage.specs.Lineage.{is_in, next_poms, pom_eq}
-use Rattle.pom_lineage.specs.Stores.{meets}
-use Rattle.pom_lineage.proofs.Holding.{same_gav, same_path}
-use Rattle.pom_lineage.proofs.Keeping.{meets_more}
+use Rattle.pom_store.specs.Lineage.{is_in, next_poms, pom_eq}
+use Rattle.pom_store.specs.Stores.{meets}
+use Rattle.pom_store.proofs.Holding.{same_gav, same_path}
+use Rattle.pom_store.proofs.Keeping.{meets_more}
 use Rattle.effective.specs.Serving.{serves}
 use Rattle.effective.specs.declared.below.Below.{Below}
 

@@ -28,14 +28,14 @@ use Rattle.pom_source.specs.declared.fault.BuildFault.{BuildFault}
 use Rattle.pom_source.specs.declared.fault.BuildFault.TheVariants.{Refused, Absent, Source, Memory}
 use Rattle.pom_source.specs.declared.found.Found.{Found}
 use Rattle.pom_source.specs.declared.found.Given.{Given}
-use Rattle.pom_lineage.specs.Beside.{at_path, at_second, found_origin, of_gav, or_at, origin_from, read_at}
-use Rattle.pom_lineage.specs.Lineage.{above, candidate, entered, first_of, found_or, gav_of, is_in, joined_from, joined_up, known, known_at, known_of, line, lineage, next_poms, origin_of, packed, parent_from, pom_of, put_over, text_of, unless, unmet, unstated}
-use Rattle.pom_lineage.specs.Reading.{elements, read, read_file, with_profiles}
-use Rattle.pom_lineage.specs.declared.joined.Joined.{Joined}
-use Rattle.pom_lineage.specs.declared.origin.Origin.{Origin}
-use Rattle.pom_lineage.specs.declared.origin.Origin.TheVariants.{Beside, Elsewhere}
-use Rattle.pom_lineage.specs.declared.origin.Candidate.{Candidate}
-use Rattle.pom_lineage.specs.declared.origin.Candidate.TheVariants as candidates
+use Rattle.pom_store.specs.Beside.{at_path, at_second, found_origin, of_gav, or_at, origin_from, read_at}
+use Rattle.pom_store.specs.Lineage.{above, candidate, entered, first_of, found_or, gav_of, is_in, joined_from, joined_up, known, known_at, known_of, line, lineage, next_poms, origin_of, packed, parent_from, pom_of, put_over, text_of, unless, unmet, unstated}
+use Rattle.pom_store.specs.Reading.{elements, read, read_file, with_profiles}
+use Rattle.pom_store.specs.declared.joined.Joined.{Joined}
+use Rattle.pom_store.specs.declared.origin.Origin.{Origin}
+use Rattle.pom_store.specs.declared.origin.Origin.TheVariants.{Beside, Elsewhere}
+use Rattle.pom_store.specs.declared.origin.Candidate.{Candidate}
+use Rattle.pom_store.specs.declared.origin.Candidate.TheVariants as candidates
 use Rattle.model_steps.specs.Building.{built, built_by}
 use Rattle.model_steps.specs.Assembly.{model_of}
 use Rattle.model_steps.specs.Folders.{basedir_in, filled, placed_in}

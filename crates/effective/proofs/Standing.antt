@@ -16,9 +16,9 @@ use Rattle.pom_source.specs.Chains.{ok_is, stop_fails}
 use Rattle.pom_source.specs.Worlds.{World}
 use Rattle.pom_source.specs.declared.fault.BuildFault.{BuildFault}
 use Rattle.pom_source.specs.declared.found.Given.{Given}
-use Rattle.pom_lineage.specs.Lineage.{is_in, known_at, next_poms}
-use Rattle.pom_lineage.specs.Stores.{meets}
-use Rattle.pom_lineage.proofs.Keeping.{apart_both, apart_first, apart_last, or_left, or_right}
+use Rattle.pom_store.specs.Lineage.{is_in, known_at, next_poms}
+use Rattle.pom_store.specs.Stores.{meets}
+use Rattle.pom_store.proofs.Keeping.{apart_both, apart_first, apart_last, or_left, or_right}
 use Rattle.model_steps.specs.Building.{built}
 use Rattle.model_steps.specs.Imports.{import_gav}
 use Rattle.effective.specs.Effective.{ended, entry, full, imported, imports_from, managed_of, whole}

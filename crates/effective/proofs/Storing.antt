@@ -5,8 +5,8 @@ use Rattle.mvn_base.specs.declared.gav.Gav.{Gav}
 use Rattle.pom_source.specs.Worlds.{World}
 use Rattle.pom_source.specs.declared.found.Given.{Given}
 use Rattle.mvn_base.specs.Gav.{gav_eq}
-use Rattle.pom_lineage.specs.Stores.{Holds}
-use Rattle.pom_lineage.proofs.Holding.{same_gav}
+use Rattle.pom_store.specs.Stores.{Holds}
+use Rattle.pom_store.proofs.Holding.{same_gav}
 use Rattle.effective.specs.Kept.{HoldsAll, HoldsImports, IsImport, import_in}
 use Rattle.effective.specs.declared.kept.Import.{Import}
 use Rattle.effective.specs.declared.run_store.RunStore.{RunStore}

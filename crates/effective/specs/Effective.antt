@@ -20,9 +20,9 @@ use Rattle.pom_source.specs.Worlds.{World}
 use Rattle.pom_source.specs.declared.fault.BuildFault.TheVariants.{Absent}
 use Rattle.pom_source.specs.declared.found.Found.{Found}
 use Rattle.pom_source.specs.declared.found.Given.{Given}
-use Rattle.pom_lineage.specs.Beside.{read_at}
-use Rattle.pom_lineage.specs.Lineage.{is_in, lineage, next_poms}
-use Rattle.pom_lineage.specs.Reading.{read}
+use Rattle.pom_store.specs.Beside.{read_at}
+use Rattle.pom_store.specs.Lineage.{is_in, lineage, next_poms}
+use Rattle.pom_store.specs.Reading.{read}
 use Rattle.model_steps.specs.Assembly.{model_of}
 use Rattle.model_steps.specs.Building.{built}
 use Rattle.model_steps.specs.Folders.{filled}

@@ -11,7 +11,7 @@ use Rattle.model_types.specs.declared.model.RawModel.{RawModel}
 use Rattle.managed_deps.specs.Managed.{is_import}
 use Rattle.pom_source.specs.Worlds.{World}
 use Rattle.pom_source.specs.declared.found.Given.{Given}
-use Rattle.pom_lineage.specs.Lineage.{is_in}
+use Rattle.pom_store.specs.Lineage.{is_in}
 use Rattle.model_steps.specs.Assembly.{model_of}
 use Rattle.model_steps.specs.Building.{built}
 use Rattle.model_steps.specs.Imports.{import_gav}

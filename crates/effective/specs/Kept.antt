@@ -10,8 +10,8 @@ use Rattle.pom_source.specs.Worlds.{World}
 use Rattle.pom_source.specs.declared.fault.BuildFault.{BuildFault}
 use Rattle.pom_source.specs.declared.found.Given.{Given}
 use Rattle.mvn_base.specs.Gav.{gav_eq}
-use Rattle.pom_lineage.specs.Lineage.{is_in, next_poms}
-use Rattle.pom_lineage.specs.Stores.{Holds}
+use Rattle.pom_store.specs.Lineage.{is_in, next_poms}
+use Rattle.pom_store.specs.Stores.{Holds}
 use Rattle.effective.specs.Effective.{entry, import_found, imported, imports_from, managed_of, whole}
 use Rattle.effective.specs.Serving.{serves}
 use Rattle.effective.specs.declared.kept.BuiltModel.{BuiltModel}

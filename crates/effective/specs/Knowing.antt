@@ -10,8 +10,8 @@ use Rattle.pom_source.specs.Refusals.{gav_refused}
 use Rattle.pom_source.specs.Worlds.{World}
 use Rattle.pom_source.specs.declared.fault.BuildFault.TheVariants.{Absent}
 use Rattle.pom_source.specs.declared.found.Given.{Given}
-use Rattle.pom_lineage.specs.Lineage.{is_in, known_at, next_poms, pom_of, text_of}
-use Rattle.pom_lineage.specs.declared.origin.Candidate.{Candidate}
+use Rattle.pom_store.specs.Lineage.{is_in, known_at, next_poms, pom_of, text_of}
+use Rattle.pom_store.specs.declared.origin.Candidate.{Candidate}
 use Rattle.effective.specs.Effective.{managed_of, whole}
 
 -- one that is asked for

@@ -78,7 +78,7 @@ fn asked<P: PomSource>(
 }
 
 // The POM that is asked for, in all steps.
-#[tactic(auto, using(pom_lineage::proofs::Telling::told_both, crate::proofs::Standing::built_gives, crate::proofs::Asking::whole_stops))]
+#[tactic(auto, using(pom_store::proofs::Telling::told_both, crate::proofs::Standing::built_gives, crate::proofs::Asking::whole_stops))]
 fn modelled<P: PomSource>(
     alloc: Global,
     store: &mut RunStore,

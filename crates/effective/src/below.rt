@@ -1,7 +1,7 @@
 ghost use Rattle.std.specs.Prelude.{◌≡◌, ◌≤◌, ◌+◌, ℕ, List as Items, true, ◌||◌, ◌&&◌, IfOk};
 ghost use Rattle.mvn_base.specs.declared.refusal.PomId as ids;
-ghost use Rattle.pom_lineage.specs.Lineage.{is_in};
-ghost use Rattle.pom_lineage.specs.Stores.{meets};
+ghost use Rattle.pom_store.specs.Lineage.{is_in};
+ghost use Rattle.pom_store.specs.Stores.{meets};
 ghost use Rattle.effective.specs.Serving.{serves};
 
 use mvn_base::PomId;

@@ -6,7 +6,7 @@ ghost use Rattle.managed_deps.specs.Managed.{is_import};
 ghost use Rattle.pom_source.specs.Answers.{Says, build_failed};
 ghost use Rattle.pom_source.specs.Worlds.{World};
 ghost use Rattle.model_types.specs.declared.model.RawModel as models;
-ghost use Rattle.pom_lineage.specs.Lineage.{is_in, lineage, next_poms};
+ghost use Rattle.pom_store.specs.Lineage.{is_in, lineage, next_poms};
 ghost use Rattle.model_steps.specs.Valid.{has_no_import};
 ghost use Rattle.effective.specs.Lawful.{IsLawful};
 ghost use Rattle.effective.specs.Effective.{ended, entry, full, import_found, imported, imports_from, managed_of, whole};
@@ -59,7 +59,7 @@ fn ended(
 
 // What an import stands for: kept, or built and then kept.
 #[cycle(built)]
-#[tactic(auto, using(pom_lineage::proofs::Telling::untold))]
+#[tactic(auto, using(pom_store::proofs::Telling::untold))]
 fn imported<P: PomSource>(
     alloc: Global,
     store: &mut RunStore,
@@ -94,7 +94,7 @@ fn imported<P: PomSource>(
 
 // The same, if it isn't kept.
 #[cycle(built)]
-#[tactic(auto, using(pom_lineage::proofs::Telling::untold, crate::proofs::Importing::imported_zero, crate::proofs::Importing::imported_more, crate::proofs::Standing::is_import_of, crate::proofs::Standing::import_serves, crate::proofs::Standing::low))]
+#[tactic(auto, using(pom_store::proofs::Telling::untold, crate::proofs::Importing::imported_zero, crate::proofs::Importing::imported_more, crate::proofs::Standing::is_import_of, crate::proofs::Standing::import_serves, crate::proofs::Standing::low))]
 fn fresh<P: PomSource>(
     alloc: Global,
     store: &mut RunStore,
@@ -128,7 +128,7 @@ fn fresh<P: PomSource>(
 
 // The same of an import's POM, if further POMs may be built.
 #[cycle(built)]
-#[tactic(auto, using(pom_lineage::proofs::Telling::told_both, crate::proofs::Standing::is_found, crate::proofs::Knowing::found_stops, crate::proofs::Knowing::found_fails))]
+#[tactic(auto, using(pom_store::proofs::Telling::told_both, crate::proofs::Standing::is_found, crate::proofs::Knowing::found_stops, crate::proofs::Knowing::found_fails))]
 fn import_found<P: PomSource>(
     alloc: Global,
     store: &mut RunStore,
@@ -163,7 +163,7 @@ fn import_found<P: PomSource>(
 
 // The same of an imported POM that was read.
 #[cycle(built)]
-#[tactic(auto, using(pom_lineage::proofs::Telling::untold, pom_lineage::proofs::Telling::told_both, crate::proofs::Standing::is_read, crate::proofs::Standing::read_serves, crate::proofs::Asking::managed_stops))]
+#[tactic(auto, using(pom_store::proofs::Telling::untold, pom_store::proofs::Telling::told_both, crate::proofs::Standing::is_read, crate::proofs::Standing::read_serves, crate::proofs::Asking::managed_stops))]
 fn import_read<P: PomSource>(
     alloc: Global,
     store: &mut RunStore,
@@ -194,7 +194,7 @@ fn import_read<P: PomSource>(
 
 /// A POM that was read, and what it builds on, in all further steps; `left` POMs more may be built.
 #[cycle(built)]
-#[tactic(auto, using(pom_lineage::proofs::Telling::told_both, pom_lineage::proofs::Telling::untold, crate::proofs::Standing::is_built, crate::proofs::Standing::built_fails))]
+#[tactic(auto, using(pom_store::proofs::Telling::told_both, pom_store::proofs::Telling::untold, crate::proofs::Standing::is_built, crate::proofs::Standing::built_fails))]
 pub(crate) fn whole<P: PomSource>(
     alloc: Global,
     store: &mut RunStore,
@@ -239,7 +239,7 @@ fn has_import(managed: &[Shared<Dependency>]) -> bool
 
 // What the imports of a full model manage.
 #[cycle(built)]
-#[tactic(auto, using(crate::proofs::Standing::none_kept, pom_lineage::proofs::Telling::told_both, pom_lineage::proofs::Telling::untold, crate::proofs::Standing::way_fails, crate::proofs::Standing::none_yet, crate::proofs::Standing::one_more, crate::proofs::Standing::all_done, crate::proofs::Standing::both_served))]
+#[tactic(auto, using(crate::proofs::Standing::none_kept, pom_store::proofs::Telling::told_both, pom_store::proofs::Telling::untold, crate::proofs::Standing::way_fails, crate::proofs::Standing::none_yet, crate::proofs::Standing::one_more, crate::proofs::Standing::all_done, crate::proofs::Standing::both_served))]
 fn imports<P: PomSource>(
     alloc: Global,
     store: &mut RunStore,
@@ -278,7 +278,7 @@ fn imports<P: PomSource>(
 
 // The entries that a managed one stands for, if it is an import.
 #[cycle(built)]
-#[tactic(auto, using(pom_lineage::proofs::Telling::untold, crate::proofs::Standing::no_import, crate::proofs::Standing::one_import))]
+#[tactic(auto, using(pom_store::proofs::Telling::untold, crate::proofs::Standing::no_import, crate::proofs::Standing::one_import))]
 fn entry<P: PomSource>(
     alloc: Global,
     store: &mut RunStore,

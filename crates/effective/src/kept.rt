@@ -2,8 +2,8 @@ ghost use Rattle.std.specs.Prelude.{◌≡◌, ◌≤◌, ◌+◌, ℕ, List as 
 ghost use Rattle.std.specs.List.{list_all};
 ghost use Rattle.mvn_base.specs.declared.refusal.PomId as ids;
 ghost use Rattle.model_steps.specs.Valid.{has_no_import};
-ghost use Rattle.pom_lineage.specs.Lineage.{is_in};
-ghost use Rattle.pom_lineage.specs.Stores.{meets};
+ghost use Rattle.pom_store.specs.Lineage.{is_in};
+ghost use Rattle.pom_store.specs.Stores.{meets};
 ghost use Rattle.effective.specs.Serving.{serves};
 ghost use Rattle.effective.specs.Lawful.{IsLawful};
 

@@ -3,7 +3,7 @@ ghost use Rattle.mvn_shared.specs.Cause.{HasCause};
 ghost use Rattle.profile_activation.specs.Judging.{TellsOn};
 ghost use Rattle.pom_source.specs.Answers.{Says, build_failed};
 ghost use Rattle.pom_source.specs.Worlds.{World};
-ghost use Rattle.pom_lineage.specs.Lineage.{lineage};
+ghost use Rattle.pom_store.specs.Lineage.{lineage};
 ghost use Rattle.effective.specs.Effective.{asked, asked_path};
 ghost use Rattle.effective.specs.Kept.{HoldsAll};
 

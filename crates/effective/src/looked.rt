@@ -4,7 +4,7 @@ ghost use Rattle.profile_activation.specs.Judging.{TellsOn};
 ghost use Rattle.pom_source.specs.Answers.{Says, build_failed};
 ghost use Rattle.pom_source.specs.Worlds.{World};
 ghost use Rattle.pom_source.specs.declared.found.Given as givens;
-ghost use Rattle.pom_lineage.specs.Lineage.{is_in, known_at};
+ghost use Rattle.pom_store.specs.Lineage.{is_in, known_at};
 ghost use Rattle.effective.specs.Effective.{read_found};
 ghost use Rattle.effective.specs.Kept.{HoldsAll};
 ghost use Rattle.effective.specs.Knowing.{raw_at, said_at, unbuilt};
@@ -38,7 +38,7 @@ fn known<P: PomSource>(
 }
 
 // What the POM of coordinates says by what is known of it.
-#[tactic(auto, using(pom_lineage::proofs::Telling::untold))]
+#[tactic(auto, using(pom_store::proofs::Telling::untold))]
 fn said_at<P: PomSource>(
     alloc: Global,
     store: &mut RunStore,
@@ -109,7 +109,7 @@ fn unbuilt(
 
 /// What an import's POM says, if it is there and isn't being built already. Costs its bytes the first time, and the coordinates
 /// and a comparison with those that are being built after that.
-#[tactic(auto, using(pom_lineage::proofs::Telling::untold))]
+#[tactic(auto, using(pom_store::proofs::Telling::untold))]
 pub(crate) fn wanted<P: PomSource>(
     alloc: Global,
     store: &mut RunStore,

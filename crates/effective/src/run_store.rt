@@ -6,7 +6,7 @@ ghost use Rattle.pom_source.specs.Answers.{Says, build_failed};
 ghost use Rattle.pom_source.specs.Worlds.{World};
 ghost use Rattle.pom_source.specs.declared.found.Given as givens;
 ghost use Rattle.mvn_base.specs.Gav.{gav_eq};
-ghost use Rattle.pom_lineage.specs.Stores.{Holds};
+ghost use Rattle.pom_store.specs.Stores.{Holds};
 ghost use Rattle.effective.specs.Kept.{HoldsAll, IsImport, import_in};
 ghost use Rattle.effective.specs.Serving.{serves};
 

@@ -12,13 +12,13 @@ use Rattle.pom_source.specs.Chains.{bound, ok_is}
 use Rattle.pom_source.specs.Refusals.{gav_refused}
 use Rattle.pom_source.specs.Worlds.{World}
 use Rattle.pom_source.specs.declared.found.Found.{Found}
-use Rattle.pom_lineage.specs.Lineage.{candidate, found_or, known, known_at, known_of, packed, text_of}
-use Rattle.pom_lineage.specs.Reading.{read}
-use Rattle.pom_lineage.specs.declared.origin.Candidate.{Candidate}
-use Rattle.pom_lineage.specs.declared.origin.Candidate.TheVariants as candidates
-use Rattle.pom_lineage.specs.declared.origin.Origin.{Origin}
-use Rattle.pom_lineage.specs.declared.origin.Origin.TheVariants.{Beside, Elsewhere}
-use Rattle.pom_lineage.proofs.Knowing.{known_says}
+use Rattle.pom_store.specs.Lineage.{candidate, found_or, known, known_at, known_of, packed, text_of}
+use Rattle.pom_store.specs.Reading.{read}
+use Rattle.pom_store.specs.declared.origin.Candidate.{Candidate}
+use Rattle.pom_store.specs.declared.origin.Candidate.TheVariants as candidates
+use Rattle.pom_store.specs.declared.origin.Origin.{Origin}
+use Rattle.pom_store.specs.declared.origin.Origin.TheVariants.{Beside, Elsewhere}
+use Rattle.pom_store.proofs.Knowing.{known_says}
 use Rattle.lineage_laws.specs.Lines.{LeadsTo}
 
 module _ (world : World) where

@@ -1,9 +1,9 @@
 -- POMs that stand once each.
 use Rattle.std.proofs.Common.{◌≡◌, Bool, true, false, not, ◌&&◌, ◌||◌, List, [], ◌∷◌, refl, ap, ◌∙◌}
 use Rattle.mvn_base.specs.declared.refusal.PomId.{PomId}
-use Rattle.pom_lineage.specs.Lineage.{is_in, next_poms}
-use Rattle.pom_lineage.specs.Stores.{meets}
-use Rattle.pom_lineage.proofs.Keeping.{in_more}
+use Rattle.pom_store.specs.Lineage.{is_in, next_poms}
+use Rattle.pom_store.specs.Stores.{meets}
+use Rattle.pom_store.proofs.Keeping.{in_more}
 use Rattle.lineage_laws.specs.Lines.{each_once}
 
 pub and_left : (a b : Bool) → (a && b) ≡ true → a ≡ true

@@ -15,7 +15,7 @@ use Rattle.pom_model.specs.Raw.{raw, unless}
 use Rattle.pom_model.specs.Table.{Row, kind_number, table}
 use Rattle.pom_source.specs.Answers.{refused}
 use Rattle.pom_source.specs.Chains.{bound, ok_is}
-use Rattle.pom_lineage.specs.Reading.{elements, read}
+use Rattle.pom_store.specs.Reading.{elements, read}
 use Rattle.lineage_laws.specs.Lines.{is_stated}
 use Rattle.lineage_laws.proofs.Once.{both_true}
 

@@ -16,13 +16,13 @@ use Rattle.pom_source.specs.Chains.{bound, ok_is}
 use Rattle.pom_source.specs.Worlds.{World}
 use Rattle.pom_source.specs.declared.found.Given.{Given}
 use Rattle.mvn_base.specs.Gav.{gav_eq}
-use Rattle.pom_lineage.specs.Beside.{at_second, found_origin, of_gav, or_at, origin_from, raw_gav, read_at}
-use Rattle.pom_lineage.specs.Lineage.{lineage, origin_of, unless, unstated}
-use Rattle.pom_lineage.specs.Reading.{read, read_file, with_profiles}
-use Rattle.pom_lineage.specs.Stores.{IsAt}
-use Rattle.pom_lineage.specs.declared.joined.Joined.{Joined}
-use Rattle.pom_lineage.specs.declared.origin.Origin.{Origin}
-use Rattle.pom_lineage.specs.declared.origin.Origin.TheVariants.{Beside, Elsewhere}
+use Rattle.pom_store.specs.Beside.{at_second, found_origin, of_gav, or_at, origin_from, raw_gav, read_at}
+use Rattle.pom_store.specs.Lineage.{lineage, origin_of, unless, unstated}
+use Rattle.pom_store.specs.Reading.{read, read_file, with_profiles}
+use Rattle.pom_store.specs.Stores.{IsAt}
+use Rattle.pom_store.specs.declared.joined.Joined.{Joined}
+use Rattle.pom_store.specs.declared.origin.Origin.{Origin}
+use Rattle.pom_store.specs.declared.origin.Origin.TheVariants.{Beside, Elsewhere}
 use Rattle.lineage_laws.specs.Lines.{IsLine, LeadsTo, is_stated, model_of}
 use Rattle.lineage_laws.proofs.Once.{and_left, and_right, both_true}
 use Rattle.lineage_laws.proofs.Rooted.{alone_stated}

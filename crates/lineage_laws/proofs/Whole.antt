@@ -9,13 +9,13 @@ use Rattle.pom_source.specs.Answers.{◌>>=◌}
 use Rattle.pom_source.specs.Chains.{bound, ok_is}
 use Rattle.pom_source.specs.Worlds.{World}
 use Rattle.pom_source.specs.declared.found.Given.{Given}
-use Rattle.pom_lineage.specs.Lineage.{above, gav_of, is_in, joined_from, joined_up, lineage, next_poms, origin_of, pom_of, put_over, top}
-use Rattle.pom_lineage.specs.Reading.{with_profiles}
-use Rattle.pom_lineage.specs.Stores.{meets}
-use Rattle.pom_lineage.specs.declared.joined.Joined.{Joined}
-use Rattle.pom_lineage.specs.declared.origin.Origin.{Origin}
-use Rattle.pom_lineage.proofs.Keeping.{Step, alone, apart, apart_both, apart_last, built, meets_more, nothing_more, or_left, or_right, step}
-use Rattle.pom_lineage.proofs.Naming.{text_pom}
+use Rattle.pom_store.specs.Lineage.{above, gav_of, is_in, joined_from, joined_up, lineage, next_poms, origin_of, pom_of, put_over, top}
+use Rattle.pom_store.specs.Reading.{with_profiles}
+use Rattle.pom_store.specs.Stores.{meets}
+use Rattle.pom_store.specs.declared.joined.Joined.{Joined}
+use Rattle.pom_store.specs.declared.origin.Origin.{Origin}
+use Rattle.pom_store.proofs.Keeping.{Step, alone, apart, apart_both, apart_last, built, meets_more, nothing_more, or_left, or_right, step}
+use Rattle.pom_store.proofs.Naming.{text_pom}
 use Rattle.lineage_laws.specs.Lines.{IsLine, IsLineage, IsParent, each_once, model_of, names}
 use Rattle.lineage_laws.proofs.Found.{found_at, is_packed, leads, packed_is}
 use Rattle.lineage_laws.proofs.Once.{and_left, and_right, both_true, not_true, once_more}

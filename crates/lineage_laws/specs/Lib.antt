@@ -1,3 +1,3 @@
-pub use Rattle.pom_lineage.specs.Lineage
-pub use Rattle.pom_lineage.specs.Reading
+pub use Rattle.pom_store.specs.Lineage
+pub use Rattle.pom_store.specs.Reading
 pub mod Lines

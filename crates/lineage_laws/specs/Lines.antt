@@ -8,11 +8,11 @@ use Rattle.inheritance.specs.SuperPom.{super_pom}
 use Rattle.pom_source.specs.Worlds.{World}
 use Rattle.pom_source.specs.declared.found.Found.{Found}
 use Rattle.pom_source.specs.declared.found.Given.{Given}
-use Rattle.pom_lineage.specs.Lineage.{is_in, origin_of}
-use Rattle.pom_lineage.specs.Reading.{read, with_profiles}
-use Rattle.pom_lineage.specs.declared.joined.Joined.{Joined}
-use Rattle.pom_lineage.specs.declared.origin.Origin.{Origin}
-use Rattle.pom_lineage.specs.declared.origin.Origin.TheVariants.{Beside, Elsewhere}
+use Rattle.pom_store.specs.Lineage.{is_in, origin_of}
+use Rattle.pom_store.specs.Reading.{read, with_profiles}
+use Rattle.pom_store.specs.declared.joined.Joined.{Joined}
+use Rattle.pom_store.specs.declared.origin.Origin.{Origin}
+use Rattle.pom_store.specs.declared.origin.Origin.TheVariants.{Beside, Elsewhere}
 
 -- each POM stands there once
 abbrev pub each_once : List PomId → Bool

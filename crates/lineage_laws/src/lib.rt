@@ -9,9 +9,9 @@ ghost use Rattle.model_types.specs.declared.model.RawModel as models;
 ghost use Rattle.interpolate.specs.Filling.{fill};
 ghost use Rattle.pom_source.specs.Worlds.{World};
 ghost use Rattle.pom_source.specs.declared.found.Given as givens;
-ghost use Rattle.pom_lineage.specs.Lineage.{lineage};
-ghost use Rattle.pom_lineage.specs.Reading.{read};
-ghost use Rattle.pom_lineage.specs.declared.joined.Joined as joins;
+ghost use Rattle.pom_store.specs.Lineage.{lineage};
+ghost use Rattle.pom_store.specs.Reading.{read};
+ghost use Rattle.pom_store.specs.declared.joined.Joined as joins;
 ghost use Rattle.lineage_laws.specs.Lines.{IsLineage, is_stated};
 
 /// A law of lineages: what a POM builds on is there exactly if there is a line of POMs, each the parent that the one before it names,

@@ -9,7 +9,7 @@ use Rattle.pom_source.specs.Chains.{ok_is}
 use Rattle.pom_source.specs.Worlds.{World}
 use Rattle.pom_source.specs.declared.fault.BuildFault.{BuildFault}
 use Rattle.pom_source.specs.declared.found.Given.{Given}
-use Rattle.pom_lineage.specs.Reading.{active_places}
+use Rattle.pom_store.specs.Reading.{active_places}
 use Rattle.module_discovery.specs.Discovery.{aggregated, listed, listed_by}
 use Rattle.module_discovery.specs.Profiles.{modules_at, modules_in}
 use Rattle.module_discovery.specs.declared.pom.Listed.{Listed}

@@ -8,8 +8,8 @@ use Rattle.pom_source.specs.Answers.{Built, ◌>>=◌}
 use Rattle.pom_source.specs.Chains.{bound, ok_is}
 use Rattle.pom_source.specs.Worlds.{World}
 use Rattle.pom_source.specs.declared.found.Given.{Given}
-use Rattle.pom_lineage.specs.Beside.{read_at}
-use Rattle.pom_lineage.specs.Reading.{read, read_file}
+use Rattle.pom_store.specs.Beside.{read_at}
+use Rattle.pom_store.specs.Reading.{read, read_file}
 use Rattle.module_discovery.specs.Discovery.{at_either, at_last, begun, collected, discovered, taken_up, listed_by, named, new_at, one_too_many, or_at, or_missing, path_of, pom_of, pom_xml, read_pom, refuse, root, with_module, with_none, with_pom}
 use Rattle.module_discovery.specs.Listing.{AreApart, AreListed, IsProject, IsRead, LeadsTo}
 use Rattle.module_discovery.specs.Listing.AreApart.{no_pom, one_more}

@@ -6,7 +6,7 @@ use Rattle.pom_source.specs.Answers.{Built, Fails, Says, ◌>>=◌}
 use Rattle.pom_source.specs.Chains.{ok_is}
 use Rattle.pom_source.specs.declared.fault.BuildFault.{BuildFault}
 use Rattle.pom_source.specs.declared.fault.BuildFault.TheVariants.{Refused, Absent, Source, Memory}
-use Rattle.pom_lineage.specs.Reading.{read, read_file}
+use Rattle.pom_store.specs.Reading.{read, read_file}
 use Rattle.module_discovery.specs.Discovery.{taken_up, pom_of, read_pom}
 use Rattle.module_discovery.specs.declared.pom.ModulePom.{ModulePom}
 

@@ -13,7 +13,7 @@ use Rattle.pom_source.specs.Answers.{Built, ◌>>=◌}
 use Rattle.pom_source.specs.Refusals.{text_refused}
 use Rattle.pom_source.specs.Worlds.{World}
 use Rattle.pom_source.specs.declared.found.Given.{Given}
-use Rattle.pom_lineage.specs.Reading.{read, with_profiles}
+use Rattle.pom_store.specs.Reading.{read, with_profiles}
 use Rattle.module_discovery.specs.declared.pom.Listed.{Listed}
 use Rattle.module_discovery.specs.declared.pom.ModulePom.{ModulePom}
 use Rattle.module_discovery.specs.declared.progress.Progress.{Progress}

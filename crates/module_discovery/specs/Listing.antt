@@ -4,7 +4,7 @@ use Rattle.mvn_base.specs.declared.refusal.PomId.TheVariants as ids
 use Rattle.pom_paths.specs.Paths.{joined}
 use Rattle.pom_source.specs.Worlds.{World}
 use Rattle.pom_source.specs.declared.found.Given.{Given}
-use Rattle.pom_lineage.specs.Reading.{read}
+use Rattle.pom_store.specs.Reading.{read}
 use Rattle.module_discovery.specs.Discovery.{listed_by, path_of, pom_xml}
 use Rattle.module_discovery.specs.Met.{is_met}
 use Rattle.module_discovery.specs.declared.pom.Listed.{Listed}

@@ -4,8 +4,8 @@ ghost use Rattle.profile_activation.specs.Judging.{TellsOn};
 ghost use Rattle.pom_source.specs.Answers.{Says, build_failed};
 ghost use Rattle.pom_source.specs.Worlds.{World};
 ghost use Rattle.pom_source.specs.declared.found.Given as givens;
-ghost use Rattle.pom_lineage.specs.Beside.{read_at};
-ghost use Rattle.pom_lineage.specs.Stores.{Holds, KeepsLines, KeepsRead};
+ghost use Rattle.pom_store.specs.Beside.{read_at};
+ghost use Rattle.pom_store.specs.Stores.{Holds, KeepsLines, KeepsRead};
 ghost use Rattle.module_discovery.specs.Discovery.{begun, collected, discovered, with_module, with_none, with_pom};
 
 use crate::found::FoundPoms;
@@ -61,7 +61,7 @@ fn with_pom<P: PomSource>(
 }
 
 // The POM of the module that is next, and what it lists.
-#[tactic(auto, using(pom_lineage::proofs::Telling::told_both, crate::proofs::Projects::named_there))]
+#[tactic(auto, using(pom_store::proofs::Telling::told_both, crate::proofs::Projects::named_there))]
 fn with_module<P: PomSource>(
     alloc: Global,
     store: &mut Store,
@@ -90,7 +90,7 @@ fn with_module<P: PomSource>(
 }
 
 // What there is if no more POMs may come: a module that waits is one too many.
-#[tactic(auto, using(pom_lineage::proofs::Telling::untold))]
+#[tactic(auto, using(pom_store::proofs::Telling::untold))]
 fn with_none<P: PomSource>(
     alloc: Global,
     store: &mut Store,
@@ -119,7 +119,7 @@ fn with_none<P: PomSource>(
 }
 
 // What is found, with the POMs of the modules that wait.
-#[tactic(auto, using(pom_lineage::proofs::Telling::told_both, crate::proofs::Collecting::collected_end, crate::proofs::Collecting::collected_fails))]
+#[tactic(auto, using(pom_store::proofs::Telling::told_both, crate::proofs::Collecting::collected_end, crate::proofs::Collecting::collected_fails))]
 fn collected<P: PomSource>(
     alloc: Global,
     store: &mut Store,
@@ -157,7 +157,7 @@ fn collected<P: PomSource>(
 }
 
 // The POM by which the project begins, and the modules that it lists.
-#[tactic(auto, using(pom_lineage::proofs::Telling::told_both, crate::proofs::Projects::root_there))]
+#[tactic(auto, using(pom_store::proofs::Telling::told_both, crate::proofs::Projects::root_there))]
 fn begun<P: PomSource>(
     alloc: Global,
     store: &mut Store,
@@ -191,7 +191,7 @@ fn begun<P: PomSource>(
 /// once: its bytes are in the POM, and what it says stays in the store, with which of its profiles are active. `Source` comes only if the
 /// source's count of faults rose. Costs the POMs' bytes, and the criteria of their profiles. Guide to Working with Multiple Modules; POM
 /// Reference, "Aggregation"; the order of refusals and the limit are project rules.
-#[tactic(auto, using(pom_lineage::proofs::Telling::told_both))]
+#[tactic(auto, using(pom_store::proofs::Telling::told_both))]
 pub fn discover<P: PomSource>(
     alloc: Global,
     store: &mut Store,

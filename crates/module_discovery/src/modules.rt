@@ -4,8 +4,8 @@ ghost use Rattle.profile_activation.specs.Judging.{TellsOn};
 ghost use Rattle.pom_source.specs.Answers.{Says, build_failed};
 ghost use Rattle.pom_source.specs.Worlds.{World};
 ghost use Rattle.profile_injection.specs.Injection.{inject};
-ghost use Rattle.pom_lineage.specs.Beside.{read_at};
-ghost use Rattle.pom_lineage.specs.Stores.{Holds, KeepsLines, KeepsRead};
+ghost use Rattle.pom_store.specs.Beside.{read_at};
+ghost use Rattle.pom_store.specs.Stores.{Holds, KeepsLines, KeepsRead};
 ghost use Rattle.module_discovery.specs.Discovery.{aggregated, listed, listed_by};
 ghost use Rattle.module_discovery.specs.Profiles.{modules_at, modules_in};
 
@@ -98,7 +98,7 @@ fn aggregated(pom: &ModulePom, list: List<Listed>) -> Result<List<Listed>, Build
 
 /// The modules that a POM lists, and those of its active profiles, or that its packaging isn't `pom`. Which profiles are active stays in
 /// the store. Costs the criteria of its profiles, and the modules. POM Reference, "Aggregation".
-#[tactic(auto, using(crate::proofs::Injected::lists, crate::proofs::Injected::lists_fails, pom_lineage::proofs::Judging::never_refused))]
+#[tactic(auto, using(crate::proofs::Injected::lists, crate::proofs::Injected::lists_fails, pom_store::proofs::Judging::never_refused))]
 pub(crate) fn listed_by<P: PomSource>(
     alloc: Global,
     store: &mut Store,

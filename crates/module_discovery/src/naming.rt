@@ -6,7 +6,7 @@ ghost use Rattle.pom_source.specs.Worlds.{World};
 ghost use Rattle.pom_source.specs.declared.found.Given as givens;
 ghost use Rattle.pom_paths.specs.Paths.{joined};
 ghost use Rattle.profile_activation.specs.Activation.{folder_of};
-ghost use Rattle.pom_lineage.specs.Stores.{Holds, KeepsLines, KeepsRead};
+ghost use Rattle.pom_store.specs.Stores.{Holds, KeepsLines, KeepsRead};
 ghost use Rattle.module_discovery.specs.Discovery.{as_taken, at_either, at_last, taken_up, named, new_at, one_too_many, path_of, read_pom, refuse, root};
 
 use crate::found::FoundPoms;
@@ -69,7 +69,7 @@ fn pom_found(
 }
 
 // The POM at a path, if a file is there. The file is read once.
-#[tactic(auto, using(pom_lineage::proofs::Telling::told_once))]
+#[tactic(auto, using(pom_store::proofs::Telling::told_once))]
 fn read_pom<P: PomSource>(
     alloc: Global,
     store: &mut Store,
@@ -94,7 +94,7 @@ fn read_pom<P: PomSource>(
 }
 
 // A POM at a path, if a file is there, where no more may come.
-#[tactic(auto, using(pom_lineage::proofs::Telling::told_once))]
+#[tactic(auto, using(pom_store::proofs::Telling::told_once))]
 fn too_many<P: PomSource>(
     alloc: Global,
     source: &mut P,
@@ -146,7 +146,7 @@ fn taken_up<P: PomSource>(
 }
 
 // A POM at a path, if one is there that wasn't met.
-#[tactic(auto, using(pom_lineage::proofs::Telling::untold))]
+#[tactic(auto, using(pom_store::proofs::Telling::untold))]
 fn new_at<P: PomSource>(
     alloc: Global,
     store: &mut Store,
@@ -203,7 +203,7 @@ fn at_last<P: PomSource>(
 }
 
 // `pom.xml` in the folder at a path, or else the file.
-#[tactic(auto, using(pom_lineage::proofs::Telling::untold, pom_lineage::proofs::Telling::told_both))]
+#[tactic(auto, using(pom_store::proofs::Telling::untold, pom_store::proofs::Telling::told_both))]
 fn at_either<P: PomSource>(
     alloc: Global,
     store: &mut Store,
@@ -237,7 +237,7 @@ fn at_either<P: PomSource>(
 
 /// The POM that a module leads to, or its refusal: an expression in its text, no POM, one that was met, or what the POM's text breaks. If
 /// `full`, none: a POM that is found is one too many. Costs the paths and the POM's bytes.
-#[tactic(auto, using(pom_lineage::proofs::Telling::untold))]
+#[tactic(auto, using(pom_store::proofs::Telling::untold))]
 pub(crate) fn named<P: PomSource>(
     alloc: Global,
     store: &mut Store,
@@ -266,7 +266,7 @@ pub(crate) fn named<P: PomSource>(
 }
 
 /// The POM by which the project begins. Costs its bytes.
-#[tactic(auto, using(pom_lineage::proofs::Telling::untold))]
+#[tactic(auto, using(pom_store::proofs::Telling::untold))]
 pub(crate) fn root<P: PomSource>(
     alloc: Global,
     store: &mut Store,

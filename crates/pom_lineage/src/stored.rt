@@ -4,29 +4,27 @@ ghost use Rattle.mvn_shared.specs.Cause.{HasCause};
 ghost use Rattle.profile_activation.specs.Judging.{TellsOn};
 ghost use Rattle.pom_source.specs.Answers.{Says, build_failed};
 ghost use Rattle.pom_source.specs.Worlds.{World};
-ghost use Rattle.pom_lineage.specs.declared.origin.Origin.TheVariants.{Beside};
-ghost use Rattle.pom_lineage.specs.Beside.{read_at};
-ghost use Rattle.pom_lineage.specs.Lineage.{above, entered, gav_of, joined_from, joined_up, line, lineage, next_poms};
-ghost use Rattle.pom_lineage.specs.Reading.{active_places};
-ghost use Rattle.pom_lineage.specs.Stores.{Holds, IsAt, KeepsLines, KeepsParent, KeepsRead, LedThere, line_in, serves};
+ghost use Rattle.pom_store.specs.declared.origin.Origin.TheVariants.{Beside};
+ghost use Rattle.pom_store.specs.Beside.{read_at};
+ghost use Rattle.pom_store.specs.Lineage.{above, entered, gav_of, joined_from, joined_up, line, lineage, next_poms};
+ghost use Rattle.pom_store.specs.Reading.{active_places};
+ghost use Rattle.pom_store.specs.Stores.{Holds, IsAt, KeepsLines, KeepsParent, KeepsRead, LedThere, line_in, serves};
 
-use crate::joined::Joined;
-use crate::judged::{active_at, active_from, active_places};
-use crate::origin::{Candidate, Origin};
-use crate::parents::{
-    first_of, next_poms, origin_of, origin_refused, packed, parent_from, put_over, text_of, top,
-};
-use crate::store::Store;
 use model_types::{Parent, RawModel};
 use mvn_base::{PomId, Rule};
 use mvn_shared::{List, Mem, Shared, Text};
+use parent_poms::{
+    active_at, active_from, active_places, first_of, origin_of, origin_refused, packed,
+    parent_from, put_over, text_of, top,
+};
 use pom_source::{BuildFault, Given, PomSource};
+use pom_store::{Candidate, Joined, Origin, Store, next_poms};
 use profile_injection::inject;
 use std::alloc::Global;
 
 // What is built on from a parent's origin on, at most `left` POMs; kept, or built and then kept.
 #[cycle(stored)]
-#[tactic(auto, using(crate::proofs::Telling::untold, crate::proofs::Keeping::is_kept, crate::proofs::Kept::served_there, crate::proofs::Kept::untouched_line))]
+#[tactic(auto, using(pom_store::proofs::Telling::untold, pom_store::proofs::Keeping::is_kept, pom_store::proofs::Kept::served_there, pom_store::proofs::Kept::untouched_line))]
 fn joined_from<P: PomSource>(
     alloc: Global,
     store: &mut Store,
@@ -64,7 +62,7 @@ fn joined_from<P: PomSource>(
 
 // The same, if it isn't kept.
 #[cycle(stored)]
-#[tactic(auto, using(crate::proofs::Telling::told_both, crate::proofs::Judging::led_there, crate::proofs::Joining::joined_stops, crate::proofs::Joining::joined_zero, crate::proofs::Joining::joined_more))]
+#[tactic(auto, using(pom_store::proofs::Telling::told_both, pom_store::proofs::Judging::led_there, pom_store::proofs::Joining::joined_stops, pom_store::proofs::Joining::joined_zero, pom_store::proofs::Joining::joined_more))]
 fn fresh<P: PomSource>(
     alloc: Global,
     store: &mut Store,
@@ -108,7 +106,7 @@ fn fresh<P: PomSource>(
 
 // A parent that was found, and what it builds on.
 #[cycle(stored)]
-#[tactic(auto, using(crate::proofs::Telling::told_both, crate::proofs::Telling::untold, crate::proofs::Judging::packed_there, crate::proofs::Judging::are_places, crate::proofs::Judging::never_refused))]
+#[tactic(auto, using(pom_store::proofs::Telling::told_both, pom_store::proofs::Telling::untold, pom_store::proofs::Judging::packed_there, pom_store::proofs::Judging::are_places, pom_store::proofs::Judging::never_refused))]
 fn entered<P: PomSource>(
     alloc: Global,
     store: &mut Store,
@@ -146,7 +144,7 @@ fn entered<P: PomSource>(
 
 // A POM with its profiles at some places, and what it builds on.
 #[cycle(stored)]
-#[tactic(auto, using(crate::proofs::Judging::line_gives))]
+#[tactic(auto, using(pom_store::proofs::Judging::line_gives))]
 fn line<P: PomSource>(
     alloc: Global,
     store: &mut Store,
@@ -186,7 +184,7 @@ fn line<P: PomSource>(
 
 // What a POM builds on, by its parent.
 #[cycle(stored)]
-#[tactic(auto, using(crate::proofs::Telling::told_both, crate::proofs::Telling::untold, crate::proofs::Kept::no_parent_kept, crate::proofs::Kept::parent_kept))]
+#[tactic(auto, using(pom_store::proofs::Telling::told_both, pom_store::proofs::Telling::untold, pom_store::proofs::Kept::no_parent_kept, pom_store::proofs::Kept::parent_kept))]
 fn above<P: PomSource>(
     alloc: Global,
     store: &mut Store,
@@ -257,7 +255,7 @@ fn with_places<P: PomSource>(
 /// parent that isn't found; one that was met before; the 33rd POM, which names the first; what the parent's text breaks; and a
 /// parent whose packaging isn't `pom`. `Source` comes only if the source's count of faults rose. Costs the models that are joined, and
 /// the bytes of each POM on the way the first time. POM Reference, "Inheritance"; limits are project rules.
-#[tactic(auto, using(crate::proofs::Telling::told_both, crate::proofs::Judging::are_places, crate::proofs::Judging::never_refused))]
+#[tactic(auto, using(pom_store::proofs::Telling::told_both, pom_store::proofs::Judging::are_places, pom_store::proofs::Judging::never_refused))]
 pub fn lineage<P: PomSource>(
     alloc: Global,
     store: &mut Store,
@@ -300,7 +298,7 @@ fn beside(path: &Text, raw: &Shared<RawModel>) -> Mem<Origin>
 }
 
 // What a POM at a path comes to as a parent: kept, or built and then kept.
-#[tactic(auto, using(crate::proofs::Joining::at_path, crate::proofs::Joining::as_parent, crate::proofs::Telling::untold))]
+#[tactic(auto, using(pom_store::proofs::Joining::at_path, pom_store::proofs::Joining::as_parent, pom_store::proofs::Telling::untold))]
 fn as_parent<P: PomSource>(
     alloc: Global,
     store: &mut Store,
@@ -333,7 +331,7 @@ fn as_parent<P: PomSource>(
 }
 
 // What `lineage` answers of the POM at a path of the project.
-#[tactic(auto, using(crate::proofs::Telling::told_both, crate::proofs::Judging::are_places, crate::proofs::Judging::never_refused))]
+#[tactic(auto, using(pom_store::proofs::Telling::told_both, pom_store::proofs::Judging::are_places, pom_store::proofs::Judging::never_refused))]
 fn by_itself<P: PomSource>(
     alloc: Global,
     store: &mut Store,

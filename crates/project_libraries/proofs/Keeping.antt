@@ -8,7 +8,7 @@ use Rattle.pom_source.specs.Answers.{Built}
 use Rattle.pom_source.specs.Worlds.{World}
 use Rattle.pom_source.specs.declared.found.Given.{Given}
 use Rattle.mvn_base.specs.Gav.{gav_eq}
-use Rattle.pom_lineage.proofs.Holding.{same_gav}
+use Rattle.pom_store.proofs.Holding.{same_gav}
 use Rattle.effective.specs.Effective.{effective}
 use Rattle.mediation.specs.declared.known.Known.{Known}
 use Rattle.mediation.specs.declared.known.Known.TheVariants as known

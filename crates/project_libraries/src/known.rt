@@ -55,7 +55,7 @@ fn pom_of(gav: &Gav) -> Mem<PomId>
 }
 
 // What the POM of coordinates comes to.
-#[tactic(auto, using(pom_lineage::proofs::Telling::untold))]
+#[tactic(auto, using(pom_store::proofs::Telling::untold))]
 fn built<P: PomSource>(
     alloc: Global,
     source: &mut P,
@@ -78,7 +78,7 @@ fn built<P: PomSource>(
 }
 
 // The same, and it is kept.
-#[tactic(auto, using(pom_lineage::proofs::Telling::untold, crate::proofs::Keeping::known_built, crate::proofs::Keeping::known_put))]
+#[tactic(auto, using(pom_store::proofs::Telling::untold, crate::proofs::Keeping::known_built, crate::proofs::Keeping::known_put))]
 fn built_anew<P: PomSource>(
     alloc: Global,
     source: &mut P,
@@ -111,7 +111,7 @@ fn built_anew<P: PomSource>(
 
 /// What is known of a coordinate's POM: what is kept, and else what is built and kept. Costs a copy of what is kept, or the effective
 /// model.
-#[tactic(auto, using(pom_lineage::proofs::Telling::untold, crate::proofs::Keeping::known_kept))]
+#[tactic(auto, using(pom_store::proofs::Telling::untold, crate::proofs::Keeping::known_kept))]
 pub(crate) fn known_at<P: PomSource>(
     alloc: Global,
     source: &mut P,

@@ -13,14 +13,14 @@ use Rattle.model_types.specs.declared.model.RawModel.{RawModel}
 use Rattle.pom_source.specs.Answers.{Built, ◌>>=◌}
 use Rattle.pom_source.specs.Worlds.{World}
 use Rattle.pom_source.specs.declared.found.Given.{Given}
-use Rattle.pom_lineage.specs.Beside.{read_at}
-use Rattle.pom_lineage.specs.Lineage.{known, known_at, known_of}
-use Rattle.pom_lineage.specs.Reading.{read, read_file}
-use Rattle.pom_lineage.specs.Stores.{AgreesOnPaths, Holds, known_in}
-use Rattle.pom_lineage.specs.declared.origin.Candidate.TheVariants as candidates
-use Rattle.pom_lineage.specs.declared.store.Store.{Store}
-use Rattle.pom_lineage.proofs.Holding.{same_gav}
-use Rattle.pom_lineage.proofs.Kept.{gav_itself}
+use Rattle.pom_store.specs.Beside.{read_at}
+use Rattle.pom_store.specs.Lineage.{known, known_at, known_of}
+use Rattle.pom_store.specs.Reading.{read, read_file}
+use Rattle.pom_store.specs.Stores.{AgreesOnPaths, Holds, known_in}
+use Rattle.pom_store.specs.declared.origin.Candidate.TheVariants as candidates
+use Rattle.pom_store.specs.declared.store.Store.{Store}
+use Rattle.pom_store.proofs.Holding.{same_gav}
+use Rattle.pom_store.proofs.Kept.{gav_itself}
 use Rattle.effective.specs.Kept.{HoldsAll}
 use Rattle.effective.specs.declared.run_store.RunStore.{RunStore}
 use Rattle.model_resolver.specs.Finding.{found_in_project, repository_of, world_of}

@@ -9,8 +9,8 @@ use Rattle.mvn_shared.specs.Files.{Files}
 use Rattle.pom_source.specs.Chains.{bound, goes_on, ok_is}
 use Rattle.pom_source.specs.Worlds.{World}
 use Rattle.pom_source.specs.declared.found.Given.{Given}
-use Rattle.pom_lineage.proofs.Holding.{same_path}
-use Rattle.pom_lineage.specs.Stores.{AgreesOnPaths}
+use Rattle.pom_store.proofs.Holding.{same_path}
+use Rattle.pom_store.specs.Stores.{AgreesOnPaths}
 use Rattle.module_discovery.specs.Discovery.{discovered, path_of}
 use Rattle.module_discovery.specs.Listing.{AreListed, IsProject, IsRead}
 use Rattle.module_discovery.specs.Listing.AreListed.{no_module, one_module}

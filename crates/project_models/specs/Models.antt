@@ -16,7 +16,7 @@ use Rattle.pom_source.specs.Worlds.{World}
 use Rattle.pom_source.specs.declared.fault.BuildFault.{BuildFault}
 use Rattle.pom_source.specs.declared.found.Given.{Given}
 use Rattle.mvn_base.specs.Gav.{gav_eq}
-use Rattle.pom_lineage.specs.Beside.{raw_gav}
+use Rattle.pom_store.specs.Beside.{raw_gav}
 use Rattle.module_discovery.specs.Discovery.{discovered}
 use Rattle.module_discovery.specs.declared.pom.ModulePom.{ModulePom}
 use Rattle.effective.specs.Effective.{effective}

@@ -20,7 +20,7 @@ use pom_source::{BuildFault, Given, PomSource};
 use std::alloc::Global;
 
 // The effective model of one of the project's POMs.
-#[tactic(auto, using(pom_lineage::proofs::Telling::untold))]
+#[tactic(auto, using(pom_store::proofs::Telling::untold))]
 fn model_at<P: PomSource>(
     alloc: Global,
     store: &mut RunStore,
@@ -46,7 +46,7 @@ fn model_at<P: PomSource>(
 
 /// The effective model of each of the project's POMs, in their order, or the first refusal. A parent or an import that several have is
 /// read and built once. Costs what effective models cost. Maven Model Builder, "Model building".
-#[tactic(auto, using(pom_lineage::proofs::Telling::told_both, crate::proofs::Each::none_yet, crate::proofs::Each::one_more, crate::proofs::Each::one_fails, crate::proofs::Each::all_done, crate::proofs::Each::all_more))]
+#[tactic(auto, using(pom_store::proofs::Telling::told_both, crate::proofs::Each::none_yet, crate::proofs::Each::one_more, crate::proofs::Each::one_fails, crate::proofs::Each::all_done, crate::proofs::Each::all_more))]
 pub(crate) fn models_of<P: PomSource>(
     alloc: Global,
     store: &mut RunStore,

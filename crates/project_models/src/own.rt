@@ -3,7 +3,7 @@ ghost use Rattle.std.specs.Prelude.{◌≡◌, [], Ok, IfOk};
 ghost use Rattle.mvn_shared.specs.Files.{Files};
 ghost use Rattle.effective.specs.Kept.{HoldsAll};
 ghost use Rattle.model_resolver.specs.Finding.{world_of};
-ghost use Rattle.pom_lineage.specs.Stores.{Holds};
+ghost use Rattle.pom_store.specs.Stores.{Holds};
 ghost use Rattle.pom_source.specs.declared.found.Given as givens;
 ghost use Rattle.project_models.specs.Models.{project_poms};
 

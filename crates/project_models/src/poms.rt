@@ -4,7 +4,7 @@ ghost use Rattle.mvn_shared.specs.Cause.{HasCause};
 ghost use Rattle.profile_activation.specs.Judging.{TellsOn};
 ghost use Rattle.pom_source.specs.Answers.{Says, build_failed};
 ghost use Rattle.pom_source.specs.Worlds.{World};
-ghost use Rattle.pom_lineage.specs.Stores.{Holds};
+ghost use Rattle.pom_store.specs.Stores.{Holds};
 ghost use Rattle.project_models.specs.Models.{project_poms, with_own_text};
 
 use model_resolver::ProjectPom;

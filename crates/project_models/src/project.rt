@@ -6,7 +6,7 @@ ghost use Rattle.effective.specs.Kept.{HoldsAll};
 ghost use Rattle.effective.specs.Lawful.{IsLawful};
 ghost use Rattle.model_resolver.specs.Devices.{Counted, IsCounted};
 ghost use Rattle.model_resolver.specs.Finding.{world_of};
-ghost use Rattle.pom_lineage.specs.Stores.{Holds};
+ghost use Rattle.pom_store.specs.Stores.{Holds};
 ghost use Rattle.pom_source.specs.Answers.{Says, build_failed};
 ghost use Rattle.pom_source.specs.Worlds.{World};
 ghost use Rattle.project_models.specs.Models.{AreModules, Gives, models_of, modules_of, project_models, project_poms, single};

@@ -1,6 +1,6 @@
 use Rattle.std.proofs.Common.{◌≡◌, ◌||◌, List, drop}
 use Rattle.mvn_base.specs.declared.refusal.PomId.{PomId}
-use Rattle.pom_lineage.specs.Stores.{meets}
+use Rattle.pom_store.specs.Stores.{meets}
 use Rattle.effective.proofs.below.united.Given as goal
 
 abbrev pub invariant-loop-pom : goal.invariant-loop-pom

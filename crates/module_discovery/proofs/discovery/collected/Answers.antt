@@ -1,7 +1,7 @@
 use Rattle.std.proofs.Common.{◌≡◌, ◌+◌, ◌-◌, suc, refl, sym, subst, ◌∙◌, arith}
 use Rattle.profile_activation.specs.Judging.TellsOn.{here}
 use Rattle.pom_source.specs.Answers.{Fails}
-use Rattle.pom_lineage.proofs.Telling.{told_both}
+use Rattle.pom_store.proofs.Telling.{told_both}
 use Rattle.module_discovery.proofs.Collecting.{collected_step, full_fails}
 use Rattle.module_discovery.proofs.discovery.collected.Goals as goal
 

@@ -1,7 +1,7 @@
 use Rattle.std.proofs.Common.{◌≡◌, ◌≤◌, ◌+◌, ◌-◌, length}
 use Rattle.profile_activation.specs.Judging.{TellsOn}
 use Rattle.pom_source.specs.Worlds.{World}
-use Rattle.pom_lineage.specs.Stores.{Holds, KeepsLines, KeepsRead}
+use Rattle.pom_store.specs.Stores.{Holds, KeepsLines, KeepsRead}
 use Rattle.module_discovery.specs.Discovery.{collected}
 use Rattle.module_discovery.proofs.discovery.collected.Given as goal
 

@@ -1,7 +1,7 @@
 use Rattle.std.proofs.Common.{◌≡◌, Ok, Err, IfSome, subst, sym}
-use Rattle.pom_lineage.specs.Lineage.{gav_of, joined_from, joined_up}
-use Rattle.pom_lineage.specs.Stores.{IsThere, LedThere}
-use Rattle.pom_lineage.proofs.Judging.{entered_says, led_there, packed_there, placed}
+use Rattle.pom_store.specs.Lineage.{gav_of, joined_from, joined_up}
+use Rattle.pom_store.specs.Stores.{IsThere, LedThere}
+use Rattle.pom_store.proofs.Judging.{entered_says, led_there, packed_there, placed}
 use Rattle.pom_lineage.proofs.stored.+stored.Goals as goal
 
 pub above-returns-in-Ok-clause-keeps : goal.above-returns-in-Ok-clause-keeps

@@ -1,5 +1,5 @@
 use Rattle.std.proofs.Common.{Ok, Err}
-use Rattle.pom_lineage.proofs.Joining.{as_parent, at_path, unasked_as}
+use Rattle.pom_store.proofs.Joining.{as_parent, at_path, unasked_as}
 use Rattle.pom_lineage.proofs.stored.as_parent.Goals as goal
 
 pub returns-in-Ok-clause-says : goal.returns-in-Ok-clause-says

@@ -1,6 +1,6 @@
 use Rattle.std.proofs.Common.{◌≡◌, Ok, subst}
 use Rattle.pom_source.specs.Answers.{Fails}
-use Rattle.pom_lineage.specs.Lineage.{joined_up, line}
+use Rattle.pom_store.specs.Lineage.{joined_up, line}
 use Rattle.pom_lineage.proofs.stored.with_places.Goals as goal
 
 pub returns-in-Ok-clause-says : goal.returns-in-Ok-clause-says

@@ -4,7 +4,7 @@ use Rattle.mvn_base.specs.declared.refusal.PomId.TheVariants as ids
 use Rattle.model_types.specs.declared.model.Model.{Model}
 use Rattle.profile_activation.specs.Judging.TellsOn.{here}
 use Rattle.pom_source.specs.Answers.{Built}
-use Rattle.pom_lineage.proofs.Telling.{told_both}
+use Rattle.pom_store.proofs.Telling.{told_both}
 use Rattle.effective.specs.Effective.{effective}
 use Rattle.effective.specs.Lawful.{IsLawful}
 use Rattle.model_resolver.specs.declared.resolver.ProjectPom.{ProjectPom}

@@ -1,7 +1,7 @@
 use Rattle.std.proofs.Common.{◌≡◌, [], Ok}
 use Rattle.mvn_shared.specs.Files.{Files}
 use Rattle.pom_source.specs.declared.found.Given.{Given}
-use Rattle.pom_lineage.specs.Stores.{Holds}
+use Rattle.pom_store.specs.Stores.{Holds}
 use Rattle.model_resolver.specs.Finding.{world_of}
 use Rattle.project_models.specs.Models.{project_poms}
 use Rattle.project_models.proofs.Leading.{Searched}

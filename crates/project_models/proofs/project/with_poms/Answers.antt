@@ -1,6 +1,6 @@
 use Rattle.std.proofs.Common.{◌≡◌, [], Ok, Err, IfOk}
 use Rattle.pom_source.specs.declared.fault.BuildFault.TheVariants.{Memory}
-use Rattle.pom_lineage.specs.Stores.{Holds}
+use Rattle.pom_store.specs.Stores.{Holds}
 use Rattle.effective.specs.Kept.{HoldsAll}
 use Rattle.model_resolver.specs.Devices.{Counts}
 use Rattle.model_resolver.specs.Finding.{world_of}

@@ -13,8 +13,8 @@ use Rattle.reactor_modules.specs.declared.modules.ReactorModules.{ReactorModules
 use Rattle.reactor_modules.proofs.Standing.{stands_on_winners}
 use Rattle.plan_numbers.specs.Plans.{IsNumbered}
 use Rattle.plan_numbers.specs.Whole.{HasGav}
-use Rattle.plan_numbers.specs.declared.selected.Planned.{Planned}
-use Rattle.plan_numbers.specs.declared.selected.SelectedModule.{SelectedModule}
+use Rattle.plan_files.specs.declared.selected.Planned.{Planned}
+use Rattle.plan_files.specs.declared.selected.SelectedModule.{SelectedModule}
 use Rattle.plan_law.proofs.Whole.{sound_numbered}
 use Rattle.built_modules.specs.Selected.{AreModules, AreSelected}
 use Rattle.built_modules.proofs.Ordered.{are_ordered}

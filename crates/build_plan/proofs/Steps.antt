@@ -14,8 +14,8 @@ use Rattle.reactor_modules.specs.declared.modules.ReactorFault.{ReactorFault}
 use Rattle.reactor_modules.specs.declared.modules.ReactorFault.TheVariants as reactors
 use Rattle.reactor_modules.specs.Reactor.{Answers}
 use Rattle.plan_numbers.specs.Plans.{numbered}
-use Rattle.plan_numbers.specs.declared.selected.Planned.{Planned}
-use Rattle.plan_numbers.specs.declared.selected.SelectedModule.{SelectedModule}
+use Rattle.plan_files.specs.declared.selected.Planned.{Planned}
+use Rattle.plan_files.specs.declared.selected.SelectedModule.{SelectedModule}
 use Rattle.built_modules.specs.Selected.{AreModules}
 use Rattle.build_plan.specs.Planning.{AreReady, AreResolved, IsPlanned, IsProject, IsReactor, IsRefused, Libraries, Plans, plan_fault, sources_of}
 use Rattle.build_plan.specs.Planning.IsRefused.{by_circle, by_libraries, by_poms, by_size, by_sources}

@@ -18,7 +18,7 @@ use Rattle.event_core.specs.Sound.{are_below}
 use Rattle.goal_types.specs.declared.goal.SourceFile.{SourceFile}
 use Rattle.model_resolver.specs.declared.resolver.ProjectPom.{ProjectPom}
 use Rattle.plan_law.specs.Ready.{AreOrdered, IsPlaced}
-use Rattle.plan_numbers.specs.declared.selected.SelectedModule.{SelectedModule}
+use Rattle.plan_files.specs.declared.selected.SelectedModule.{SelectedModule}
 use Rattle.reactor_modules.specs.Upstreams.{Ascends}
 use Rattle.reactor_modules.specs.declared.modules.ReactorModules.{ReactorModules}
 use Rattle.built_modules.specs.Selected.{AreModules, AreSelected}

@@ -7,7 +7,7 @@ use Rattle.built_modules.specs.Selected.{AreModules, Parts, selected}
 use Rattle.model_resolver.specs.declared.resolver.ProjectPom.{ProjectPom}
 use Rattle.reactor_modules.specs.declared.modules.ReactorModules.{ReactorModules}
 use Rattle.classpaths.specs.declared.resolution.Resolution.{Resolution}
-use Rattle.plan_numbers.specs.declared.selected.SelectedModule.{SelectedModule}
+use Rattle.plan_files.specs.declared.selected.SelectedModule.{SelectedModule}
 use Rattle.goal_types.specs.declared.goal.SourceFile.{SourceFile}
 
 some_is : {A : Type 0} (a b : A) → Some a ≡ Some b → a ≡ b

@@ -9,7 +9,7 @@ use Rattle.model_types.specs.declared.model.Model.{Model}
 use Rattle.model_resolver.specs.declared.resolver.ProjectPom.{ProjectPom}
 use Rattle.reactor_modules.specs.declared.modules.ReactorModules.{ReactorModules}
 use Rattle.classpaths.specs.declared.resolution.Resolution.{Resolution}
-use Rattle.plan_numbers.specs.declared.selected.SelectedModule.{SelectedModule}
+use Rattle.plan_files.specs.declared.selected.SelectedModule.{SelectedModule}
 use Rattle.goal_types.specs.declared.goal.SourceFile.{SourceFile}
 
 -- a POM and its model; what its dependencies lead to; the places of those before it, and its sources

@@ -4,7 +4,7 @@ ghost use Rattle.goal_types.specs.declared.goal.SourceFile as source;
 ghost use Rattle.model_resolver.specs.declared.resolver.ProjectPom as pom;
 ghost use Rattle.model_types.specs.declared.model.Model as model;
 ghost use Rattle.plan_law.specs.Ready.{AreOrdered};
-ghost use Rattle.plan_numbers.specs.declared.selected.SelectedModule as selected;
+ghost use Rattle.plan_files.specs.declared.selected.SelectedModule as selected;
 ghost use Rattle.reactor_modules.specs.declared.modules.ReactorModules as reactor;
 ghost use Rattle.built_modules.specs.Selected.{AreModules, AreSelected};
 

@@ -11,7 +11,7 @@ use Rattle.build_core.specs.declared.plan.Plan.{Plan}
 use Rattle.event_core.specs.declared.entry.RunEntry.{RunEntry}
 use Rattle.board.specs.Logs.{publishes_in, told_after}
 use Rattle.run_law.specs.Given.{Answers, Extends, IsBetween, IsPresent, supply_by}
-use Rattle.plan_numbers.specs.declared.selected.Planned.{Planned}
+use Rattle.plan_files.specs.declared.selected.Planned.{Planned}
 use Rattle.build_plan.specs.Planning.{IsPlan, KnowsFiles}
 use Rattle.outcome_laws.specs.AsOne.{EndsApart}
 use Rattle.outcome_laws.specs.Crews.{AllTellFiles, IsCrewRun}

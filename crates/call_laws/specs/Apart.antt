@@ -10,7 +10,7 @@ use Rattle.build_core.specs.declared.event.Event.{Event}
 use Rattle.event_core.specs.declared.entry.RunEntry.{RunEntry}
 use Rattle.run_law.specs.Given.{Answers, Extends, IsBetween, supply_by}
 use Rattle.outcome_laws.specs.AsOne.{EndsApart}
-use Rattle.plan_numbers.specs.declared.selected.Planned.{Planned}
+use Rattle.plan_files.specs.declared.selected.Planned.{Planned}
 use Rattle.crew_outcome.specs.Left.{IsCallRun}
 use Rattle.crew_outcome.specs.declared.outcome.Outcome.{Outcome}
 use Rattle.mvn_call.specs.Headline.{IsFoundIn}

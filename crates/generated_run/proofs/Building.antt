@@ -22,7 +22,7 @@ use Rattle.event_core.specs.declared.entry.RunEntry.{RunEntry}
 use Rattle.model_resolver.specs.Devices.{Counted}
 use Rattle.model_resolver.specs.declared.failures.PomDevice.{PomDevice}
 use Rattle.model_resolver.specs.declared.failures.PomDevice.TheVariants as device
-use Rattle.plan_numbers.specs.declared.selected.Planned.{Planned}
+use Rattle.plan_files.specs.declared.selected.Planned.{Planned}
 use Rattle.pom_source.specs.declared.found.Given.{Given}
 use Rattle.run_law.specs.Given.{IsPresent}
 use Rattle.crew_stages.specs.Hands.{HandState}

@@ -13,7 +13,7 @@ use Rattle.classpaths.specs.declared.classpath.Kind.TheVariants as kinds
 use Rattle.classpaths.specs.declared.resolution.Resolution.{Resolution}
 use Rattle.cli_words.specs.declared.command_line.CommandLine.{CommandLine}
 use Rattle.event_core.specs.declared.entry.RunEntry.{RunEntry}
-use Rattle.plan_numbers.specs.declared.selected.Planned.{Planned}
+use Rattle.plan_files.specs.declared.selected.Planned.{Planned}
 use Rattle.crew_outcome.specs.Left.{IsCallRun, Outside}
 use Rattle.crew_outcome.specs.declared.outcome.Outcome.{Outcome}
 use Rattle.mvn_call.specs.Found.{IsFound}

@@ -11,7 +11,7 @@ use Rattle.crew_outcome.specs.Left.{Outside}
 use Rattle.crew_outcome.specs.Reports.{Reports}
 use Rattle.crew_outcome.specs.declared.outcome.Outcome.{Outcome}
 use Rattle.outcome_laws.specs.Crews.{hand_of}
-use Rattle.plan_numbers.specs.declared.selected.Planned.{Planned}
+use Rattle.plan_files.specs.declared.selected.Planned.{Planned}
 use Rattle.mvn_call.specs.Headline.{told_of}
 use Rattle.mvn_call.specs.Seen.{with_first}
 use Rattle.make_project.specs.Summaries.{summary_with}

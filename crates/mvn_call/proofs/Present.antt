@@ -11,8 +11,8 @@ use Rattle.build_core.specs.declared.plan.Plan.{Plan}
 use Rattle.event_core.specs.Scripts.{is_there}
 use Rattle.run_law.specs.Given.{IsPresent}
 use Rattle.plan_numbers.specs.Plans.{is_present, plan_with, planned_with, present_in}
-use Rattle.plan_numbers.specs.declared.selected.Planned.{Planned}
-use Rattle.plan_numbers.specs.declared.selected.SelectedModule.{SelectedModule}
+use Rattle.plan_files.specs.declared.selected.Planned.{Planned}
+use Rattle.plan_files.specs.declared.selected.SelectedModule.{SelectedModule}
 use Rattle.build_plan.specs.Planning.{IsPlan, KnowsFiles}
 use Rattle.build_plan.specs.declared.planning.PlanFault.{PlanFault}
 use Rattle.build_plan.specs.declared.planning.PlanFault.TheVariants.{Build, Unknown}

@@ -7,7 +7,7 @@ use Rattle.mvn_outside.specs.declared.shelf.ShelfTold.{ShelfTold}
 use Rattle.cli_words.specs.declared.command_line.CommandLine.{CommandLine}
 use Rattle.pom_source.specs.declared.fault.BuildFault.TheVariants.{Refused, Absent, Source, Memory}
 use Rattle.pom_source.specs.declared.found.Given.{Given}
-use Rattle.plan_numbers.specs.declared.selected.Planned.{Planned}
+use Rattle.plan_files.specs.declared.selected.Planned.{Planned}
 use Rattle.build_plan.specs.declared.planning.PlanFault.{PlanFault}
 use Rattle.build_plan.specs.declared.planning.PlanFault.TheVariants.{Build, Unknown}
 use Rattle.build_plan.specs.Planning.{IsPlan, KnowsFiles, NamesWord, Plans}

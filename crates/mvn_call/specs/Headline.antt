@@ -14,7 +14,7 @@ use Rattle.build_core.specs.OneThread.{Supply, answer_at, one_thread}
 use Rattle.event_core.specs.declared.entry.RunEntry.{RunEntry}
 use Rattle.build_report.specs.declared.details.Details.{Details}
 use Rattle.full_report.specs.Details.{details_of}
-use Rattle.plan_numbers.specs.declared.selected.Planned.{Planned}
+use Rattle.plan_files.specs.declared.selected.Planned.{Planned}
 use Rattle.crew_outcome.specs.Answering.{AnswersBuild}
 use Rattle.crew_outcome.specs.Left.{AllStill, IsCallRun, IsIdle, SomeFailed}
 use Rattle.crew_outcome.specs.Outcomes.{ran}

@@ -11,7 +11,7 @@ use Rattle.event_core.specs.SoundPlans.{IsSoundPlan}
 use Rattle.run_law.specs.Given.{IsPresent}
 use Rattle.model_resolver.specs.Devices.{Counted}
 use Rattle.model_resolver.specs.declared.failures.PomDevice.{PomDevice}
-use Rattle.plan_numbers.specs.declared.selected.Planned.{Planned}
+use Rattle.plan_files.specs.declared.selected.Planned.{Planned}
 use Rattle.build_plan.specs.Planning.{IsPlan, KnowsFiles}
 use Rattle.build_plan.proofs.Few.{few_events, few_names}
 use Rattle.crew_stages.specs.Hands.{HandState}

@@ -13,7 +13,7 @@ use Rattle.build_core.specs.declared.event.Event.{Event}
 use Rattle.model_resolver.specs.Devices.{Counted}
 use Rattle.model_resolver.specs.declared.failures.PomDevice.{PomDevice}
 use Rattle.model_resolver.specs.declared.failures.PomDevice.TheVariants as device
-use Rattle.plan_numbers.specs.declared.selected.Planned.{Planned}
+use Rattle.plan_files.specs.declared.selected.Planned.{Planned}
 use Rattle.build_plan.specs.Planning.{Plans}
 use Rattle.outcome_laws.specs.Crews.{AllTellFiles, hand_of}
 use Rattle.crew_stages.specs.Hands.{HandState}

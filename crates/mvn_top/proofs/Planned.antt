@@ -10,7 +10,7 @@ use Rattle.classpaths.specs.declared.resolution.Resolution.{Resolution}
 use Rattle.build_report.specs.declared.details.Details.{Details}
 use Rattle.full_report.specs.Details.{details_of}
 use Rattle.model_resolver.specs.declared.failures.PomDevice.{PomDevice}
-use Rattle.plan_numbers.specs.declared.selected.Planned.{Planned}
+use Rattle.plan_files.specs.declared.selected.Planned.{Planned}
 use Rattle.build_plan.specs.declared.planning.PlanFault.{PlanFault}
 use Rattle.build_plan.specs.Planning.{IsPlan, KnowsFiles, NamesWord, Plans}
 use Rattle.crew_outcome.specs.declared.outcome.Outcome.{Outcome}

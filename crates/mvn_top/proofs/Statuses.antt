@@ -5,7 +5,7 @@ use Rattle.cli_words.specs.declared.command_line.CommandLine.{CommandLine}
 use Rattle.cli_words.specs.declared.fault.WordFault.{WordFault}
 use Rattle.pom_source.specs.declared.fault.BuildFault.TheVariants.{Refused, Absent, Source, Memory}
 use Rattle.model_resolver.specs.declared.failures.PomDevice.{PomDevice}
-use Rattle.plan_numbers.specs.declared.selected.Planned.{Planned}
+use Rattle.plan_files.specs.declared.selected.Planned.{Planned}
 use Rattle.build_plan.specs.declared.planning.PlanFault.{PlanFault}
 use Rattle.build_plan.specs.declared.planning.PlanFault.TheVariants.{Build, Unknown}
 use Rattle.crew_outcome.specs.declared.outcome.Outcome.{Outcome}

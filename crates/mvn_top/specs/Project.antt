@@ -5,7 +5,7 @@ use Rattle.mvn_outside.specs.declared.shelf.ShelfTold.{ShelfTold}
 use Rattle.cli_words.specs.declared.command_line.CommandLine.{CommandLine}
 use Rattle.pom_source.specs.declared.found.Given.{Given}
 use Rattle.model_resolver.specs.declared.failures.PomDevice.{PomDevice}
-use Rattle.plan_numbers.specs.declared.selected.Planned.{Planned}
+use Rattle.plan_files.specs.declared.selected.Planned.{Planned}
 use Rattle.build_plan.specs.declared.planning.PlanFault.{PlanFault}
 use Rattle.crew_outcome.specs.declared.outcome.Outcome.{Outcome}
 use Rattle.mvn_call.specs.Found.{Finds, IsFoundBy}

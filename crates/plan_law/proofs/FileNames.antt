@@ -14,9 +14,9 @@ use Rattle.classpaths.specs.Classpaths.{HasNames, artifact_file, classifier_of, 
 use Rattle.classpaths.specs.declared.resolution.Resolved.{Resolved}
 use Rattle.classpaths.proofs.Valid.{classifier_named, extension_named}
 use Rattle.model_types.specs.declared.model.Model.{Model}
-use Rattle.plan_numbers.specs.Outputs.{attached, has_main, is_pom, main_extension, main_output, outputs}
-use Rattle.plan_numbers.specs.Uses.{fetched_files, fetched_locks, has_names, is_selected, used_by, needs_path}
-use Rattle.plan_numbers.specs.declared.selected.Output.{Output}
+use Rattle.plan_files.specs.Outputs.{attached, has_main, is_pom, main_extension, main_output, outputs}
+use Rattle.plan_files.specs.Uses.{fetched_files, fetched_locks, has_names, is_selected, used_by, needs_path}
+use Rattle.plan_files.specs.declared.selected.Output.{Output}
 use Rattle.goal_types.specs.declared.goal.GoalCall.{GoalCall}
 use Rattle.plan_law.proofs.Gavs.{left_of, right_of}
 use Rattle.plan_law.proofs.Members.{Apart, IsIn, from_filter, from_flat, in_filter, in_flat, in_map}

@@ -6,7 +6,7 @@ use Rattle.classpaths.specs.declared.resolution.Resolved.{Resolved}
 use Rattle.event_core.specs.Climbing.{Climbs}
 use Rattle.event_core.specs.Outlines.{is_listed}
 use Rattle.event_core.specs.Sound.{are_below}
-use Rattle.plan_numbers.specs.declared.selected.SelectedModule.{SelectedModule}
+use Rattle.plan_files.specs.declared.selected.SelectedModule.{SelectedModule}
 
 -- of one, at its place: its coordinates are valid, its upstreams ascend and stand before it, and each other module that is a dependency of
 -- it is one of them

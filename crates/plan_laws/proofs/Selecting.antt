@@ -5,7 +5,7 @@ use Rattle.model_types.specs.declared.model.Model.{Model}
 use Rattle.classpaths.specs.declared.resolution.Resolution.{Resolution}
 use Rattle.model_resolver.specs.declared.resolver.ProjectPom.{ProjectPom}
 use Rattle.reactor_modules.specs.declared.modules.ReactorModules.{ReactorModules}
-use Rattle.plan_numbers.specs.declared.selected.SelectedModule.{SelectedModule}
+use Rattle.plan_files.specs.declared.selected.SelectedModule.{SelectedModule}
 use Rattle.built_modules.specs.Selected.{AreModules, IsModule}
 
 -- two things at one place are one

@@ -16,8 +16,8 @@ use Rattle.reactor_modules.specs.declared.modules.ReactorModules.{ReactorModules
 use Rattle.reactor_modules.specs.declared.modules.ReactorFault.{ReactorFault}
 use Rattle.reactor_modules.specs.declared.modules.ReactorFault.TheVariants as reactor
 use Rattle.plan_numbers.specs.Plans.{numbered}
-use Rattle.plan_numbers.specs.declared.selected.Planned.{Planned}
-use Rattle.plan_numbers.specs.declared.selected.SelectedModule.{SelectedModule}
+use Rattle.plan_files.specs.declared.selected.Planned.{Planned}
+use Rattle.plan_files.specs.declared.selected.SelectedModule.{SelectedModule}
 use Rattle.built_modules.specs.Selected.{AreModules}
 use Rattle.build_plan.specs.Planning.{IsSaid, AreReady, AreResolved, IsReactor, IsRefused, Libraries, Plans, plan_fault, sources_of}
 use Rattle.build_plan.specs.Planning.IsRefused.{by_poms, by_libraries, by_circle, by_sources, by_size}

@@ -6,7 +6,7 @@ ghost use Rattle.mvn_shared.specs.Files.{Files};
 ghost use Rattle.crew_outcome.specs.declared.outcome.Outcome.{Outcome};
 ghost use Rattle.mvn_base.specs.declared.machine.Machine.{Machine};
 ghost use Rattle.mvn_call.specs.Found.{IsFound};
-ghost use Rattle.plan_numbers.specs.declared.selected.Planned.{Planned};
+ghost use Rattle.plan_files.specs.declared.selected.Planned.{Planned};
 ghost use Rattle.pom_source.specs.declared.found.Given.{Given};
 
 /// A law of plans: the files of a project's folder, of the local repository and of the remote one, the machine, the properties that

@@ -1,7 +1,3 @@
 pub mod Counting
-pub mod Filed
-pub mod FirstPlaces
 pub mod Joined
-pub mod Lists
-pub mod Naming
-pub mod Walks
+pub mod Entries

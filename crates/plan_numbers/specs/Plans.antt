@@ -21,12 +21,12 @@ use Rattle.classpaths.specs.declared.classpath.Kind.TheVariants as kinds
 use Rattle.classpaths.specs.declared.resolution.Resolved.{Resolved}
 use Rattle.pom_source.specs.Answers.{Built}
 use Rattle.pom_source.specs.Refusals.{text_refused}
-use Rattle.plan_numbers.specs.Numbers.{fetch_locks, fetch_names, number_of, numbers_of, plan_files, plan_names}
-use Rattle.plan_numbers.specs.Outputs.{is_pom, outputs}
-use Rattle.plan_numbers.specs.Uses.{calls, gavs, is_selected, module_at, slot_of, used}
-use Rattle.plan_numbers.specs.declared.selected.Output.{Output}
-use Rattle.plan_numbers.specs.declared.selected.Planned.{Planned}
-use Rattle.plan_numbers.specs.declared.selected.SelectedModule.{SelectedModule}
+use Rattle.plan_files.specs.Numbers.{fetch_locks, fetch_names, number_of, numbers_of, plan_files, plan_names}
+use Rattle.plan_files.specs.Outputs.{is_pom, outputs}
+use Rattle.plan_files.specs.Uses.{calls, gavs, is_selected, module_at, slot_of, used}
+use Rattle.plan_files.specs.declared.selected.Output.{Output}
+use Rattle.plan_files.specs.declared.selected.Planned.{Planned}
+use Rattle.plan_files.specs.declared.selected.SelectedModule.{SelectedModule}
 
 -- ---- the entries of a module's classpaths
 

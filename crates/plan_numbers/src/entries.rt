@@ -3,17 +3,15 @@ ghost use Rattle.std.specs.Prelude.{◌≡◌, ◌<◌, ◌++◌, [], ◌∷◌,
 ghost use Rattle.classpaths.specs.Classpaths.{artifact_file, has_scope, is_on};
 ghost use Rattle.classpaths.specs.declared.classpath.Kind.TheVariants as kinds;
 ghost use Rattle.plan_numbers.specs.Plans.{entries_of, entry_of, kept_output, origin_of};
-ghost use Rattle.plan_numbers.specs.Uses.{has_names, used_by};
+ghost use Rattle.plan_files.specs.Uses.{has_names, used_by};
 
-use crate::files::FileList;
-use crate::places::Places;
-use crate::winners::{artifact_file, has_names, needs_path, slot_of};
 use build_core::{Entry, Origin};
 use classpaths::{Kind, Resolved};
 use collector::Scope;
 use goal_types::{GoalCall, Slot};
 use mvn_base::{FileName, Gav, handler};
 use mvn_shared::{List, Mem, Shared};
+use plan_files::{FileList, Places, artifact_file, has_names, needs_path, slot_of};
 use std::alloc::Global;
 
 // Whether a classpath has the dependencies of a scope.
@@ -109,7 +107,7 @@ fn push_entry(
 }
 
 // The entries of all dependencies.
-#[tactic(auto, using(crate::proofs::Walks::one_entry_more))]
+#[tactic(auto, using(crate::proofs::Entries::one_entry_more))]
 fn all_entries(
     alloc: Global,
     built: &Places<Gav>,

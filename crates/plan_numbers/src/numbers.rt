@@ -1,21 +1,18 @@
 // A module of a plan: its numbers.
 ghost use Rattle.std.specs.Prelude.{◌≡◌, ◌<◌, length, map, IfOk};
-ghost use Rattle.plan_numbers.specs.Numbers.{number_of, numbers_of};
+ghost use Rattle.plan_files.specs.Numbers.{number_of, numbers_of};
 ghost use Rattle.plan_numbers.specs.Plans.{budget_of, own_file};
 ghost use Rattle.mvn_base.specs.Gav.{lock_name};
 ghost use Rattle.plan_numbers.specs.Ready.{numbers_with, part_of, part_with};
 
 use crate::entries::entries_of;
-use crate::files::FileList;
-use crate::outputs::is_pom;
-use crate::places::Places;
 use crate::ready::Ready;
-use crate::selected::Output;
 use build_core::{Entry, OwnFile, PlanModule};
 use classpaths::Resolution;
 use model_types::Model;
 use mvn_base::{FileName, Gav, MOST_OUTPUT, lock_name};
 use mvn_shared::{List, Mem, Shared, Text};
+use plan_files::{FileList, Output, Places, is_pom};
 use std::alloc::Global;
 
 /// The most bytes that the kept outputs of all modules may have together. Project rule.

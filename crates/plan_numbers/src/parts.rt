@@ -2,15 +2,14 @@
 ghost use Rattle.std.specs.Prelude.{◌≡◌, ◌<◌, length, IfOk, OnOk};
 ghost use Rattle.plan_numbers.specs.Parts.{no_parts, parts_of, with_part};
 
-use crate::files::FileList;
 use crate::numbers::{Part, part_of};
-use crate::places::Places;
 use crate::ready::Ready;
 use build_core::PlanModule;
 use classpaths::Resolution;
 use model_types::Model;
 use mvn_base::Gav;
 use mvn_shared::{List, Mem, Shared, Text};
+use plan_files::{FileList, Places};
 use std::alloc::Global;
 
 /// The modules of a plan, and what is shown of them.

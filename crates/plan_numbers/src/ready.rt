@@ -3,13 +3,10 @@ ghost use Rattle.std.specs.Prelude.{◌≡◌, map, IfOk};
 ghost use Rattle.mvn_base.specs.FileName.{IsValid};
 ghost use Rattle.plan_numbers.specs.Ready.{ready};
 
-use crate::outputs::outputs;
-use crate::places::Places;
-use crate::selected::{Output, SelectedModule};
-use crate::uses::{fetched_files, fetched_locks};
 use lifecycle::{GoalList, goals};
 use mvn_base::{FileName, Gav, Phase};
 use mvn_shared::{List, Mem, Text};
+use plan_files::{Output, Places, SelectedModule, fetched_files, fetched_locks, outputs};
 use std::alloc::Global;
 
 /// A module, its goals, the files that are fetched for it with the locks that cover them, and its outputs.

@@ -3,18 +3,17 @@ ghost use Rattle.std.specs.Prelude.{◌≡◌, ◌≤◌, length, map, IfOk};
 ghost use Rattle.std.specs.List.{AllByRecursion};
 ghost use Rattle.plan_numbers.specs.Plans.{most_events};
 ghost use Rattle.plan_numbers.specs.Ready.{all_ready_events, ready};
-ghost use Rattle.plan_numbers.specs.Uses.{gavs};
+ghost use Rattle.plan_files.specs.Uses.{gavs};
 ghost use Rattle.plan_numbers.specs.Whole.{HasGav, numbered_few, numbered_if, numbered_with};
 
 use crate::events::count_events;
 use crate::numbers::copy_of;
 use crate::parts::{Parts, parts_of};
-use crate::places::Places;
 use crate::ready::{Ready, made_ready};
-use crate::selected::SelectedModule;
 use crate::tables::{files_of, names_of};
 use mvn_base::{FileName, Gav, Phase};
 use mvn_shared::{List, Mem, Text};
+use plan_files::{Places, SelectedModule};
 use std::alloc::Global;
 
 /// The names, the files and the modules of a plan, with what is shown of them.

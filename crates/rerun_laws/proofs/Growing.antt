@@ -26,11 +26,11 @@ use Rattle.run_law.proofs.HandFiles.{hand_left}
 use Rattle.run_law.proofs.Invariants.{IsFetchFile, IsOwnFile}
 use Rattle.run_law.proofs.Sounds.{sound_fit}
 use Rattle.run_law.proofs.Stored.{none_is}
-use Rattle.plan_numbers.specs.Numbers.{plan_files, plan_names}
+use Rattle.plan_files.specs.Numbers.{plan_files, plan_names}
 use Rattle.plan_numbers.specs.Plans.{module_of, plan_with, planned_with}
-use Rattle.plan_numbers.specs.Uses.{gavs}
-use Rattle.plan_numbers.specs.declared.selected.Planned.{Planned}
-use Rattle.plan_numbers.specs.declared.selected.SelectedModule.{SelectedModule}
+use Rattle.plan_files.specs.Uses.{gavs}
+use Rattle.plan_files.specs.declared.selected.Planned.{Planned}
+use Rattle.plan_files.specs.declared.selected.SelectedModule.{SelectedModule}
 use Rattle.plan_law.specs.Ready.{AreOrdered}
 use Rattle.plan_law.proofs.Members.{at_in, at_map, in_map, in_to}
 use Rattle.plan_law.proofs.Modules.{planned}

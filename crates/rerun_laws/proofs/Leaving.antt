@@ -22,7 +22,7 @@ use Rattle.outcome_laws.specs.Crews.{IsCrewRun}
 use Rattle.outcome_laws.proofs.Names.{told_contents}
 use Rattle.outcome_laws.proofs.Sides.{apart}
 use Rattle.plan_laws.proofs.Founding.{one_found}
-use Rattle.plan_numbers.specs.declared.selected.Planned.{Planned}
+use Rattle.plan_files.specs.declared.selected.Planned.{Planned}
 use Rattle.run_law.specs.Given.{Extends, IsPresent}
 use Rattle.rerun_laws.specs.Reruns.{IsBehind, IsSeen, LeavesBehind}
 

@@ -4,7 +4,7 @@ use Rattle.mvn_shared.specs.Files.{Files}
 use Rattle.build_core.specs.declared.plan.Plan.{Plan}
 use Rattle.crew_outcome.specs.declared.outcome.Outcome.{Outcome}
 use Rattle.plan_numbers.specs.Plans.{present_in}
-use Rattle.plan_numbers.specs.declared.selected.Planned.{Planned}
+use Rattle.plan_files.specs.declared.selected.Planned.{Planned}
 use Rattle.mvn_call.specs.Headline.{World}
 
 -- the plan, but that it says of each of its files whether these files have it

@@ -10,7 +10,7 @@ use Rattle.model_resolver.specs.declared.resolver.ProjectPom.{ProjectPom}
 use Rattle.pom_source.specs.Answers.{Built}
 use Rattle.pom_source.specs.declared.found.Given.{Given}
 use Rattle.project_models.specs.Models.{Modules, project_models}
-use Rattle.plan_numbers.specs.declared.selected.Planned.{Planned}
+use Rattle.plan_files.specs.declared.selected.Planned.{Planned}
 
 -- a POM of the project says these coordinates of itself
 abbrev pub is_said : List ProjectPom → Gav → Bool

@@ -4,7 +4,7 @@ use Rattle.mvn_shared.specs.Files.{Files, file_at}
 use Rattle.mvn_base.specs.declared.gav.Gav.{Gav}
 use Rattle.coordinate_laws.specs.Apart.{IsFileOf}
 use Rattle.model_types.specs.declared.model.Model.{Model}
-use Rattle.plan_numbers.specs.declared.selected.Planned.{Planned}
+use Rattle.plan_files.specs.declared.selected.Planned.{Planned}
 
 -- the coordinates of the modules that are built
 abbrev pub gavs_of : Planned → List Gav

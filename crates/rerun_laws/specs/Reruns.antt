@@ -12,7 +12,7 @@ use Rattle.mvn_call.specs.Found.{IsFound, given_of}
 use Rattle.mvn_call.specs.Headline.{IsCall, World, files_after}
 use Rattle.mvn_call.specs.Seen.{LeavesSo, Seen, first_remote, used}
 use Rattle.outcome_laws.specs.Crews.{AllTellFiles}
-use Rattle.plan_numbers.specs.declared.selected.Planned.{Planned}
+use Rattle.plan_files.specs.declared.selected.Planned.{Planned}
 use Rattle.run_law.specs.Given.{Extends}
 use Rattle.rerun_laws.specs.Apart.{IsApart}
 

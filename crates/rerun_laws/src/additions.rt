@@ -3,7 +3,7 @@ ghost use Rattle.mvn_shared.specs.Files.{Files};
 ghost use Rattle.build_core.specs.OneThread.{one_thread};
 ghost use Rattle.build_plan.specs.Planning.{IsPlanned};
 ghost use Rattle.cli_words.specs.declared.command_line.CommandLine.{CommandLine};
-ghost use Rattle.plan_numbers.specs.declared.selected.Planned.{Planned};
+ghost use Rattle.plan_files.specs.declared.selected.Planned.{Planned};
 ghost use Rattle.pom_source.specs.declared.found.Given.{Given};
 ghost use Rattle.run_law.specs.Given.{Answers, IsBetween, supply_by};
 ghost use Rattle.rerun_laws.specs.Grown.{IsGrown, gavs_of};

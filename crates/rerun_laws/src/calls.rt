@@ -7,7 +7,7 @@ ghost use Rattle.cli_words.specs.declared.command_line.CommandLine.{CommandLine}
 ghost use Rattle.crew_outcome.specs.declared.outcome.Outcome as answers;
 ghost use Rattle.mvn_call.specs.Found.{IsFound};
 ghost use Rattle.mvn_call.specs.Headline.{IsCall, World, files_after, outcome};
-ghost use Rattle.plan_numbers.specs.declared.selected.Planned.{Planned};
+ghost use Rattle.plan_files.specs.declared.selected.Planned.{Planned};
 ghost use Rattle.rerun_laws.specs.Again.{found_over, world_over};
 ghost use Rattle.rerun_laws.specs.Reruns.{IsBehind, IsCallAgain, IsFirst};
 

@@ -10,7 +10,7 @@ ghost use Rattle.model_resolver.specs.Finding.{find_pom};
 ghost use Rattle.model_resolver.specs.declared.resolver.ProjectPom as poms;
 ghost use Rattle.model_types.specs.declared.model.Model as models;
 ghost use Rattle.pom_source.specs.declared.found.Given as givens;
-ghost use Rattle.plan_numbers.specs.declared.selected.Planned as planned;
+ghost use Rattle.plan_files.specs.declared.selected.Planned as planned;
 ghost use Rattle.project_libraries.specs.Available.{available};
 ghost use Rattle.rerun_laws.specs.Again.{planned_over};
 ghost use Rattle.rerun_laws.specs.Apart.{IsApart, is_said};

@@ -8,7 +8,7 @@ ghost use Rattle.cli_words.specs.declared.command_line.CommandLine.{CommandLine}
 ghost use Rattle.crew_outcome.specs.declared.outcome.Outcome.{Outcome};
 ghost use Rattle.mvn_call.specs.Headline.{IsHistory, World};
 ghost use Rattle.mvn_call.specs.Seen.{After, Seen};
-ghost use Rattle.plan_numbers.specs.declared.selected.Planned.{Planned};
+ghost use Rattle.plan_files.specs.declared.selected.Planned.{Planned};
 ghost use Rattle.rerun_laws.specs.Reruns.{IsBehind, LeavesBehind};
 
 /// A law, in the words of `mvn`'s clauses: whatever its status, after faults of devices and for want of memory too, a call leaves files between

@@ -7,7 +7,7 @@ ghost use Rattle.cli_words.specs.declared.command_line.CommandLine.{CommandLine}
 ghost use Rattle.event_core.specs.SoundPlans.{IsSoundPlan};
 ghost use Rattle.mvn_call.specs.Commands.{asked};
 ghost use Rattle.pom_source.specs.declared.found.Given.{Given};
-ghost use Rattle.plan_numbers.specs.declared.selected.Planned.{Planned};
+ghost use Rattle.plan_files.specs.declared.selected.Planned.{Planned};
 ghost use Rattle.rerun_laws.specs.Reruns.{HasWorkers};
 
 /// A law: a plan that planning gives, for 1 to 16 workers, is sound, so that it can be built; and the words of a call ask for so many, if there are

@@ -6,8 +6,8 @@ use Rattle.pom_source.specs.Answers.{Built, Says}
 use Rattle.pom_source.specs.declared.fault.BuildFault.{BuildFault}
 use Rattle.plan_numbers.specs.Plans.{IsNumbered, all_events, most_events, numbered, plan_modules, plan_with, planned_with, present_in}
 use Rattle.plan_numbers.specs.Whole.{numbered_if, numbered_of}
-use Rattle.plan_numbers.specs.declared.selected.Planned.{Planned}
-use Rattle.plan_numbers.specs.declared.selected.SelectedModule.{SelectedModule}
+use Rattle.plan_files.specs.declared.selected.Planned.{Planned}
+use Rattle.plan_files.specs.declared.selected.SelectedModule.{SelectedModule}
 use Rattle.plan_numbers.specs.declared.whole.Numbered.{Numbered}
 use Rattle.selected_plan.specs.Stages.{IsAssembled, assembled, too_many}
 

@@ -4,7 +4,7 @@ use Rattle.mvn_base.specs.declared.rule.Rule.TheVariants.{GraphTooLarge}
 use Rattle.pom_source.specs.Answers.{Built}
 use Rattle.pom_source.specs.Refusals.{text_refused}
 use Rattle.plan_numbers.specs.Plans.{root_id}
-use Rattle.plan_numbers.specs.declared.selected.Planned.{Planned}
+use Rattle.plan_files.specs.declared.selected.Planned.{Planned}
 use Rattle.plan_numbers.specs.declared.whole.Numbered.{Numbered}
 
 -- what comes of too many events

@@ -10,11 +10,11 @@ use Rattle.pom_source.specs.declared.found.Given.{Given}
 use Rattle.module_discovery.specs.Discovery.{pom_xml}
 use Rattle.project_models.specs.Models.{project_models}
 use Rattle.plan_law.proofs.Whole.{is_numbered}
-use Rattle.plan_numbers.specs.Numbers.{plan_files, plan_names}
-use Rattle.plan_numbers.specs.Uses.{gavs}
+use Rattle.plan_files.specs.Numbers.{plan_files, plan_names}
+use Rattle.plan_files.specs.Uses.{gavs}
 use Rattle.plan_numbers.specs.Plans.{module_of, plan_modules, plan_with}
-use Rattle.plan_numbers.specs.declared.selected.Planned.{Planned}
-use Rattle.plan_numbers.specs.declared.selected.SelectedModule.{SelectedModule}
+use Rattle.plan_files.specs.declared.selected.Planned.{Planned}
+use Rattle.plan_files.specs.declared.selected.SelectedModule.{SelectedModule}
 use Rattle.reactor_modules.specs.Upstreams.{upstream_places}
 use Rattle.build_plan.specs.Planning.{IsPlanned, IsRefused}
 use Rattle.build_plan.specs.Planning.IsRefused.{by_poms}

@@ -12,7 +12,7 @@ use Rattle.pom_source.specs.declared.found.Given.{Given}
 use Rattle.project_models.specs.Models.{Modules, project_models}
 use Rattle.reactor_modules.specs.Reactor.{AreBuilt}
 use Rattle.reactor_modules.specs.declared.modules.ReactorModules.{ReactorModules}
-use Rattle.plan_numbers.specs.declared.selected.Planned.{Planned}
+use Rattle.plan_files.specs.declared.selected.Planned.{Planned}
 use Rattle.build_plan.specs.Planning.{built_models}
 
 -- the project has some modules, and the words select of them; the plan has the effective models of these, with what their dependencies

@@ -3,7 +3,7 @@ ghost use Rattle.mvn_shared.specs.Files.{Files, file_at};
 ghost use Rattle.cli_words.specs.declared.command_line.CommandLine as lines;
 ghost use Rattle.model_types.specs.declared.model.Model as effective;
 ghost use Rattle.pom_source.specs.declared.found.Given as givens;
-ghost use Rattle.plan_numbers.specs.declared.selected.Planned as planned;
+ghost use Rattle.plan_files.specs.declared.selected.Planned as planned;
 ghost use Rattle.build_plan.specs.Planning.{IsPlanned, IsRefused, built_models};
 ghost use Rattle.selection_laws.specs.Selected.{IsOfSelected, missing_pom};
 

@@ -4,7 +4,7 @@ use Rattle.mvn_outside.specs.Shelf.{files_now}
 use Rattle.mvn_outside.specs.declared.shelf.ShelfTold.{ShelfTold}
 use Rattle.run_law.specs.Given.{IsPresent}
 use Rattle.model_resolver.specs.Devices.{Counted}
-use Rattle.plan_numbers.specs.declared.selected.Planned.{Planned}
+use Rattle.plan_files.specs.declared.selected.Planned.{Planned}
 use Rattle.crew_outcome.specs.Left.{Outside}
 use Rattle.crew_outcome.specs.declared.outcome.Outcome.{Outcome}
 use Rattle.mvn_top.specs.Project.{GivesPlan}

@@ -1,7 +1,7 @@
 use Rattle.std.proofs.Common.{◌≡◌, ◌≤◌, ◌∙◌, ℕ, List, ap, drop, length, map, refl, sym, subst, Result, Ok, Err, IfOk, arith}
 use Rattle.std.proofs.lemmas.List.{length-map}
 use Rattle.mvn_shared.specs.declared.memory.OutOfMemory.{OutOfMemory}
-use Rattle.plan_numbers.specs.declared.selected.Planned.{Planned}
+use Rattle.plan_files.specs.declared.selected.Planned.{Planned}
 use Rattle.crew_stages.specs.Hands.{state_by}
 use Rattle.crew_outcome.specs.declared.outcome.Outcome.{Outcome}
 use Rattle.crew_outcome.specs.Left.{Outside, outside_by}

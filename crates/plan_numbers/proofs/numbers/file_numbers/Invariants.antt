@@ -1,5 +1,5 @@
 use Rattle.std.proofs.Common.{◌≡◌, ◌++◌, drop}
-use Rattle.plan_numbers.specs.Numbers.{numbers_of}
+use Rattle.plan_files.specs.Numbers.{numbers_of}
 use Rattle.plan_numbers.proofs.numbers.file_numbers.Given as goal
 
 abbrev pub invariant-loop-name : goal.invariant-loop-name

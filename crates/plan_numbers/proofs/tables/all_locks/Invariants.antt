@@ -1,6 +1,6 @@
 use Rattle.std.proofs.Common.{◌≡◌, drop, flat_map}
 use Rattle.std.specs.FinMap as finite
-use Rattle.plan_numbers.specs.Numbers.{with_texts}
+use Rattle.plan_files.specs.Numbers.{with_texts}
 use Rattle.plan_numbers.specs.Ready.{ready_locks}
 use Rattle.plan_numbers.proofs.tables.all_locks.Given as goal
 

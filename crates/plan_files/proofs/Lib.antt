@@ -1,0 +1,5 @@
+pub mod Filed
+pub mod FirstPlaces
+pub mod Lists
+pub mod Naming
+pub mod Walks

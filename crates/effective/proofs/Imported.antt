@@ -20,8 +20,8 @@ use Rattle.pom_store.specs.Reading.{read}
 use Rattle.model_steps.specs.Assembly.{model_of}
 use Rattle.model_steps.specs.Building.{built}
 use Rattle.model_steps.specs.Imports.{import_gav}
-use Rattle.model_steps.specs.Validation.{model_problem, unless}
-use Rattle.model_steps.specs.declared.problem.Problem.{Problem}
+use Rattle.model_validation.specs.Validation.{model_problem, unless}
+use Rattle.model_validation.specs.declared.problem.Problem.{Problem}
 use Rattle.effective.specs.Effective.{asked, effective, ended, entry, full, import_on, imported, imports_from, managed_of, met_import, read_found, wanted, whole}
 use Rattle.effective.specs.Imports.{AreAmong, AreImports, IsManagedAt, IsPutTogether, import_entry, no_more, own_entry}
 

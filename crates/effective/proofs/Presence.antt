@@ -40,11 +40,11 @@ use Rattle.model_steps.specs.Building.{built, built_by}
 use Rattle.model_steps.specs.Assembly.{model_of}
 use Rattle.model_steps.specs.Folders.{basedir_in, filled, placed_in}
 use Rattle.model_steps.specs.Imports.{gav_by, import_gav}
-use Rattle.model_steps.specs.Kinds.{kind_of}
-use Rattle.model_steps.specs.Validation.{model_problem, unless as unless_refused}
-use Rattle.model_steps.specs.declared.kind.VersionKind.{VersionKind}
-use Rattle.model_steps.specs.declared.kind.VersionKind.TheVariants.{Missing, Soft, Range, Unreadable}
-use Rattle.model_steps.specs.declared.problem.Problem.{Problem}
+use Rattle.model_validation.specs.Kinds.{kind_of}
+use Rattle.model_validation.specs.Validation.{model_problem, unless as unless_refused}
+use Rattle.model_validation.specs.declared.kind.VersionKind.{VersionKind}
+use Rattle.model_validation.specs.declared.kind.VersionKind.TheVariants.{Missing, Soft, Range, Unreadable}
+use Rattle.model_validation.specs.declared.problem.Problem.{Problem}
 use Rattle.effective.specs.Absence.{IsAbsentExactly, has_pom}
 use Rattle.effective.specs.Effective.{asked, effective, ended, entry, full, if_there, import_found, import_on, imported, imports_from, managed_of, met_import, read_found, wanted, whole}
 

@@ -5,7 +5,7 @@ use Rattle.std.proofs.lemmas.Bool.{and_from}
 use Rattle.std.proofs.lemmas.List.Folds.{list_all-append}
 use Rattle.model_types.specs.declared.dependency.Dependency.{Dependency}
 use Rattle.model_types.specs.declared.model.Model.{Model}
-use Rattle.model_steps.specs.Valid.{has_no_import, is_scoped, is_valid}
+use Rattle.model_validation.specs.Valid.{has_no_import, is_scoped, is_valid}
 use Rattle.effective.specs.Lawful.{IsLawful}
 
 pub lawful : (model same : Model) → same ≡ model → is_valid same ≡ true → is_scoped model ≡ true → has_no_import model.base.managed ≡ true → IsLawful same

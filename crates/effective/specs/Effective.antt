@@ -27,7 +27,7 @@ use Rattle.model_steps.specs.Assembly.{model_of}
 use Rattle.model_steps.specs.Building.{built}
 use Rattle.model_steps.specs.Folders.{filled}
 use Rattle.model_steps.specs.Imports.{import_gav}
-use Rattle.model_steps.specs.Validation.{checked}
+use Rattle.model_validation.specs.Validation.{checked}
 
 -- an imported POM: not there, being built already, or found
 abbrev pub met_import : PomId → List PomId → Gav → Option Found → Built Found

@@ -7,7 +7,7 @@ ghost use Rattle.pom_source.specs.Answers.{Says, build_failed};
 ghost use Rattle.pom_source.specs.Worlds.{World};
 ghost use Rattle.model_types.specs.declared.model.RawModel as models;
 ghost use Rattle.pom_store.specs.Lineage.{is_in, lineage, next_poms};
-ghost use Rattle.model_steps.specs.Valid.{has_no_import};
+ghost use Rattle.model_validation.specs.Valid.{has_no_import};
 ghost use Rattle.effective.specs.Lawful.{IsLawful};
 ghost use Rattle.effective.specs.Effective.{ended, entry, full, import_found, imported, imports_from, managed_of, whole};
 ghost use Rattle.effective.specs.Kept.{AreKept, HoldsAll, IsBuilt, IsEntry, IsFound, IsImport, IsRead, OrFails};

@@ -1,7 +1,7 @@
 ghost use Rattle.std.specs.Prelude.{◌≡◌, ◌≤◌, ◌+◌, ℕ, List as Items, true, [], ◌∷◌, ◌++◌, ◌||◌, ◌&&◌, IfOk};
 ghost use Rattle.std.specs.List.{list_all};
 ghost use Rattle.mvn_base.specs.declared.refusal.PomId as ids;
-ghost use Rattle.model_steps.specs.Valid.{has_no_import};
+ghost use Rattle.model_validation.specs.Valid.{has_no_import};
 ghost use Rattle.pom_store.specs.Lineage.{is_in};
 ghost use Rattle.pom_store.specs.Stores.{meets};
 ghost use Rattle.effective.specs.Serving.{serves};

@@ -5,7 +5,4 @@ pub mod Assembly
 pub mod Building
 pub mod Folders
 pub mod Imports
-pub mod Kinds
 pub mod Once
-pub mod Valid
-pub mod Validation

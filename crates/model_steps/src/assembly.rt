@@ -3,13 +3,13 @@ ghost use Rattle.std.specs.List.{list_all};
 ghost use Rattle.model_types.specs.declared.model.Parent as parents;
 ghost use Rattle.model_types.specs.declared.dependency.Dependency as entries;
 ghost use Rattle.model_steps.specs.Assembly.{base_of, build_of, completed, gav_of, is_dropped, kept_as, model_of, plugins_as, settled_base, with_scope};
-ghost use Rattle.model_steps.specs.Valid.{has_no_import, is_scoped};
+ghost use Rattle.model_validation.specs.Valid.{has_no_import, is_scoped};
 
 use crate::once::{once, plugins_once};
-use crate::texts::{is_scope, text_or_empty};
 use managed_deps::{ManagedSet, apply, managed};
 use model_merge::{copies, settled};
 use model_types::{Build, BuildBase, Coordinates, Dependency, Model, ModelBase, Parent, RawModel};
+use model_validation::{is_scope, text_or_empty};
 use mvn_base::{Gav, PomId};
 use mvn_shared::{List, Mem, Shared, Text};
 use std::alloc::Global;

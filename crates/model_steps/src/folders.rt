@@ -3,7 +3,7 @@ ghost use Rattle.profile_activation.specs.Lookups.{behind};
 ghost use Rattle.interpolate.specs.Filling.{fill};
 ghost use Rattle.pom_paths.specs.Paths.{joined};
 ghost use Rattle.pom_source.specs.Answers.{Says, build_failed, refused};
-ghost use Rattle.model_steps.specs.Folders.{basedir_in, filled, filled_in, from_basedir, is_absolute, placed, placed_build, placed_in, placed_outputs, placed_sources, stays};
+ghost use Rattle.model_steps.specs.Folders.{basedir_in, filled, from_basedir, is_absolute, placed, placed_build, placed_in, placed_outputs, placed_sources, stays};
 
 use interpolate::fill;
 use model_merge::copies;

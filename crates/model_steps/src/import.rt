@@ -5,10 +5,9 @@ ghost use Rattle.pom_source.specs.Answers.{Says, build_failed};
 ghost use Rattle.pom_source.specs.Refusals.{text_refused};
 ghost use Rattle.model_steps.specs.Imports.{dependency_gav, gav_by, import_gav};
 
-use crate::kind::{VersionKind, kind_of};
-use crate::texts::{is_scope, text_or_empty};
 use model_merge::Keyed;
 use model_types::Dependency;
+use model_validation::{VersionKind, is_scope, kind_of, text_or_empty};
 use mvn_base::{Gav, PomId, Rule, key_text};
 use mvn_shared::{Mem, Text};
 use pom_source::{BuildFault, text_refused};

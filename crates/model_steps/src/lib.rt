@@ -8,17 +8,11 @@ mod bound;
 mod build;
 mod folders;
 mod import;
-mod kind;
 mod once;
-mod problem;
-mod texts;
-mod validation;
 
 pub use assembly::model_of;
 pub use bound::Bound;
 pub use build::built;
 pub use folders::{filled, placed_stays};
 pub use import::{import_gav, is_import};
-pub use kind::VersionKind;
-pub use problem::Problem;
-pub use validation::{checked, refused_if_invalid};
+pub use model_validation::{Problem, VersionKind, checked, refused_if_invalid};

@@ -18,10 +18,10 @@ use Rattle.pom_source.specs.declared.found.Given.{Given}
 use Rattle.model_resolver.specs.declared.resolver.ProjectPom.{ProjectPom}
 use Rattle.model_steps.specs.Assembly.{model_of}
 use Rattle.model_steps.specs.Building.{built}
-use Rattle.model_steps.specs.Kinds.{kind_of}
-use Rattle.model_steps.specs.Validation.{checked, gav_problem, is_named, is_soft, model_problem, problem, unless}
-use Rattle.model_steps.specs.declared.kind.VersionKind.{VersionKind}
-use Rattle.model_steps.specs.declared.kind.VersionKind.TheVariants.{Missing, Soft, Range, Unreadable}
+use Rattle.model_validation.specs.Kinds.{kind_of}
+use Rattle.model_validation.specs.Validation.{checked, gav_problem, is_named, is_soft, model_problem, problem, unless}
+use Rattle.model_validation.specs.declared.kind.VersionKind.{VersionKind}
+use Rattle.model_validation.specs.declared.kind.VersionKind.TheVariants.{Missing, Soft, Range, Unreadable}
 use Rattle.effective.specs.Effective.{asked, effective, ended, full, imported, imports_from, whole}
 use Rattle.project_models.specs.Projects.{AreEffective}
 use Rattle.project_models.specs.Projects.AreEffective.{no_pom, one_more}

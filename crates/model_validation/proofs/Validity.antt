@@ -11,12 +11,12 @@ use Rattle.model_types.specs.declared.dependency.Dependency.{Dependency}
 use Rattle.model_types.specs.declared.model.Model.{Model}
 use Rattle.managed_deps.specs.Managed.{is_scope}
 use Rattle.profile_activation.specs.Activation.{is_of_project}
-use Rattle.model_steps.specs.Kinds.{kind_of}
-use Rattle.model_steps.specs.Validation.{first_problem, gav_problem, is_missing, is_named, is_soft, is_unreadable, item_problem, may_be_scope, model_problem, name_problem, scope_problem, scope_problem_of, version_problem}
-use Rattle.model_steps.specs.Valid.{has_valid_names, is_valid, is_valid_entry, is_valid_gav, is_valid_scope, may_be_version}
-use Rattle.model_steps.specs.declared.kind.VersionKind.{VersionKind}
-use Rattle.model_steps.specs.declared.kind.VersionKind.TheVariants.{Missing, Soft, Range, Unreadable}
-use Rattle.model_steps.specs.declared.problem.Problem.{Problem}
+use Rattle.model_validation.specs.Kinds.{kind_of}
+use Rattle.model_validation.specs.Validation.{first_problem, gav_problem, is_missing, is_named, is_soft, is_unreadable, item_problem, may_be_scope, model_problem, name_problem, scope_problem, scope_problem_of, version_problem}
+use Rattle.model_validation.specs.Valid.{has_valid_names, is_valid, is_valid_entry, is_valid_gav, is_valid_scope, may_be_version}
+use Rattle.model_validation.specs.declared.kind.VersionKind.{VersionKind}
+use Rattle.model_validation.specs.declared.kind.VersionKind.TheVariants.{Missing, Soft, Range, Unreadable}
+use Rattle.model_validation.specs.declared.problem.Problem.{Problem}
 
 -- the first of three is there exactly if not all three tests hold
 first_of_three : (a b c : Bool) (p q r : Option Problem) → is_some p ≡ not a → is_some q ≡ not b → is_some r ≡ not c → is_some (option_or p (option_or q r)) ≡ not (a && b && c)

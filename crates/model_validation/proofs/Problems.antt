@@ -3,8 +3,8 @@ use Rattle.std.proofs.Common.{◌≡◌, ℕ, ◌+◌, ◌<◌, List, [], ◌∷
 use Rattle.std.proofs.lemmas.List.{drop_more}
 use Rattle.std.specs.Option.{option_or}
 use Rattle.model_types.specs.declared.dependency.Dependency.{Dependency}
-use Rattle.model_steps.specs.Validation.{first_problem}
-use Rattle.model_steps.specs.declared.problem.Problem.{Problem}
+use Rattle.model_validation.specs.Validation.{first_problem}
+use Rattle.model_validation.specs.declared.problem.Problem.{Problem}
 
 module _ (test : Dependency → Option Problem) (items : List Dependency) (i : ℕ) (d : Dependency) where
   -- the rest of a list has the problem of its first item, or else that of the further ones

@@ -3,8 +3,8 @@ ghost use Rattle.mvn_base.specs.Names.{is_filled};
 ghost use Rattle.mvn_base.specs.Key.{key_text};
 ghost use Rattle.managed_deps.specs.Managed.{key_of};
 ghost use Rattle.pom_source.specs.Answers.{Says, build_failed};
-ghost use Rattle.model_steps.specs.Validation.{checked, first_problem, gav_problem, is_missing, is_named, is_own_scope, is_soft, is_unreadable, item_problem, may_be_scope, model_problem, name_problem, problem, scope_problem, scope_problem_of, version_problem};
-ghost use Rattle.model_steps.specs.Valid.{is_valid};
+ghost use Rattle.model_validation.specs.Validation.{checked, first_problem, gav_problem, is_missing, is_named, is_own_scope, is_soft, is_unreadable, item_problem, may_be_scope, model_problem, name_problem, problem, scope_problem, scope_problem_of, version_problem};
+ghost use Rattle.model_validation.specs.Valid.{is_valid};
 ghost use Rattle.model_types.specs.declared.model.Model as models;
 
 use crate::kind::{VersionKind, kind_of, kind_of_text};

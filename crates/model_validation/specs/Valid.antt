@@ -10,10 +10,10 @@ use Rattle.model_types.specs.declared.dependency.Dependency.{Dependency}
 use Rattle.model_types.specs.declared.model.Model.{Model}
 use Rattle.managed_deps.specs.Managed.{is_import}
 use Rattle.profile_activation.specs.Activation.{is_of_project}
-use Rattle.model_steps.specs.Kinds.{kind_of}
-use Rattle.model_steps.specs.Validation.{is_named, is_soft, may_be_scope}
-use Rattle.model_steps.specs.declared.kind.VersionKind.{VersionKind}
-use Rattle.model_steps.specs.declared.kind.VersionKind.TheVariants.{Missing, Soft, Range, Unreadable}
+use Rattle.model_validation.specs.Kinds.{kind_of}
+use Rattle.model_validation.specs.Validation.{is_named, is_soft, may_be_scope}
+use Rattle.model_validation.specs.declared.kind.VersionKind.{VersionKind}
+use Rattle.model_validation.specs.declared.kind.VersionKind.TheVariants.{Missing, Soft, Range, Unreadable}
 
 -- names that are allowed; a classifier may be empty
 abbrev pub has_valid_names : VersionKind → Dependency → Bool

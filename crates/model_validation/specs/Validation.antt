@@ -15,10 +15,10 @@ use Rattle.managed_deps.specs.Managed.{is_scope, key_of}
 use Rattle.profile_activation.specs.Activation.{is_of_project}
 use Rattle.pom_source.specs.Answers.{Built}
 use Rattle.pom_source.specs.Refusals.{text_refused}
-use Rattle.model_steps.specs.Kinds.{kind_of}
-use Rattle.model_steps.specs.declared.kind.VersionKind.{VersionKind}
-use Rattle.model_steps.specs.declared.kind.VersionKind.TheVariants.{Missing, Soft, Range, Unreadable}
-use Rattle.model_steps.specs.declared.problem.Problem.{Problem}
+use Rattle.model_validation.specs.Kinds.{kind_of}
+use Rattle.model_validation.specs.declared.kind.VersionKind.{VersionKind}
+use Rattle.model_validation.specs.declared.kind.VersionKind.TheVariants.{Missing, Soft, Range, Unreadable}
+use Rattle.model_validation.specs.declared.problem.Problem.{Problem}
 
 -- a rule that isn't met, and the text that the refusal names
 abbrev pub problem : Rule → List ℕ → Problem

@@ -3,8 +3,8 @@ use Rattle.std.specs.Prelude.{ℕ, List, Option, None, Some, Result, Ok, Err}
 use Rattle.version_order.specs.Requirements.{requirement}
 use Rattle.version_order.specs.declared.requirement.Requirement.{Requirement}
 use Rattle.version_order.specs.declared.requirement.Requirement.TheVariants as requirements
-use Rattle.model_steps.specs.declared.kind.VersionKind.{VersionKind}
-use Rattle.model_steps.specs.declared.kind.VersionKind.TheVariants.{Missing, Soft, Range, Unreadable}
+use Rattle.model_validation.specs.declared.kind.VersionKind.{VersionKind}
+use Rattle.model_validation.specs.declared.kind.VersionKind.TheVariants.{Missing, Soft, Range, Unreadable}
 
 abbrev pub kind_by : Result Requirement ℕ → VersionKind
 kind_by (Ok (requirements.Soft version)) = Soft

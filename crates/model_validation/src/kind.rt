@@ -1,5 +1,5 @@
 ghost use Rattle.std.specs.Prelude.{◌≡◌, Some, IfOk};
-ghost use Rattle.model_steps.specs.Kinds.{kind_of};
+ghost use Rattle.model_validation.specs.Kinds.{kind_of};
 
 use mvn_shared::{Mem, OutOfMemory, Text};
 use std::alloc::Global;
@@ -16,7 +16,7 @@ pub enum VersionKind {
 }
 
 // What the text of a version states.
-pub(crate) fn kind_of_text(alloc: Global, version: &Text) -> Mem<VersionKind>
+pub fn kind_of_text(alloc: Global, version: &Text) -> Mem<VersionKind>
     ensures { IfOk result (λ kind. kind ≡ kind_of (Some version.now)) }
 {
     match Requirement::parse(alloc, version) {
@@ -28,7 +28,7 @@ pub(crate) fn kind_of_text(alloc: Global, version: &Text) -> Mem<VersionKind>
 }
 
 // What a version states, if there is one.
-pub(crate) fn kind_of(alloc: Global, version: &Option<Text>) -> Mem<VersionKind>
+pub fn kind_of(alloc: Global, version: &Option<Text>) -> Mem<VersionKind>
     ensures { IfOk result (λ kind. kind ≡ kind_of version.now) }
 {
     match version {

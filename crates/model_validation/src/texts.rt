@@ -7,7 +7,7 @@ use mvn_shared::{Mem, Text};
 use std::alloc::Global;
 
 // A text, or an empty one if there is none.
-pub(crate) fn text_or_empty(alloc: Global, text: &Option<Text>) -> Mem<Text>
+pub fn text_or_empty(alloc: Global, text: &Option<Text>) -> Mem<Text>
     ensures { IfOk result (λ it. it ≡ unwrap_or text.now []) }
 {
     match text {
@@ -17,7 +17,7 @@ pub(crate) fn text_or_empty(alloc: Global, text: &Option<Text>) -> Mem<Text>
 }
 
 // Whether a scope is stated and has this name.
-pub(crate) fn is_scope(scope: &Option<Text>, name: &str) -> bool
+pub fn is_scope(scope: &Option<Text>, name: &str) -> bool
     ensures { result ≡ is_scope name.now scope.now }
 {
     match scope {
@@ -27,7 +27,7 @@ pub(crate) fn is_scope(scope: &Option<Text>, name: &str) -> bool
 }
 
 // Whether a POM is one of the project.
-pub(crate) fn is_of_project(pom: &PomId) -> bool
+pub fn is_of_project(pom: &PomId) -> bool
     ensures { result ≡ is_of_project pom.now }
 {
     match pom {

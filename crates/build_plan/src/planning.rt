@@ -18,7 +18,7 @@ use model_resolver::{Failures, PomDevice, ProjectPom};
 use model_types::Model;
 use mvn_outside::{Remote, Shelf, Tree};
 use mvn_shared::{List, Shared};
-use plan_numbers::Planned;
+use plan_files::Planned;
 use pom_source::{BuildFault, Given};
 use project_libraries::resolve_modules;
 use project_models::{ProjectModels, project_models};

@@ -22,7 +22,7 @@ use model_types::Model;
 use module_sources::module_sources;
 use mvn_outside::{Shelf, Tree};
 use mvn_shared::{List, Mem, Shared};
-use plan_numbers::Planned;
+use plan_files::Planned;
 use pom_source::{BuildFault, Given};
 use reactor_modules::ReactorModules;
 use selected_plan::plan_selected;

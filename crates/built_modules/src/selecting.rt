@@ -10,7 +10,7 @@ use goal_types::SourceFile;
 use model_resolver::ProjectPom;
 use model_types::Model;
 use mvn_shared::{List, Mem, Shared};
-use plan_numbers::SelectedModule;
+use plan_files::SelectedModule;
 use reactor_modules::ReactorModules;
 use std::alloc::Global;
 

@@ -17,9 +17,9 @@ mod names;
 
 use classpaths::{Kind, Note, Resolution, Resolved};
 use collector::Scope;
+use library_lookup::MediationFault;
 use lines::Read;
 use managed_deps::{ManagedSet, managed};
-use mediation::MediationFault;
 use mvn_base::Gav;
 use names::are_named;
 use resolution::mediate;

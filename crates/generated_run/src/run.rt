@@ -22,7 +22,7 @@ use mvn_base::Machine;
 use mvn_shared::{List, Mem};
 use mvn_top::{build_by_first, given_of, plan_by_first};
 use outside_mem::{MemShelf, MemTree, NoFailures};
-use plan_numbers::Planned;
+use plan_files::Planned;
 use pom_source::Given;
 use std::alloc::Global;
 use std::sync::Wait;

@@ -5,9 +5,9 @@ use Rattle.std.specs.Str.{bytes_eq}
 use Rattle.mvn_base.specs.Gav.{gav_eq}
 use Rattle.mvn_base.specs.declared.gav.Gav.{Gav}
 use Rattle.model_types.specs.declared.model.Model.{Model}
-use Rattle.mediation.specs.Libraries.{Libraries}
-use Rattle.mediation.specs.declared.known.Known.{Known}
-use Rattle.mediation.specs.declared.known.Known.TheVariants as known
+use Rattle.library_lookup.specs.Libraries.{Libraries}
+use Rattle.library_lookup.specs.declared.known.Known.{Known}
+use Rattle.library_lookup.specs.declared.known.Known.TheVariants as known
 use Rattle.lookup_mem.specs.declared.libraries.MemLibraries.{MemLibraries}
 
 -- the model of a coordinate's POM, and the versions under a name

@@ -1,2 +1,2 @@
-pub use Rattle.mediation.specs.Libraries
+pub use Rattle.library_lookup.specs.Libraries
 pub mod Held

@@ -1,12 +1,12 @@
 ghost use Rattle.std.specs.Prelude.{◌≡◌, ◌∷◌, ◌++◌, ℕ, None, IfOk, OnErr, OnOk};
 ghost use Rattle.std.specs.Prelude.{List as Items};
-ghost use Rattle.mediation.specs.Libraries.{Libraries};
+ghost use Rattle.library_lookup.specs.Libraries.{Libraries};
 ghost use Rattle.mvn_base.specs.declared.gav.Gav as gavs;
 ghost use Rattle.mvn_base.specs.Gav.{gav_eq};
 ghost use Rattle.lookup_mem.specs.Held.{Fits, models_in, versions_in, with_model, with_versions};
 
 use crate::told::{known, name_of, told};
-use mediation::{Known, Library, Lookup, LookupFault};
+use library_lookup::{Known, Library, Lookup, LookupFault};
 use model_types::Model;
 use mvn_base::Gav;
 use mvn_shared::{List, Mem, Shared, Text};

@@ -2,7 +2,7 @@ ghost use Rattle.std.specs.Prelude.{◌≡◌, ◌≤◌, ◌∷◌, ◌++◌, l
 ghost use Rattle.std.specs.Option.{option_copied};
 ghost use Rattle.lookup_mem.specs.Held.{known_of, short, told_of};
 
-use mediation::{Known, Library};
+use library_lookup::{Known, Library};
 use mvn_outside::MOST_VERSIONS;
 use mvn_shared::{List, Mem, Text};
 use std::alloc::Global;

@@ -4,10 +4,10 @@ use Rattle.std.specs.Option.{option_or, option_to_list}
 use Rattle.std.proofs.lemmas.List.{drop_all}
 use Rattle.std.proofs.lemmas.List.Elements.{All-nil}
 use Rattle.collector.specs.declared.edge.Edge.{Edge}
-use Rattle.mediation.specs.declared.fault.MediationFault.{MediationFault}
-use Rattle.mediation.specs.declared.fault.MediationFault.TheVariants.{Refused, Lookup, Memory}
+use Rattle.library_lookup.specs.declared.fault.MediationFault.{MediationFault}
+use Rattle.library_lookup.specs.declared.fault.MediationFault.TheVariants.{Refused, Lookup, Memory}
 use Rattle.mediation.specs.declared.winner.Winner.{Winner}
-use Rattle.mediation.specs.Libraries.{Libraries}
+use Rattle.library_lookup.specs.Libraries.{Libraries}
 use Rattle.mediation.specs.Rows.{Adds, Grows, IsPicked, IsWhole, Resolves, first_reason, paths_of}
 use Rattle.winner_law.specs.Winners.{Graph, Path, firsts, level, longer, winners}
 use Rattle.mediation.proofs.Growing.{reasons_behind}

@@ -3,10 +3,7 @@ pub mod Paths
 pub mod Growing
 pub mod Lengths
 pub mod Places
-pub mod Greatest
 pub mod Within
 pub mod Nearest
-pub mod Telling
 pub mod Prefixes
-pub mod Unmanaged
 pub mod Standing

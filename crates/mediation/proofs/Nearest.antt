@@ -9,8 +9,8 @@ use Rattle.mvn_base.specs.declared.key.Key.{Key}
 use Rattle.model_merge.specs.Keyed.{same_key}
 use Rattle.mediation.specs.declared.winner.Winner.{Winner}
 use Rattle.mediation.specs.Counting.{Counts, IsMediated, Wins}
-use Rattle.mediation.specs.Faults.{Reason}
-use Rattle.mediation.specs.Libraries.{Libraries, declarations, gav_of, graph_of, leads_to, picked}
+use Rattle.library_lookup.specs.Faults.{Reason}
+use Rattle.library_lookup.specs.Libraries.{Libraries, declarations, gav_of, graph_of, leads_to, picked}
 use Rattle.mediation.specs.Rows.{IsWhole, paths_of}
 use Rattle.winner_law.specs.Winners.{Ascends, Graph, IsAtMost, IsOrdered, Path, SharesNone, counting, ends_at, is_won, level, longer, next_edges, winner_of, winners}
 use Rattle.winner_law.proofs.Apart.{one_winner}

@@ -1,9 +1,9 @@
 -- What is found of a project: its winners with what is declared, or the first refusal.
 use Rattle.std.specs.Prelude.{List, Result, Ok, Err}
-use Rattle.mediation.specs.declared.fault.MediationFault.{MediationFault}
+use Rattle.library_lookup.specs.declared.fault.MediationFault.{MediationFault}
 use Rattle.mediation.specs.declared.levels.DependencyGraph.{DependencyGraph}
 use Rattle.mediation.specs.declared.winner.Winner.{Winner}
-use Rattle.mediation.specs.Libraries.{Libraries}
+use Rattle.library_lookup.specs.Libraries.{Libraries}
 use Rattle.mediation.specs.Rows.{Resolves}
 use Rattle.winner_law.specs.Winners.{Graph}
 

@@ -8,7 +8,7 @@ ghost use Rattle.model_merge.specs.Keyed.{same_key};
 ghost use Rattle.winner_law.specs.Winners.{winner_of};
 ghost use Rattle.mediation.specs.declared.winner.Winner.{Winner};
 ghost use Rattle.mediation.specs.Counting.{IsMediated};
-ghost use Rattle.mediation.specs.Libraries.{Libraries, graph_of};
+ghost use Rattle.library_lookup.specs.Libraries.{Libraries, graph_of};
 ghost use Rattle.mediation.specs.Rows.{IsWhole, paths_of};
 
 /// What holds of all winners of a project, as they are found. Each path that counts ends at a key that has a winner. The

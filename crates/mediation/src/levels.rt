@@ -3,21 +3,19 @@ ghost use Rattle.std.specs.Prelude as logic;
 ghost use Rattle.std.specs.Option.{option_to_list};
 ghost use Rattle.mvn_shared.specs.Cause.{HasCause};
 ghost use Rattle.model_types.specs.declared.dependency.Dependency as dependencies;
-ghost use Rattle.mediation.specs.Faults.{Says, is_faulty};
+ghost use Rattle.library_lookup.specs.Faults.{Says, is_faulty};
 ghost use Rattle.collector.specs.Edges.{direct_edges, transitive_edges};
 ghost use Rattle.collector.specs.declared.edge.Edge as edge_rows;
 ghost use Rattle.mediation.specs.declared.winner.Winner as rows;
-ghost use Rattle.mediation.specs.Telling.{TellsOn};
-ghost use Rattle.mediation.specs.Libraries.{Libraries, declarations, gav_of, graph_of};
+ghost use Rattle.library_lookup.specs.Telling.{TellsOn};
+ghost use Rattle.library_lookup.specs.Libraries.{Libraries, declarations, gav_of, graph_of};
 ghost use Rattle.mediation.specs.Rows.{Adds, ArePlaced, IsPicked, IsPrefix, Leads, edges_below, paths_of, place_of, row_of, won_by};
 ghost use Rattle.mediation.specs.Found.{ResolvesGraph};
 ghost use Rattle.winner_law.specs.Winners.{Path, longer};
 
-use crate::fault::MediationFault;
-use crate::known::{Known, Lookup, ask_model};
-use crate::pick::chosen;
 use crate::winner::{Winner, Winners};
 use collector::{Edge, Exclusions, direct_edges};
+use library_lookup::{Known, Lookup, MediationFault, ask_model, chosen};
 use managed_deps::ManagedSet;
 use model_types::Dependency;
 use mvn_base::{Gav, Key};
@@ -99,7 +97,7 @@ fn add_winner<L: Lookup>(
 }
 
 // One declaration of a key that has no winner, which wins.
-#[tactic(auto, using(crate::proofs::Telling::untold, crate::proofs::Telling::told_both, crate::proofs::Prefixes::whole))]
+#[tactic(auto, using(library_lookup::proofs::Telling::untold, library_lookup::proofs::Telling::told_both, crate::proofs::Prefixes::whole))]
 fn add_new<L: Lookup>(
     alloc: Global,
     lookup: &mut L,
@@ -125,7 +123,7 @@ fn add_new<L: Lookup>(
 }
 
 // The place of the winner of a declaration's key; the declaration wins where there is none yet.
-#[tactic(auto, using(crate::proofs::Telling::untold, crate::proofs::Prefixes::whole))]
+#[tactic(auto, using(library_lookup::proofs::Telling::untold, crate::proofs::Prefixes::whole))]
 fn decide<L: Lookup>(
     alloc: Global,
     lookup: &mut L,
@@ -154,7 +152,7 @@ fn decide<L: Lookup>(
 }
 
 // The declarations of one end, each with the place of its winner.
-#[tactic(auto, using(crate::proofs::Telling::untold, crate::proofs::Telling::told_both))]
+#[tactic(auto, using(library_lookup::proofs::Telling::untold, library_lookup::proofs::Telling::told_both))]
 fn add_edges<L: Lookup>(
     alloc: Global,
     lookup: &mut L,
@@ -185,7 +183,7 @@ fn add_edges<L: Lookup>(
 }
 
 // What is known of the POM of a version.
-#[tactic(auto, using(crate::proofs::Telling::untold))]
+#[tactic(auto, using(library_lookup::proofs::Telling::untold))]
 fn known_at<L: Lookup>(lookup: &mut L, key: &Key, version: &Text) -> Result<Known, MediationFault>
     ensures says { (libraries : Libraries) → L.fits lookup.old libraries
         → Says (Ok (libraries.at (gav_of key.now version.now))) result }
@@ -244,7 +242,7 @@ fn edges_below(alloc: Global, managed: &ManagedSet, winner: &Winner) -> Mem<Shar
 }
 
 // The paths one edge longer than a winner's, and what its POM leads to.
-#[tactic(auto, using(crate::proofs::Telling::untold, crate::proofs::Prefixes::whole, crate::proofs::Standing::none_placed))]
+#[tactic(auto, using(library_lookup::proofs::Telling::untold, crate::proofs::Prefixes::whole, crate::proofs::Standing::none_placed))]
 fn expand<L: Lookup>(
     alloc: Global,
     lookup: &mut L,
@@ -281,7 +279,7 @@ fn expand<L: Lookup>(
 }
 
 // The paths one edge longer than those of the winners from a place on, before another; what the POM of each leads to is kept.
-#[tactic(auto, using(crate::proofs::Telling::untold, crate::proofs::Telling::told_both))]
+#[tactic(auto, using(library_lookup::proofs::Telling::untold, library_lookup::proofs::Telling::told_both))]
 fn add_level<L: Lookup>(
     alloc: Global,
     lookup: &mut L,
@@ -360,7 +358,7 @@ pub struct DependencyGraph {
 /// each winner with a range one look-up more, and each available version is parsed once. Begins with room for 16 times as
 /// many winners and places as the project has declarations, at most for 16,384. Introduction to the Dependency Mechanism,
 /// "Dependency mediation".
-#[tactic(auto, using(crate::proofs::Telling::untold, crate::proofs::Telling::told_both))]
+#[tactic(auto, using(library_lookup::proofs::Telling::untold, library_lookup::proofs::Telling::told_both))]
 pub fn find_winners<L: Lookup>(
     alloc: Global,
     direct: &[Shared<Dependency>],

@@ -3,19 +3,11 @@
 //! look-up.
 #![tactic(auto)]
 
-mod fault;
-mod jars;
-mod known;
 mod law;
 mod levels;
-mod library;
-mod pick;
 mod row;
 mod winner;
 
-pub use fault::MediationFault;
-pub use known::{Known, Lookup, LookupFault};
 pub use law::nearest_wins;
 pub use levels::{DependencyGraph, find_winners};
-pub use library::Library;
 pub use winner::{Winner, Winners};

@@ -2,10 +2,10 @@ ghost use Rattle.std.specs.Prelude.{◌≡◌, ◌<◌, ◌≤◌, [], ◌∷◌
 ghost use Rattle.std.specs.Option.{option_copied};
 ghost use Rattle.mediation.specs.Rows.{place_of, row_of};
 
-use crate::known::Known;
 use crate::row::{Row, Sought};
 use collector::Edge;
 use indexmap::IndexSet;
+use library_lookup::Known;
 use mvn_base::Key;
 use mvn_shared::{Mem, Text};
 use std::alloc::Global;

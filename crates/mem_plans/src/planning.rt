@@ -13,7 +13,7 @@ use goal_types::SourceFile;
 use mvn_base::{Choice, Machine, Phase};
 use mvn_shared::{List, Mem, OutOfMemory, Text};
 use outside_mem::{MemFile, MemRemote, MemShelf, MemTree, NoFailures};
-use plan_numbers::Planned;
+use plan_files::Planned;
 use pom_source::Given;
 use std::alloc::Global;
 

@@ -15,4 +15,3 @@ pub use bound::Bound;
 pub use build::built;
 pub use folders::{filled, placed_stays};
 pub use import::{import_gav, is_import};
-pub use model_validation::{Problem, VersionKind, checked, refused_if_invalid};

@@ -21,7 +21,7 @@ use full_report::details_of;
 use mvn_base::Machine;
 use mvn_outside::{Gate, Hand, Remote, Shelf, Tree};
 use mvn_shared::Bytes;
-use plan_numbers::Planned;
+use plan_files::Planned;
 use pom_source::Given;
 use std::alloc::Global;
 use std::sync::Wait;

@@ -13,7 +13,7 @@ use crew_outcome::{FAULT, Outcome, REFUSED};
 use model_resolver::PomDevice;
 use mvn_base::{Place, PomId, Refusal, Rule};
 use mvn_shared::{Bytes, Mem, OutOfMemory, Text};
-use plan_numbers::Planned;
+use plan_files::Planned;
 use pom_source::BuildFault;
 use std::alloc::Global;
 

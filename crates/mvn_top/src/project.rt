@@ -13,7 +13,7 @@ use crew_outcome::Outcome;
 use model_resolver::PomDevice;
 use mvn_outside::{Gate, Hand, Remote, Shelf, Tree};
 use mvn_shared::Mem;
-use plan_numbers::Planned;
+use plan_files::Planned;
 use pom_source::Given;
 use std::alloc::Global;
 

@@ -4,8 +4,8 @@ use Rattle.std.proofs.lemmas.Bool.Decides.{nat_tests}
 use Rattle.mvn_base.specs.declared.refusal.Refusal.{Refusal}
 use Rattle.model_types.specs.declared.model.Model.{Model}
 use Rattle.classpaths.specs.declared.resolution.Resolution.{Resolution}
-use Rattle.mediation.specs.Libraries.{Libraries}
-use Rattle.mediation.specs.declared.fault.MediationFault.TheVariants as reasons
+use Rattle.library_lookup.specs.Libraries.{Libraries}
+use Rattle.library_lookup.specs.declared.fault.MediationFault.TheVariants as reasons
 use Rattle.model_resolver.specs.declared.resolver.ProjectPom.{ProjectPom}
 use Rattle.pom_source.specs.declared.fault.BuildFault.{BuildFault}
 use Rattle.pom_source.specs.declared.fault.BuildFault.TheVariants.{Refused, Absent, Source, Memory}

@@ -11,6 +11,5 @@ mod whole;
 
 pub use numbers::Part;
 pub use parts::Parts;
-pub use plan_files::{Output, Planned, SelectedModule};
 pub use ready::Ready;
 pub use whole::{Numbered, number_modules};

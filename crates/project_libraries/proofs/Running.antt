@@ -10,8 +10,8 @@ use Rattle.mvn_base.specs.Gav.{gav_eq}
 use Rattle.effective.specs.Kept.{HoldsAll}
 use Rattle.model_resolver.specs.Devices.{FitsTold, Told}
 use Rattle.model_resolver.specs.Finding.{world_of}
-use Rattle.mediation.specs.Libraries.{Libraries}
-use Rattle.mediation.specs.declared.known.Known.{Known}
+use Rattle.library_lookup.specs.Libraries.{Libraries}
+use Rattle.library_lookup.specs.declared.known.Known.{Known}
 use Rattle.project_libraries.specs.Available.{available}
 use Rattle.project_libraries.specs.Known.{known_at, libraries_of}
 use Rattle.project_libraries.specs.Holding.{AlikeRun, FitsRun, HoldsKnown, told_by}

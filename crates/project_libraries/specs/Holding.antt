@@ -13,9 +13,9 @@ use Rattle.effective.specs.Kept.{HoldsAll}
 use Rattle.model_resolver.specs.Devices.{Told}
 use Rattle.model_resolver.specs.Finding.{world_of}
 use Rattle.model_resolver.specs.Resolving.{TellsSame, standing}
-use Rattle.mediation.specs.Libraries.{Libraries}
-use Rattle.mediation.specs.declared.known.Known.{Known}
-use Rattle.mediation.specs.declared.known.Known.TheVariants as known
+use Rattle.library_lookup.specs.Libraries.{Libraries}
+use Rattle.library_lookup.specs.declared.known.Known.{Known}
+use Rattle.library_lookup.specs.declared.known.Known.TheVariants as known
 use Rattle.project_libraries.specs.Known.{known_at, libraries_of, module_of}
 use Rattle.project_libraries.specs.declared.run_lookup.RunLookup.{RunLookup}
 

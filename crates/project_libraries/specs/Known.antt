@@ -13,9 +13,9 @@ use Rattle.mvn_base.specs.Gav.{gav_eq}
 use Rattle.effective.specs.Effective.{effective}
 use Rattle.model_resolver.specs.Finding.{world_of}
 use Rattle.model_resolver.specs.declared.resolver.ProjectPom.{ProjectPom}
-use Rattle.mediation.specs.Libraries.{Libraries}
-use Rattle.mediation.specs.declared.known.Known.{Known}
-use Rattle.mediation.specs.declared.known.Known.TheVariants as known
+use Rattle.library_lookup.specs.Libraries.{Libraries}
+use Rattle.library_lookup.specs.declared.known.Known.{Known}
+use Rattle.library_lookup.specs.declared.known.Known.TheVariants as known
 use Rattle.project_libraries.specs.Available.{available}
 
 -- the model of the first module of these effective coordinates

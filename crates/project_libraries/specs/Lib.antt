@@ -3,7 +3,7 @@ pub use Rattle.pom_source.specs.Worlds
 pub use Rattle.effective.specs.Kept
 pub use Rattle.model_resolver.specs.Devices
 pub use Rattle.model_resolver.specs.Finding
-pub use Rattle.mediation.specs.Libraries
+pub use Rattle.library_lookup.specs.Libraries
 pub use Rattle.resolution.specs.Resolved
 pub mod Available
 pub mod Known

@@ -7,11 +7,11 @@ ghost use Rattle.mvn_outside.specs.Shelf.{files_now};
 ghost use Rattle.mvn_outside.specs.Versions.{ListsAll, versions_of};
 ghost use Rattle.model_resolver.specs.Devices.{Counted, IsCounted};
 ghost use Rattle.model_resolver.specs.Noting.{first_after};
-ghost use Rattle.mediation.specs.Faults.{lookup_failed};
+ghost use Rattle.library_lookup.specs.Faults.{lookup_failed};
 ghost use Rattle.project_libraries.specs.Available.{is_artifact, listed, within_most};
 
 use crate::versions::Versions;
-use mediation::LookupFault;
+use library_lookup::LookupFault;
 use model_resolver::{Failures, PomDevice};
 use mvn_base::{valid_group, valid_name};
 use mvn_outside::{ListFault, Remote, Shelf};

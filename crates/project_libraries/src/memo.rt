@@ -4,10 +4,10 @@ ghost use Rattle.std.specs.HashMap.{get};
 ghost use Rattle.mvn_base.specs.declared.gav.Gav as gavs;
 ghost use Rattle.model_types.specs.declared.model.Model as models;
 ghost use Rattle.mvn_base.specs.Gav.{gav_eq};
-ghost use Rattle.mediation.specs.declared.known.Known.TheVariants as knowns;
+ghost use Rattle.library_lookup.specs.declared.known.Known.TheVariants as knowns;
 ghost use Rattle.project_libraries.specs.Known.{module_of};
 
-use mediation::{Known, Library};
+use library_lookup::{Known, Library};
 use model_types::Model;
 use mvn_base::Gav;
 use mvn_shared::{Mem, Shared};

@@ -7,8 +7,8 @@ ghost use Rattle.pom_source.specs.declared.fault.BuildFault.TheVariants as fault
 ghost use Rattle.effective.specs.Kept.{HoldsAll};
 ghost use Rattle.model_resolver.specs.Devices.{Counted, IsCounted};
 ghost use Rattle.model_resolver.specs.Finding.{world_of};
-ghost use Rattle.mediation.specs.Libraries.{Libraries};
-ghost use Rattle.mediation.specs.Telling.{TellsOn};
+ghost use Rattle.library_lookup.specs.Libraries.{Libraries};
+ghost use Rattle.library_lookup.specs.Telling.{TellsOn};
 ghost use Rattle.project_libraries.specs.Known.{libraries_of};
 ghost use Rattle.project_libraries.specs.Resolving.{Resolves, ResolvesModule, managed_by, refused_at};
 
@@ -16,8 +16,8 @@ use crate::memo::known_modules;
 use crate::run_lookup::{RunLookup, Whole};
 use classpaths::Resolution;
 use effective::RunStore;
+use library_lookup::{Lookup, MediationFault};
 use managed_deps::{ManagedSet, managed};
-use mediation::{Lookup, MediationFault};
 use model_resolver::{Failures, ModelResolver, ProjectPom, ProjectPoms};
 use model_types::Model;
 use mvn_base::{Place, PomId, Refusal, Rule};
@@ -64,7 +64,7 @@ fn mediated<L: Lookup>(
 }
 
 // What a module comes to.
-#[tactic(auto, using(mediation::proofs::Telling::untold))]
+#[tactic(auto, using(library_lookup::proofs::Telling::untold))]
 fn resolve_module<L: Lookup>(
     alloc: Global,
     lookup: &mut L,
@@ -84,7 +84,7 @@ fn resolve_module<L: Lookup>(
 }
 
 // What each module comes to.
-#[tactic(auto, using(mediation::proofs::Telling::untold, mediation::proofs::Telling::told_both))]
+#[tactic(auto, using(library_lookup::proofs::Telling::untold, library_lookup::proofs::Telling::told_both))]
 fn resolve_each<L: Lookup>(
     alloc: Global,
     lookup: &mut L,

@@ -3,14 +3,14 @@ ghost use Rattle.std.specs.Prelude.{◌≡◌, ◌≤◌, length, IfOk, IfSome};
 ghost use Rattle.mvn_shared.specs.Cause.{HasCause};
 ghost use Rattle.mvn_outside.specs.Shelf.{files_now};
 ghost use Rattle.model_resolver.specs.Resolving.{TellsSame};
-ghost use Rattle.mediation.specs.Faults.{lookup_failed};
-ghost use Rattle.mediation.specs.Telling.{TellsOn};
+ghost use Rattle.library_lookup.specs.Faults.{lookup_failed};
+ghost use Rattle.library_lookup.specs.Telling.{TellsOn};
 ghost use Rattle.project_libraries.specs.Available.{available};
 
 use crate::known::known_at;
 use crate::versions::{Versions, available};
 use effective::RunStore;
-use mediation::{Known, Lookup, LookupFault};
+use library_lookup::{Known, Lookup, LookupFault};
 use model_resolver::ModelResolver;
 use model_types::Model;
 use mvn_base::Gav;

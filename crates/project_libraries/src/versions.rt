@@ -3,11 +3,11 @@ ghost use Rattle.std.specs.Prelude.{◌≡◌, ◌≤◌, ◌++◌, ◌∷◌, [
 ghost use Rattle.mvn_shared.specs.Cause.{HasCause};
 ghost use Rattle.mvn_outside.specs.Shelf.{files_now};
 ghost use Rattle.model_resolver.specs.Devices.{Counted, IsCounted};
-ghost use Rattle.mediation.specs.Faults.{lookup_failed};
+ghost use Rattle.library_lookup.specs.Faults.{lookup_failed};
 ghost use Rattle.project_libraries.specs.Available.{available, each_once, joined, listed, version_of, with_version, within_most};
 
 use crate::listing::{local_versions, remote_versions};
-use mediation::LookupFault;
+use library_lookup::LookupFault;
 use model_resolver::Failures;
 use model_types::Model;
 use mvn_outside::{MOST_VERSIONS, Remote, Shelf};

@@ -7,7 +7,7 @@ use Rattle.mvn_base.specs.declared.gav.Gav.{Gav}
 use Rattle.mvn_base.specs.declared.phase.Phase.{Phase}
 use Rattle.mvn_base.specs.declared.rule.Rule.TheVariants.{GraphTooLarge}
 use Rattle.model_types.specs.declared.model.Model.{Model}
-use Rattle.mediation.specs.Libraries.{Libraries}
+use Rattle.library_lookup.specs.Libraries.{Libraries}
 use Rattle.model_resolver.specs.Finding.{find_pom, pom_at, world_of}
 use Rattle.model_resolver.specs.declared.resolver.ProjectPom.{ProjectPom}
 use Rattle.pom_source.specs.Answers.{Built, ◌>>=◌}

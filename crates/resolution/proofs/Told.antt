@@ -6,11 +6,11 @@ use Rattle.mvn_base.specs.declared.key.Key.{Key}
 use Rattle.mvn_base.specs.declared.rule.Rule.TheVariants.{RangeConflict}
 use Rattle.model_types.specs.declared.dependency.Dependency.{Dependency}
 use Rattle.classpaths.specs.declared.resolution.Resolution.{Resolution}
-use Rattle.mediation.specs.Faults.{Reason, Says}
-use Rattle.mediation.specs.Libraries.{Libraries, graph_of}
+use Rattle.library_lookup.specs.Faults.{Reason, Says}
+use Rattle.library_lookup.specs.Libraries.{Libraries, graph_of}
 use Rattle.mediation.specs.Rows.{IsWhole, Resolves, edges_below, reason}
-use Rattle.mediation.specs.declared.fault.MediationFault.{MediationFault}
-use Rattle.mediation.specs.declared.fault.MediationFault.TheVariants.{Refused, Lookup, Memory}
+use Rattle.library_lookup.specs.declared.fault.MediationFault.{MediationFault}
+use Rattle.library_lookup.specs.declared.fault.MediationFault.TheVariants.{Refused, Lookup, Memory}
 use Rattle.mediation.specs.declared.winner.Winner.{Winner}
 use Rattle.collector.specs.Edges.{direct_edges}
 use Rattle.collector.specs.declared.edge.Edge.{Edge}

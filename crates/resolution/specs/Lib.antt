@@ -1,4 +1,4 @@
-pub use Rattle.mediation.specs.Libraries
+pub use Rattle.library_lookup.specs.Libraries
 pub use Rattle.mediation.specs.Rows
 pub use Rattle.winner_scopes.specs.Scopes
 pub use Rattle.range_conflicts.specs.Conflicts

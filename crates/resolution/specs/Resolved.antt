@@ -6,13 +6,13 @@ use Rattle.classpaths.specs.declared.resolution.Note.{Note}
 use Rattle.classpaths.specs.declared.resolution.Note.TheVariants as notes
 use Rattle.classpaths.specs.declared.resolution.Resolution.{Resolution}
 use Rattle.classpaths.specs.declared.resolution.Resolved.{Resolved}
-use Rattle.mediation.specs.Faults.{Reason}
-use Rattle.mediation.specs.Libraries.{Libraries, gav_of, graph_of}
+use Rattle.library_lookup.specs.Faults.{Reason}
+use Rattle.library_lookup.specs.Libraries.{Libraries, gav_of, graph_of}
 use Rattle.mediation.specs.Rows.{IsWhole, first_reason, paths_of}
-use Rattle.mediation.specs.declared.fault.MediationFault.{MediationFault}
-use Rattle.mediation.specs.declared.fault.MediationFault.TheVariants.{Refused, Lookup, Memory}
-use Rattle.mediation.specs.declared.known.Known.{Known}
-use Rattle.mediation.specs.declared.known.Known.TheVariants as known
+use Rattle.library_lookup.specs.declared.fault.MediationFault.{MediationFault}
+use Rattle.library_lookup.specs.declared.fault.MediationFault.TheVariants.{Refused, Lookup, Memory}
+use Rattle.library_lookup.specs.declared.known.Known.{Known}
+use Rattle.library_lookup.specs.declared.known.Known.TheVariants as known
 use Rattle.mediation.specs.declared.winner.Winner.{Winner}
 use Rattle.model_types.specs.declared.dependency.Dependency.{Dependency}
 use Rattle.mvn_base.specs.Key.{key_text}

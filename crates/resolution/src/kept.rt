@@ -1,7 +1,7 @@
 // Rows that projects are built with, each held once.
 ghost use Rattle.std.specs.Prelude.{◌≡◌, true, IfOk, IfSome};
 ghost use Rattle.std.specs.HashMap.{IsEmpty};
-ghost use Rattle.mediation.specs.Libraries.{gav_of};
+ghost use Rattle.library_lookup.specs.Libraries.{gav_of};
 ghost use Rattle.resolution.specs.Resolved.{resolved};
 
 use crate::notes::{coordinate, is_there};

@@ -1,11 +1,12 @@
 ghost use Rattle.std.specs.Prelude.{◌≡◌, ◌++◌, flat_map, IfOk, OnOk};
 ghost use Rattle.std.specs.Option.{option_to_list};
 ghost use Rattle.std.specs.Prelude.{slice_get};
-ghost use Rattle.mediation.specs.Libraries.{gav_of};
+ghost use Rattle.library_lookup.specs.Libraries.{gav_of};
 ghost use Rattle.resolution.specs.Resolved.{is_there, note_of, notes_of};
 
 use classpaths::Note;
-use mediation::{Known, Winner, Winners};
+use library_lookup::Known;
+use mediation::{Winner, Winners};
 use mvn_base::Gav;
 use mvn_shared::{List, Mem};
 use std::alloc::Global;

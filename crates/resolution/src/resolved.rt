@@ -5,7 +5,8 @@ ghost use Rattle.resolution.specs.Resolved.{resolved, resolved_at};
 use crate::kept::{KeptRows, is_row, shared_row};
 use classpaths::Resolved;
 use collector::Scope;
-use mediation::{Known, Winner, Winners};
+use library_lookup::Known;
+use mediation::{Winner, Winners};
 use mvn_shared::{List, Mem, Shared};
 use std::alloc::Global;
 

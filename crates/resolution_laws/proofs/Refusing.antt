@@ -1,8 +1,8 @@
 -- The first refusal among winners is one, up to whatever length they are looked at.
 use Rattle.std.proofs.Common.{◌≡◌, ◌≤◌, ◌+◌, ℕ, zero, suc, List, [], ◌∷◌, ◌++◌, flat_map, length, Option, Some, None, unwrap_or, refl, sym, ap, ◌∙◌, arith, append-nil, append_assoc}
 use Rattle.std.specs.Option.{option_or}
-use Rattle.mediation.specs.Faults.{Reason}
-use Rattle.mediation.specs.Libraries.{Libraries}
+use Rattle.library_lookup.specs.Faults.{Reason}
+use Rattle.library_lookup.specs.Libraries.{Libraries}
 use Rattle.mediation.specs.Rows.{IsWhole, first_reason, paths_of}
 use Rattle.mediation.specs.declared.winner.Winner.{Winner}
 use Rattle.mediation.proofs.Growing.{reasons_behind}

@@ -7,8 +7,8 @@ use Rattle.mvn_base.specs.declared.key.Key.{Key}
 use Rattle.model_types.specs.declared.dependency.Dependency.{Dependency}
 use Rattle.collector.specs.declared.edge.Edge.{Edge}
 use Rattle.mediation.specs.Counting.{IsMediated}
-use Rattle.mediation.specs.Faults.{Reason}
-use Rattle.mediation.specs.Libraries.{Libraries, gav_of, graph_of, picked}
+use Rattle.library_lookup.specs.Faults.{Reason}
+use Rattle.library_lookup.specs.Libraries.{Libraries, gav_of, graph_of, picked}
 use Rattle.mediation.specs.Rows.{IsPicked, IsWhole, add_path, path_above, paths_of}
 use Rattle.mediation.specs.declared.winner.Winner.{Winner}
 use Rattle.mediation.proofs.Nearest.{won_mediated}

@@ -8,7 +8,7 @@ use Rattle.collector.specs.declared.edge.Edge.{Edge}
 use Rattle.collector.specs.declared.scope.Scope.{Scope}
 use Rattle.collector.specs.declared.scope.Scope.TheVariants.{Compile, Provided, Runtime, Test}
 use Rattle.dependency_scopes.specs.Walks.{rank}
-use Rattle.mediation.specs.Libraries.{Libraries, graph_of}
+use Rattle.library_lookup.specs.Libraries.{Libraries, graph_of}
 use Rattle.mediation.specs.Rows.{IsWhole, paths_of}
 use Rattle.mediation.specs.declared.winner.Winner.{Winner}
 use Rattle.mediation.proofs.Places.{path_at}

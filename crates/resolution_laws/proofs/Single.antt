@@ -4,9 +4,9 @@ use Rattle.mvn_base.specs.declared.key.Key.{Key}
 use Rattle.mvn_base.specs.declared.rule.Rule.{Rule}
 use Rattle.model_types.specs.declared.dependency.Dependency.{Dependency}
 use Rattle.classpaths.specs.declared.resolution.Resolution.{Resolution}
-use Rattle.mediation.specs.Faults.{Reason}
-use Rattle.mediation.specs.Libraries.{Libraries, graph_of}
-use Rattle.mediation.specs.declared.fault.MediationFault.TheVariants.{Refused}
+use Rattle.library_lookup.specs.Faults.{Reason}
+use Rattle.library_lookup.specs.Libraries.{Libraries, graph_of}
+use Rattle.library_lookup.specs.declared.fault.MediationFault.TheVariants.{Refused}
 use Rattle.range_conflicts.specs.Conflicts.{first_conflict}
 use Rattle.resolution.specs.Resolved.{Conflicts, IsMade, Mediates, Stands, reason_of}
 use Rattle.resolution_laws.proofs.Refusing.{no_reason, one_reason}

@@ -1,8 +1,8 @@
 ghost use Rattle.std.specs.Prelude.{◌≡◌, ℕ, List, Ok, Err};
 ghost use Rattle.classpaths.specs.declared.resolution.Resolution.{Resolution};
-ghost use Rattle.mediation.specs.Libraries.{Libraries, graph_of};
+ghost use Rattle.library_lookup.specs.Libraries.{Libraries, graph_of};
 ghost use Rattle.mediation.specs.Rows.{IsWhole};
-ghost use Rattle.mediation.specs.declared.fault.MediationFault.TheVariants.{Refused};
+ghost use Rattle.library_lookup.specs.declared.fault.MediationFault.TheVariants.{Refused};
 ghost use Rattle.mediation.specs.declared.winner.Winner.{Winner};
 ghost use Rattle.model_types.specs.declared.dependency.Dependency.{Dependency};
 ghost use Rattle.mvn_base.specs.declared.key.Key.{Key};

@@ -19,7 +19,8 @@ use model_resolver::{Failures, PomDevice};
 use mvn_base::{Phase, PomId, Rule};
 use mvn_outside::{DeviceFault, Shelf};
 use mvn_shared::{List, Text};
-use plan_numbers::{Numbered, Planned, SelectedModule, number_modules};
+use plan_files::{Planned, SelectedModule};
+use plan_numbers::{Numbered, number_modules};
 use pom_source::{BuildFault, text_refused};
 use std::alloc::Global;
 

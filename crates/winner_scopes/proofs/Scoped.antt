@@ -9,7 +9,7 @@ use Rattle.collector.specs.declared.scope.Scope.{Scope}
 use Rattle.collector.specs.declared.scope.Scope.TheVariants.{Test}
 use Rattle.dependency_scopes.specs.Walks as places
 use Rattle.dependency_scopes.specs.declared.link.Link.{Link}
-use Rattle.mediation.specs.Libraries.{Libraries, graph_of}
+use Rattle.library_lookup.specs.Libraries.{Libraries, graph_of}
 use Rattle.mediation.specs.Rows.{ArePlaced, IsWhole, edges_below, paths_of}
 use Rattle.mediation.specs.declared.winner.Winner.{Winner}
 use Rattle.mediation.proofs.Paths.{length_paths}

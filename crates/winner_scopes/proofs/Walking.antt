@@ -13,7 +13,7 @@ use Rattle.dependency_scopes.specs.declared.link.Link.{Link}
 use Rattle.dependency_scopes.specs.Walks as places
 use Rattle.dependency_scopes.proofs.Raising.{IsIn, in_from, in_to}
 use Rattle.mediation.specs.Counting.{Counts, IsMediated}
-use Rattle.mediation.specs.Libraries.{Libraries, declarations, gav_of, graph_of, leads_to, picked}
+use Rattle.library_lookup.specs.Libraries.{Libraries, declarations, gav_of, graph_of, leads_to, picked}
 use Rattle.mediation.specs.Rows.{IsPicked, IsWhole, edges_below, paths_of, place_of, row_of}
 use Rattle.mediation.specs.declared.winner.Winner.{Winner}
 use Rattle.mediation.proofs.Nearest.{won_mediated}

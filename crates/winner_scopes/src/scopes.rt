@@ -2,7 +2,7 @@ ghost use Rattle.std.specs.Prelude.{◌≡◌, ◌++◌, ℕ, Some, flat_map, ge
 ghost use Rattle.std.specs.Prelude as logic;
 ghost use Rattle.std.specs.Option.{option_to_list};
 ghost use Rattle.collector.specs.declared.scope.Scope.TheVariants as scope;
-ghost use Rattle.mediation.specs.Libraries.{Libraries, graph_of};
+ghost use Rattle.library_lookup.specs.Libraries.{Libraries, graph_of};
 ghost use Rattle.mediation.specs.Rows.{ArePlaced, IsWhole, paths_of};
 ghost use Rattle.winner_law.specs.Winners.{Path};
 ghost use Rattle.model_types.specs.declared.dependency.Dependency as dependencies;

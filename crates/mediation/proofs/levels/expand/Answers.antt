@@ -5,7 +5,7 @@ use Rattle.mediation.specs.Rows.{ArePlaced, edges_below, paths_of}
 use Rattle.winner_law.specs.Winners.{longer}
 use Rattle.mediation.proofs.Growing.{fault_stays}
 use Rattle.mediation.proofs.Prefixes.{none_some, same_winner}
-use Rattle.mediation.specs.Libraries.{graph_of}
+use Rattle.library_lookup.specs.Libraries.{graph_of}
 use Rattle.mediation.proofs.Places.{expanded, nothing_there}
 use Rattle.mediation.proofs.levels.expand.Goals as goal
 

@@ -1,9 +1,9 @@
 use Rattle.std.proofs.Common.{◌≡◌, ◌-◌, ◌++◌, flat_map, map, take}
 use Rattle.collector.specs.Edges.{direct_edges}
 use Rattle.mediation.specs.Rows.{ArePlaced, edges_below}
-use Rattle.mediation.specs.Libraries.{Libraries, graph_of}
+use Rattle.library_lookup.specs.Libraries.{Libraries, graph_of}
 use Rattle.mediation.proofs.Lengths.{IsUpTo}
-use Rattle.mediation.specs.Telling.{TellsOn}
+use Rattle.library_lookup.specs.Telling.{TellsOn}
 use Rattle.mediation.proofs.levels.find_winners.Given as goal
 
 -- the winners up to some length stand, and those from a place on are of that length

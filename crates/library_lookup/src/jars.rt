@@ -1,7 +1,7 @@
 // What the POMs of libraries come to as jars.
 ghost use Rattle.std.specs.Prelude.{◌≡◌, IfOk};
 ghost use Rattle.mvn_base.specs.declared.gav.Gav as gavs;
-ghost use Rattle.mediation.specs.Jars.{AreJars, jar_row};
+ghost use Rattle.library_lookup.specs.Jars.{AreJars, jar_row};
 
 use classpaths::Resolved;
 use collector::Scope;

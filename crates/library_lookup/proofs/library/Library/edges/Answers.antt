@@ -2,8 +2,8 @@ use Rattle.std.proofs.Common.{rules, ◌≡◌, [], is_some, IfOk, false, sym, a
 use Rattle.std.specs.List.{list_any}
 use Rattle.managed_deps.specs.Managed.{find_pair}
 use Rattle.collector.specs.Edges.{transitive_edges}
-use Rattle.mediation.proofs.Unmanaged.{all_plain}
-use Rattle.mediation.proofs.library.Library.edges.Goals as goal
+use Rattle.library_lookup.proofs.Unmanaged.{all_plain}
+use Rattle.library_lookup.proofs.library.Library.edges.Goals as goal
 
 pub returns : goal.returns
 returns c =

@@ -14,7 +14,7 @@ pub enum MediationFault {
 }
 
 impl From<OutOfMemory> for MediationFault {
-    ghost use Rattle.mediation.specs.declared.fault.MediationFault.TheVariants.{Memory};
+    ghost use Rattle.library_lookup.specs.declared.fault.MediationFault.TheVariants.{Memory};
 
     ghost from_gives = { λ _ e. e ≡ Memory };
 

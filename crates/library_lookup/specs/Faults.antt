@@ -1,10 +1,10 @@
 -- What the answers of look-ups and of mediation say of their causes. Own words.
 use Rattle.std.specs.Prelude.{◌≡◌, ℕ, Bool, true, false, List, Result, Ok, Err}
 use Rattle.mvn_base.specs.declared.rule.Rule.{Rule}
-use Rattle.mediation.specs.declared.fault.MediationFault.{MediationFault}
-use Rattle.mediation.specs.declared.fault.MediationFault.TheVariants as fault
-use Rattle.mediation.specs.declared.known.LookupFault.{LookupFault}
-use Rattle.mediation.specs.declared.known.LookupFault.TheVariants as lookup
+use Rattle.library_lookup.specs.declared.fault.MediationFault.{MediationFault}
+use Rattle.library_lookup.specs.declared.fault.MediationFault.TheVariants as fault
+use Rattle.library_lookup.specs.declared.known.LookupFault.{LookupFault}
+use Rattle.library_lookup.specs.declared.known.LookupFault.TheVariants as lookup
 
 -- the rule by which a project is refused, and the name that it is met at
 abbrev pub Reason : Type 0

@@ -9,7 +9,7 @@ use Rattle.version_order.specs.Laws.{version_cmp_total}
 use Rattle.version_order.specs.Highest.{IsHighest}
 use Rattle.version_order.specs.Requirements.{admits}
 use Rattle.version_order.specs.declared.requirement.Requirement.{Requirement}
-use Rattle.mediation.specs.Libraries.{highest, is_exceeded, is_greatest}
+use Rattle.library_lookup.specs.Libraries.{highest, is_exceeded, is_greatest}
 
 none_of : (t : List ℕ → Bool) (xs : List (List ℕ)) → ((i : ℕ) → i < length xs → t (get_or xs i []) ≡ false) → list_any t xs ≡ false
 none_of t [] all = refl

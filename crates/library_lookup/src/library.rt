@@ -2,7 +2,7 @@ ghost use Rattle.std.specs.Prelude.{◌≡◌, [], is_some, IfOk};
 ghost use Rattle.std.specs.List.{list_any};
 ghost use Rattle.managed_deps.specs.Managed.{find_pair};
 ghost use Rattle.collector.specs.Edges.{transitive_edges};
-ghost use Rattle.mediation.specs.Jars.{jar_row};
+ghost use Rattle.library_lookup.specs.Jars.{jar_row};
 
 use crate::jars::{Jars, jar_with, jars_of};
 use classpaths::Resolved;
@@ -27,7 +27,7 @@ impl Model for Library {
     ghost use Rattle.mvn_base.specs.contracts.setting.Setting as settings;
     ghost use Rattle.model_types.specs.declared.model.Model as models;
     ghost use Rattle.collector.specs.Edges.{transitive_edges};
-    ghost use Rattle.mediation.specs.Jars.{AreJars};
+    ghost use Rattle.library_lookup.specs.Jars.{AreJars};
 
     ghost Value = { models.Model };
 
@@ -103,7 +103,7 @@ impl Library {
     }
 
     // What its dependencies lead to below a project that manages some, and below what is left out.
-    pub(crate) fn edges(
+    pub fn edges(
         &self,
         alloc: Global,
         managed: &ManagedSet,

@@ -14,10 +14,10 @@ use Rattle.mvn_base.specs.declared.rule.Rule.TheVariants.{EmptyRange, GraphTooLa
 use Rattle.model_types.specs.declared.dependency.Dependency.{Dependency}
 use Rattle.collector.specs.Edges.{direct_edges, transitive_edges}
 use Rattle.collector.specs.declared.edge.Edge.{Edge}
-use Rattle.mediation.specs.Faults.{Reason}
+use Rattle.library_lookup.specs.Faults.{Reason}
 use Rattle.winner_law.specs.Winners.{Graph}
-use Rattle.mediation.specs.declared.known.Known.{Known}
-use Rattle.mediation.specs.declared.known.Known.TheVariants.{Model}
+use Rattle.library_lookup.specs.declared.known.Known.{Known}
+use Rattle.library_lookup.specs.declared.known.Known.TheVariants.{Model}
 
 -- what is known of each coordinate's POM, and each artifact's versions, unless there are too many
 pub record Libraries : Type 0 where

@@ -1,7 +1,7 @@
 -- What tells the same, call by call.
 use Rattle.std.proofs.Common.{◌≡◌, subst}
-use Rattle.mediation.specs.Telling.{TellsOn}
-use Rattle.mediation.specs.Telling.TellsOn.{here, onward}
+use Rattle.library_lookup.specs.Telling.{TellsOn}
+use Rattle.library_lookup.specs.Telling.TellsOn.{here, onward}
 
 module _ {L : Type 0} {same : L → L → Type 0} where
   -- no call

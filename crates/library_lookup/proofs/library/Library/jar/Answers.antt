@@ -1,6 +1,6 @@
 use Rattle.std.proofs.Common.{◌≡◌, subst, sym}
-use Rattle.mediation.specs.Jars.{AreJars, jar_row}
-use Rattle.mediation.proofs.library.Library.jar.Goals as goal
+use Rattle.library_lookup.specs.Jars.{AreJars, jar_row}
+use Rattle.library_lookup.proofs.library.Library.jar.Goals as goal
 
 pub returns : goal.returns
 returns c =

@@ -1,8 +1,8 @@
 ghost use Rattle.std.specs.Prelude.{◌≡◌, ◌≤◌, ℕ, Ok, length, IfOk, IfSome};
 ghost use Rattle.mvn_shared.specs.Cause.{HasCause};
-ghost use Rattle.mediation.specs.Faults.{Says, is_faulty, lookup_failed};
-ghost use Rattle.mediation.specs.Libraries.{Libraries};
-ghost use Rattle.mediation.specs.Telling.{TellsOn};
+ghost use Rattle.library_lookup.specs.Faults.{Says, is_faulty, lookup_failed};
+ghost use Rattle.library_lookup.specs.Libraries.{Libraries};
+ghost use Rattle.library_lookup.specs.Telling.{TellsOn};
 
 use crate::fault::MediationFault;
 use crate::library::Library;
@@ -25,7 +25,7 @@ pub enum LookupFault {
 }
 
 impl From<OutOfMemory> for LookupFault {
-    ghost use Rattle.mediation.specs.declared.known.LookupFault.TheVariants.{Memory};
+    ghost use Rattle.library_lookup.specs.declared.known.LookupFault.TheVariants.{Memory};
 
     ghost from_gives = { λ _ e. e ≡ Memory };
 

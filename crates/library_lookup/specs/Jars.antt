@@ -3,7 +3,7 @@ use Rattle.std.specs.Prelude.{◌≡◌, [], true, codes}
 use Rattle.classpaths.specs.declared.resolution.Resolved.{Resolved}
 use Rattle.collector.specs.declared.scope.Scope.{Scope}
 use Rattle.collector.specs.declared.scope.Scope.TheVariants.{Compile, Provided, Runtime, Test}
-use Rattle.mediation.specs.declared.jars.Jars.{Jars}
+use Rattle.library_lookup.specs.declared.jars.Jars.{Jars}
 use Rattle.mvn_base.specs.declared.gav.Gav.{Gav}
 
 -- the jar of coordinates that have a POM, with a scope

@@ -2,9 +2,9 @@ ghost use Rattle.std.specs.Prelude.{◌≡◌, ◌∷◌, ◌++◌, Ok, Err, cod
 ghost use Rattle.mvn_base.specs.Key.{key_text};
 ghost use Rattle.mvn_base.specs.declared.rule.Rule.TheVariants.{EmptyRange, GraphTooLarge};
 ghost use Rattle.mvn_shared.specs.Cause.{HasCause};
-ghost use Rattle.mediation.specs.Faults.{Says, is_faulty};
-ghost use Rattle.mediation.specs.Telling.{TellsOn};
-ghost use Rattle.mediation.specs.Libraries.{Libraries, among, chosen, found, highest, picked};
+ghost use Rattle.library_lookup.specs.Faults.{Says, is_faulty};
+ghost use Rattle.library_lookup.specs.Telling.{TellsOn};
+ghost use Rattle.library_lookup.specs.Libraries.{Libraries, among, chosen, found, highest, picked};
 
 use crate::fault::MediationFault;
 use crate::known::{Lookup, ask_versions};

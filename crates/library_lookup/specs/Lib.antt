@@ -1,0 +1,4 @@
+pub mod Faults
+pub mod Libraries
+pub mod Telling
+pub mod Jars

@@ -16,7 +16,7 @@ use crate::run_store::RunStore;
 use model_types::{Model, RawModel};
 use mvn_base::PomId;
 use mvn_shared::{List, Mem, Shared, Text};
-use pom_lineage::read_at;
+use parent_poms::read_at;
 use pom_source::{BuildFault, Given, PomSource};
 use std::alloc::Global;
 

@@ -6,7 +6,7 @@ ghost use Rattle.effective.specs.Serving.{serves};
 
 use mvn_base::PomId;
 use mvn_shared::{List, Mem};
-use pom_lineage::is_in;
+use pom_store::is_in;
 use std::alloc::Global;
 
 /// The POMs that are built for an import, and how many of them at once. Project rule.

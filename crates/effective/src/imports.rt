@@ -22,8 +22,8 @@ use model_types::{BuildBase, Dependency, Model, RawModel};
 use model_validation::checked;
 use mvn_base::{Gav, PomId, Rule};
 use mvn_shared::{List, Shared};
-use pom_lineage::{Joined, next_poms};
 use pom_source::{BuildFault, Given, PomSource, gav_refused};
+use pom_store::{Joined, next_poms};
 use std::alloc::Global;
 
 // A POM with all that it builds on, filled: what was joined for it.

@@ -11,8 +11,9 @@ use crate::run_store::RunStore;
 use model_types::RawModel;
 use mvn_base::PomId;
 use mvn_shared::{Shared, Text};
-use pom_lineage::{Joined, lineage, module_lineage};
+use pom_lineage::{lineage, module_lineage};
 use pom_source::{BuildFault, Given, PomSource};
+use pom_store::Joined;
 use std::alloc::Global;
 
 /// A POM over all that it builds on, with a store of what was read in the run. Costs what `lineage` costs.

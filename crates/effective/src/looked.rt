@@ -13,8 +13,9 @@ use crate::run_store::RunStore;
 use model_types::RawModel;
 use mvn_base::{Gav, PomId, Rule};
 use mvn_shared::{List, Shared};
-use pom_lineage::{Candidate, is_in, pom_at, pom_of, text_of};
+use parent_poms::{pom_at, pom_of, text_of};
 use pom_source::{BuildFault, PomSource, gav_refused};
+use pom_store::{Candidate, is_in};
 use std::alloc::Global;
 
 // The POM of coordinates, and what it says.

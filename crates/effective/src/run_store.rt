@@ -15,8 +15,8 @@ use model_steps::{Bound, built};
 use model_types::{BuildBase, RawModel};
 use mvn_base::{Gav, PomId};
 use mvn_shared::{List, Mem, Shared};
-use pom_lineage::{Store, meets};
 use pom_source::BuildFault;
+use pom_store::{Store, meets};
 use std::alloc::Global;
 use std::collections::HashMap;
 

@@ -6,8 +6,9 @@ use mvn_base::{Gav, PomId};
 use mvn_outside::{ReadFault, Tree};
 use mvn_shared::{Bytes, Mem, OutOfMemory, Text};
 use outside_mem::NoFailures;
-use pom_lineage::{raw_gav, read};
+use parent_poms::raw_gav;
 use pom_source::{BuildFault, Found, Given};
+use pom_store::read;
 use source_mem::MemPoms;
 use std::alloc::Global;
 

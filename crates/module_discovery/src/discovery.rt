@@ -15,8 +15,8 @@ use crate::pom::{Listed, ModulePom};
 use crate::progress::Progress;
 use crate::waiting::Waiting;
 use mvn_shared::{List, Mem};
-use pom_lineage::Store;
 use pom_source::{BuildFault, Given, PomSource};
+use pom_store::Store;
 use std::alloc::Global;
 
 /// The modules that may come besides the root. Project rule.

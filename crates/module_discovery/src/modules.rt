@@ -14,8 +14,9 @@ use crate::pom::{Listed, ModulePom};
 use model_types::{Profile, RawModel};
 use mvn_base::Rule;
 use mvn_shared::{List, Mem, Text};
-use pom_lineage::{Store, active_at};
+use parent_poms::active_at;
 use pom_source::{BuildFault, Given, PomSource};
+use pom_store::Store;
 use std::alloc::Global;
 
 // The modules of one POM or profile, behind others.

@@ -3,8 +3,4 @@
 
 mod stored;
 
-pub use parent_poms::{active_at, pom_at, pom_of, raw_gav, read_at, read_found, text_of};
-pub use pom_store::{
-    Candidate, Joined, Origin, Store, has_expression, is_in, meets, next_poms, read,
-};
 pub use stored::{lineage, module_lineage};

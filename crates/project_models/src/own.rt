@@ -10,7 +10,7 @@ ghost use Rattle.project_models.specs.Models.{project_poms};
 use effective::RunStore;
 use model_resolver::ProjectPom;
 use mvn_shared::{List, Mem};
-use pom_lineage::Store;
+use pom_store::Store;
 use std::alloc::Global;
 
 // Keeps each of the project's POMs that were read by path under its coordinates too; of several of the same coordinates the first.

@@ -10,8 +10,9 @@ ghost use Rattle.project_models.specs.Models.{project_poms, with_own_text};
 use model_resolver::ProjectPom;
 use module_discovery::{ModulePom, discover};
 use mvn_shared::{List, Mem};
-use pom_lineage::{Store, raw_gav};
+use parent_poms::raw_gav;
 use pom_source::{BuildFault, Given, PomSource};
+use pom_store::Store;
 use std::alloc::Global;
 
 // A POM that was discovered, with its coordinates as it says them and with its text. Neither its path nor its text is copied.

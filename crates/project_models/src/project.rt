@@ -22,8 +22,8 @@ use model_resolver::{Failures, ModelResolver, ProjectPom, ProjectPoms};
 use model_types::Model;
 use mvn_outside::{Remote, Shelf, Tree};
 use mvn_shared::{List, Shared};
-use pom_lineage::Store;
 use pom_source::{BuildFault, Given};
+use pom_store::Store;
 use std::alloc::Global;
 
 /// The modules of a project, in the order in which they are listed: their POMs, their effective models, and what was read and built for

@@ -5,10 +5,10 @@ use Rattle.pom_source.specs.Chains.{stop_fails}
 use Rattle.pom_source.specs.Worlds.{World}
 use Rattle.pom_source.specs.declared.fault.BuildFault.{BuildFault}
 use Rattle.pom_source.specs.declared.found.Given.{Given}
-use Rattle.module_discovery.specs.Discovery.{collected, with_module, with_none}
-use Rattle.module_discovery.specs.declared.pom.Listed.{Listed}
-use Rattle.module_discovery.specs.declared.pom.ModulePom.{ModulePom}
-use Rattle.module_discovery.specs.declared.progress.Progress.{Progress}
+use Rattle.module_poms.specs.Discovery.{collected, with_module, with_none}
+use Rattle.module_poms.specs.declared.pom.Listed.{Listed}
+use Rattle.module_poms.specs.declared.pom.ModulePom.{ModulePom}
+use Rattle.module_poms.specs.declared.progress.Progress.{Progress}
 
 module _ (world : World) (given : Given) where
   -- there is room, and no module waits

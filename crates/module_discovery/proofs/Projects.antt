@@ -10,14 +10,14 @@ use Rattle.pom_source.specs.Worlds.{World}
 use Rattle.pom_source.specs.declared.found.Given.{Given}
 use Rattle.pom_store.specs.Beside.{read_at}
 use Rattle.pom_store.specs.Reading.{read, read_file}
-use Rattle.module_discovery.specs.Discovery.{at_either, at_last, begun, collected, discovered, taken_up, listed_by, named, new_at, one_too_many, or_at, or_missing, path_of, pom_of, pom_xml, read_pom, refuse, root, with_module, with_none, with_pom}
+use Rattle.module_poms.specs.Discovery.{at_either, at_last, begun, collected, discovered, taken_up, listed_by, named, new_at, one_too_many, or_at, or_missing, path_of, pom_of, pom_xml, read_pom, refuse, root, with_module, with_none, with_pom}
 use Rattle.module_discovery.specs.Listing.{AreApart, AreListed, IsProject, IsRead, LeadsTo}
 use Rattle.module_discovery.specs.Listing.AreApart.{no_pom, one_more}
 use Rattle.module_discovery.specs.Listing.AreListed.{no_module, one_module}
-use Rattle.module_discovery.specs.Met.{is_met}
-use Rattle.module_discovery.specs.declared.pom.Listed.{Listed}
-use Rattle.module_discovery.specs.declared.pom.ModulePom.{ModulePom}
-use Rattle.module_discovery.specs.declared.progress.Progress.{Progress}
+use Rattle.module_poms.specs.Met.{is_met}
+use Rattle.module_poms.specs.declared.pom.Listed.{Listed}
+use Rattle.module_poms.specs.declared.pom.ModulePom.{ModulePom}
+use Rattle.module_poms.specs.declared.progress.Progress.{Progress}
 
 some_is : {A : Type 0} (x y : A) → ◌≡◌ {A = Option A} (Some x) (Some y) → x ≡ y
 some_is x y e = cc

@@ -5,10 +5,10 @@ use Rattle.pom_paths.specs.Paths.{joined}
 use Rattle.pom_source.specs.Worlds.{World}
 use Rattle.pom_source.specs.declared.found.Given.{Given}
 use Rattle.pom_store.specs.Reading.{read}
-use Rattle.module_discovery.specs.Discovery.{listed_by, path_of, pom_xml}
-use Rattle.module_discovery.specs.Met.{is_met}
-use Rattle.module_discovery.specs.declared.pom.Listed.{Listed}
-use Rattle.module_discovery.specs.declared.pom.ModulePom.{ModulePom}
+use Rattle.module_poms.specs.Discovery.{listed_by, path_of, pom_xml}
+use Rattle.module_poms.specs.Met.{is_met}
+use Rattle.module_poms.specs.declared.pom.Listed.{Listed}
+use Rattle.module_poms.specs.declared.pom.ModulePom.{ModulePom}
 
 -- POMs one behind another, each at a path that none before it has
 pub data AreApart : List ModulePom → Type 0 where

@@ -6,14 +6,9 @@ ghost use Rattle.pom_source.specs.Worlds.{World};
 ghost use Rattle.pom_source.specs.declared.found.Given as givens;
 ghost use Rattle.pom_store.specs.Beside.{read_at};
 ghost use Rattle.pom_store.specs.Stores.{Holds, KeepsLines, KeepsRead};
-ghost use Rattle.module_discovery.specs.Discovery.{begun, collected, discovered, with_module, with_none, with_pom};
+ghost use Rattle.module_poms.specs.Discovery.{begun, collected, discovered, with_module, with_none, with_pom};
 
-use crate::found::FoundPoms;
-use crate::modules::listed_by;
-use crate::naming::{named, root};
-use crate::pom::{Listed, ModulePom};
-use crate::progress::Progress;
-use crate::waiting::Waiting;
+use module_poms::{FoundPoms, Listed, ModulePom, Progress, Waiting, listed_by, named, root};
 use mvn_shared::{List, Mem};
 use pom_source::{BuildFault, Given, PomSource};
 use pom_store::Store;

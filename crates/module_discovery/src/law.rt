@@ -2,9 +2,9 @@ ghost use Rattle.std.specs.Prelude.{◌≡◌, Ok};
 ghost use Rattle.std.specs.Prelude.{List as Items};
 ghost use Rattle.pom_source.specs.Worlds.{World};
 ghost use Rattle.pom_source.specs.declared.found.Given as givens;
-ghost use Rattle.module_discovery.specs.Discovery.{discovered};
+ghost use Rattle.module_poms.specs.Discovery.{discovered};
 ghost use Rattle.module_discovery.specs.Listing.{IsProject};
-ghost use Rattle.module_discovery.specs.declared.pom.ModulePom as poms;
+ghost use Rattle.module_poms.specs.declared.pom.ModulePom as poms;
 
 /// A law of `discover`: what it gives is a project. It begins with `pom.xml`; behind each POM stand those of the modules that it lists, each
 /// with its own before the next; no POM stands there twice, and there are 1,024 at most. It does nothing when it runs. Guide to Working

@@ -7,7 +7,7 @@ use Rattle.pom_source.specs.Answers.{Built, ◌>>=◌}
 use Rattle.pom_source.specs.Chains.{bound, ok_is}
 use Rattle.pom_source.specs.Worlds.{World}
 use Rattle.pom_source.specs.declared.found.Given.{Given}
-use Rattle.module_discovery.specs.Discovery.{discovered}
+use Rattle.module_poms.specs.Discovery.{discovered}
 use Rattle.module_discovery.proofs.Projects.{is_project}
 use Rattle.effective.specs.Effective.{effective}
 use Rattle.model_resolver.specs.Finding.{world_of}

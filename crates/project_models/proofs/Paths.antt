@@ -11,10 +11,10 @@ use Rattle.pom_source.specs.Worlds.{World}
 use Rattle.pom_source.specs.declared.found.Given.{Given}
 use Rattle.pom_store.proofs.Holding.{same_path}
 use Rattle.pom_store.specs.Stores.{AgreesOnPaths}
-use Rattle.module_discovery.specs.Discovery.{discovered, path_of}
+use Rattle.module_poms.specs.Discovery.{discovered, path_of}
 use Rattle.module_discovery.specs.Listing.{AreListed, IsProject, IsRead}
 use Rattle.module_discovery.specs.Listing.AreListed.{no_module, one_module}
-use Rattle.module_discovery.specs.declared.pom.ModulePom.{ModulePom}
+use Rattle.module_poms.specs.declared.pom.ModulePom.{ModulePom}
 use Rattle.module_discovery.proofs.Projects.{is_project}
 use Rattle.model_resolver.specs.Finding.{project_at, world_of}
 use Rattle.model_resolver.specs.declared.resolver.ProjectPom.{ProjectPom}

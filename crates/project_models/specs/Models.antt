@@ -17,8 +17,8 @@ use Rattle.pom_source.specs.declared.fault.BuildFault.{BuildFault}
 use Rattle.pom_source.specs.declared.found.Given.{Given}
 use Rattle.mvn_base.specs.Gav.{gav_eq}
 use Rattle.pom_store.specs.Beside.{raw_gav}
-use Rattle.module_discovery.specs.Discovery.{discovered}
-use Rattle.module_discovery.specs.declared.pom.ModulePom.{ModulePom}
+use Rattle.module_poms.specs.Discovery.{discovered}
+use Rattle.module_poms.specs.declared.pom.ModulePom.{ModulePom}
 use Rattle.effective.specs.Effective.{effective}
 use Rattle.effective.specs.Lawful.{IsLawful}
 use Rattle.model_resolver.specs.Finding.{world_of}

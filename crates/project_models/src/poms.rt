@@ -8,7 +8,8 @@ ghost use Rattle.pom_store.specs.Stores.{Holds};
 ghost use Rattle.project_models.specs.Models.{project_poms, with_own_text};
 
 use model_resolver::ProjectPom;
-use module_discovery::{ModulePom, discover};
+use module_discovery::discover;
+use module_poms::ModulePom;
 use mvn_shared::{List, Mem};
 use parent_poms::raw_gav;
 use pom_source::{BuildFault, Given, PomSource};

@@ -5,8 +5,8 @@ use Rattle.pom_source.specs.Answers.{Built, ◌>>=◌}
 use Rattle.pom_source.specs.Worlds.{World}
 use Rattle.pom_source.specs.declared.found.Found.{Found}
 use Rattle.pom_source.specs.declared.found.Given.{Given}
-use Rattle.module_discovery.specs.Discovery.{at_either, begun, collected, discovered, named, new_at, one_too_many, or_at, path_of, pom_xml, read_pom, with_module, with_none, with_pom}
-use Rattle.module_discovery.specs.declared.pom.ModulePom.{ModulePom}
+use Rattle.module_poms.specs.Discovery.{at_either, begun, collected, discovered, named, new_at, one_too_many, or_at, path_of, pom_xml, read_pom, with_module, with_none, with_pom}
+use Rattle.module_poms.specs.declared.pom.ModulePom.{ModulePom}
 use Rattle.pom_paths.specs.Paths.{joined}
 use Rattle.project_models.specs.Models.{found_pom, project_poms}
 

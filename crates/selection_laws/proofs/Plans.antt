@@ -7,7 +7,7 @@ use Rattle.mvn_shared.specs.Files.{Files, file_at}
 use Rattle.build_core.specs.declared.plan.PlanModule.{PlanModule}
 use Rattle.cli_words.specs.declared.command_line.CommandLine.{CommandLine}
 use Rattle.pom_source.specs.declared.found.Given.{Given}
-use Rattle.module_discovery.specs.Discovery.{pom_xml}
+use Rattle.module_poms.specs.Discovery.{pom_xml}
 use Rattle.project_models.specs.Models.{project_models}
 use Rattle.plan_law.proofs.Whole.{is_numbered}
 use Rattle.plan_files.specs.Numbers.{plan_files, plan_names}

@@ -2,7 +2,7 @@ use Rattle.std.proofs.Common.{◌≡◌, ◌≤◌, ◌+◌, ◌-◌, length}
 use Rattle.profile_activation.specs.Judging.{TellsOn}
 use Rattle.pom_source.specs.Worlds.{World}
 use Rattle.pom_store.specs.Stores.{Holds, KeepsLines, KeepsRead}
-use Rattle.module_discovery.specs.Discovery.{collected}
+use Rattle.module_poms.specs.Discovery.{collected}
 use Rattle.module_discovery.proofs.discovery.collected.Given as goal
 
 -- what is still to come is what was to come, and each turn found one

@@ -2,7 +2,7 @@
 use Rattle.std.specs.Prelude.{ℕ, Bool, List}
 use Rattle.std.specs.List.{list_any}
 use Rattle.std.specs.Str.{bytes_eq}
-use Rattle.module_discovery.specs.declared.pom.ModulePom.{ModulePom}
+use Rattle.module_poms.specs.declared.pom.ModulePom.{ModulePom}
 
 -- the POM at a path is one of these
 abbrev pub is_met : List ModulePom → List ℕ → Bool

@@ -11,7 +11,7 @@ pub struct ModulePom {
 
 /// A module as a POM lists it: the path of that POM, and the text of `module`. POM Reference, "Aggregation".
 #[derive(Drop)]
-pub(crate) struct Listed {
-    pub(crate) by: Text,
-    pub(crate) text: Text,
+pub struct Listed {
+    pub by: Text,
+    pub text: Text,
 }

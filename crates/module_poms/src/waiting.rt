@@ -8,7 +8,7 @@ use std::marker::Model;
 
 /// The modules that wait for their turn, the next one last. Contracts see them with the next one first.
 #[derive(Drop)]
-pub(crate) struct Waiting {
+pub struct Waiting {
     stack: Vec<Listed>,
 }
 
@@ -16,7 +16,7 @@ impl Model for Waiting {
     ghost use Rattle.std.specs.Prelude as logic;
     ghost use Rattle.std.specs.Prelude.{reverse};
     ghost use Rattle.std.specs.Coded.{coded_list};
-    ghost use Rattle.module_discovery.specs.declared.pom.Listed as modules;
+    ghost use Rattle.module_poms.specs.declared.pom.Listed as modules;
 
     ghost Value = { logic.List modules.Listed };
 
@@ -25,7 +25,7 @@ impl Model for Waiting {
 
 impl Waiting {
     /// None. Takes no memory.
-    pub(crate) fn new(alloc: Global) -> Waiting
+    pub fn new(alloc: Global) -> Waiting
         ensures { result ≡ [] }
     {
         Waiting {
@@ -34,7 +34,7 @@ impl Waiting {
     }
 
     /// The next one, and the others. Constant time.
-    pub(crate) fn next(self) -> Option<(Listed, Waiting)>
+    pub fn next(self) -> Option<(Listed, Waiting)>
         ensures { MatchOption result (self ≡ []) (λ e. self ≡ e.0 ∷ e.1) }
     {
         let Waiting { mut stack } = self;
@@ -45,7 +45,7 @@ impl Waiting {
     }
 
     /// Some more, which come first. Costs their number.
-    pub(crate) fn after(self, modules: List<Listed>) -> Mem<Waiting>
+    pub fn after(self, modules: List<Listed>) -> Mem<Waiting>
         ensures { IfOk result (λ waiting. waiting ≡ modules ++ self) }
     {
         let Waiting { mut stack } = self;

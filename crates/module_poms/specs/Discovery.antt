@@ -14,10 +14,10 @@ use Rattle.pom_source.specs.Refusals.{text_refused}
 use Rattle.pom_source.specs.Worlds.{World}
 use Rattle.pom_source.specs.declared.found.Given.{Given}
 use Rattle.pom_store.specs.Reading.{read, with_profiles}
-use Rattle.module_discovery.specs.declared.pom.Listed.{Listed}
-use Rattle.module_discovery.specs.declared.pom.ModulePom.{ModulePom}
-use Rattle.module_discovery.specs.declared.progress.Progress.{Progress}
-use Rattle.module_discovery.specs.Met.{is_met}
+use Rattle.module_poms.specs.declared.pom.Listed.{Listed}
+use Rattle.module_poms.specs.declared.pom.ModulePom.{ModulePom}
+use Rattle.module_poms.specs.declared.progress.Progress.{Progress}
+use Rattle.module_poms.specs.Met.{is_met}
 
 -- the POM by which a project begins, and a folder's
 abbrev pub pom_xml : List ℕ

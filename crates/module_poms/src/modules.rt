@@ -6,8 +6,8 @@ ghost use Rattle.pom_source.specs.Worlds.{World};
 ghost use Rattle.profile_injection.specs.Injection.{inject};
 ghost use Rattle.pom_store.specs.Beside.{read_at};
 ghost use Rattle.pom_store.specs.Stores.{Holds, KeepsLines, KeepsRead};
-ghost use Rattle.module_discovery.specs.Discovery.{aggregated, listed, listed_by};
-ghost use Rattle.module_discovery.specs.Profiles.{modules_at, modules_in};
+ghost use Rattle.module_poms.specs.Discovery.{aggregated, listed, listed_by};
+ghost use Rattle.module_poms.specs.Profiles.{modules_at, modules_in};
 
 use crate::naming::refuse;
 use crate::pom::{Listed, ModulePom};
@@ -100,7 +100,7 @@ fn aggregated(pom: &ModulePom, list: List<Listed>) -> Result<List<Listed>, Build
 /// The modules that a POM lists, and those of its active profiles, or that its packaging isn't `pom`. Which profiles are active stays in
 /// the store. Costs the criteria of its profiles, and the modules. POM Reference, "Aggregation".
 #[tactic(auto, using(crate::proofs::Injected::lists, crate::proofs::Injected::lists_fails, pom_store::proofs::Judging::never_refused))]
-pub(crate) fn listed_by<P: PomSource>(
+pub fn listed_by<P: PomSource>(
     alloc: Global,
     store: &mut Store,
     source: &mut P,

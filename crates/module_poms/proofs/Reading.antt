@@ -7,8 +7,8 @@ use Rattle.pom_source.specs.Chains.{ok_is}
 use Rattle.pom_source.specs.declared.fault.BuildFault.{BuildFault}
 use Rattle.pom_source.specs.declared.fault.BuildFault.TheVariants.{Refused, Absent, Source, Memory}
 use Rattle.pom_store.specs.Reading.{read, read_file}
-use Rattle.module_discovery.specs.Discovery.{taken_up, pom_of, read_pom}
-use Rattle.module_discovery.specs.declared.pom.ModulePom.{ModulePom}
+use Rattle.module_poms.specs.Discovery.{taken_up, pom_of, read_pom}
+use Rattle.module_poms.specs.declared.pom.ModulePom.{ModulePom}
 
 some_is : {A : Type 0} (x y : A) → ◌≡◌ {A = Option A} (Some x) (Some y) → x ≡ y
 some_is x y e = cc

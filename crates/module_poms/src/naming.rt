@@ -5,9 +5,8 @@ ghost use Rattle.pom_source.specs.Answers.{Says, build_failed};
 ghost use Rattle.pom_source.specs.Worlds.{World};
 ghost use Rattle.pom_source.specs.declared.found.Given as givens;
 ghost use Rattle.pom_paths.specs.Paths.{joined};
-ghost use Rattle.profile_activation.specs.Activation.{folder_of};
 ghost use Rattle.pom_store.specs.Stores.{Holds, KeepsLines, KeepsRead};
-ghost use Rattle.module_discovery.specs.Discovery.{as_taken, at_either, at_last, taken_up, named, new_at, one_too_many, path_of, read_pom, refuse, root};
+ghost use Rattle.module_poms.specs.Discovery.{as_taken, at_either, at_last, taken_up, named, new_at, one_too_many, path_of, read_pom, refuse, root};
 
 use crate::found::FoundPoms;
 use crate::pom::{Listed, ModulePom};
@@ -20,7 +19,7 @@ use pom_store::{Store, has_expression};
 use std::alloc::Global;
 
 /// A refusal of the POM at a path, which names a text. Costs both.
-pub(crate) fn refuse<T>(path: &Text, rule: Rule, text: &Text) -> Result<T, BuildFault>
+pub fn refuse<T>(path: &Text, rule: Rule, text: &Text) -> Result<T, BuildFault>
     ensures says { Says (refuse path.now rule text.now) result }
     ensures cause { build_failed result ≡ false }
 {
@@ -239,7 +238,7 @@ fn at_either<P: PomSource>(
 /// The POM that a module leads to, or its refusal: an expression in its text, no POM, one that was met, or what the POM's text breaks. If
 /// `full`, none: a POM that is found is one too many. Costs the paths and the POM's bytes.
 #[tactic(auto, using(pom_store::proofs::Telling::untold))]
-pub(crate) fn named<P: PomSource>(
+pub fn named<P: PomSource>(
     alloc: Global,
     store: &mut Store,
     source: &mut P,
@@ -268,7 +267,7 @@ pub(crate) fn named<P: PomSource>(
 
 /// The POM by which the project begins. Costs its bytes.
 #[tactic(auto, using(pom_store::proofs::Telling::untold))]
-pub(crate) fn root<P: PomSource>(
+pub fn root<P: PomSource>(
     alloc: Global,
     store: &mut Store,
     source: &mut P,

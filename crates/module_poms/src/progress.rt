@@ -3,7 +3,7 @@ use crate::waiting::Waiting;
 
 /// How far discovery has come: the POMs that were found, and the modules that wait for their turn.
 #[derive(Drop)]
-pub(crate) struct Progress {
-    pub(crate) found: FoundPoms,
-    pub(crate) waiting: Waiting,
+pub struct Progress {
+    pub found: FoundPoms,
+    pub waiting: Waiting,
 }

@@ -1,7 +1,7 @@
 ghost use Rattle.std.specs.Prelude.{◌≡◌, ◌||◌, ◌∷◌, ◌++◌, [], ℕ, List as Items, IfOk, OnOk};
 ghost use Rattle.std.specs.HashSet.{contains};
 ghost use Rattle.std.specs.Str.{bytes_eq};
-ghost use Rattle.module_discovery.specs.Met.{is_met};
+ghost use Rattle.module_poms.specs.Met.{is_met};
 
 use crate::pom::ModulePom;
 use mvn_shared::{List, Mem, Text};
@@ -11,7 +11,7 @@ use std::marker::Model;
 
 /// The POMs that were found, in order, with their paths as a set. Contracts see it as the list.
 #[derive(Drop)]
-pub(crate) struct FoundPoms {
+pub struct FoundPoms {
     poms: Vec<ModulePom>,
     met: HashSet<Text>,
 }
@@ -23,8 +23,8 @@ impl Model for FoundPoms {
     ghost use Rattle.mvn_base.specs.contracts.setting.Setting as settings;
     ghost use Rattle.std.specs.HashSet.{contains};
     ghost use Rattle.std.specs.Str.{bytes_eq};
-    ghost use Rattle.module_discovery.specs.Met.{is_met};
-    ghost use Rattle.module_discovery.specs.declared.pom.ModulePom as entries;
+    ghost use Rattle.module_poms.specs.Met.{is_met};
+    ghost use Rattle.module_poms.specs.declared.pom.ModulePom as entries;
 
     ghost Value = { logic.List entries.ModulePom };
 
@@ -46,7 +46,7 @@ fn add_path(met: &mut HashSet<Text>, path: &Text) -> Mem<()>
 
 impl FoundPoms {
     /// None yet. Takes no memory.
-    pub(crate) fn new(alloc: Global) -> FoundPoms
+    pub fn new(alloc: Global) -> FoundPoms
         ensures { result ≡ [] }
     {
         FoundPoms {
@@ -56,14 +56,14 @@ impl FoundPoms {
     }
 
     /// Whether the POM at a path was found. Costs the path.
-    pub(crate) fn has(&self, path: &Text) -> bool
+    pub fn has(&self, path: &Text) -> bool
         ensures { result ≡ is_met self.now path.now }
     {
         self.met.contains(path)
     }
 
     /// One POM more. Costs its path.
-    pub(crate) fn with(self, pom: ModulePom) -> Mem<FoundPoms>
+    pub fn with(self, pom: ModulePom) -> Mem<FoundPoms>
         ensures { IfOk result (λ found. found ≡ self ++ pom ∷ []) }
     {
         let FoundPoms { mut poms, mut met } = self;
@@ -73,7 +73,7 @@ impl FoundPoms {
     }
 
     /// All of them. Takes no memory.
-    pub(crate) fn into_list(self) -> List<ModulePom>
+    pub fn into_list(self) -> List<ModulePom>
         ensures { result ≡ self }
     {
         List::of(self.poms)

@@ -10,10 +10,10 @@ use Rattle.pom_source.specs.Worlds.{World}
 use Rattle.pom_source.specs.declared.fault.BuildFault.{BuildFault}
 use Rattle.pom_source.specs.declared.found.Given.{Given}
 use Rattle.pom_store.specs.Reading.{active_places}
-use Rattle.module_discovery.specs.Discovery.{aggregated, listed, listed_by}
-use Rattle.module_discovery.specs.Profiles.{modules_at, modules_in}
-use Rattle.module_discovery.specs.declared.pom.Listed.{Listed}
-use Rattle.module_discovery.specs.declared.pom.ModulePom.{ModulePom}
+use Rattle.module_poms.specs.Discovery.{aggregated, listed, listed_by}
+use Rattle.module_poms.specs.Profiles.{modules_at, modules_in}
+use Rattle.module_poms.specs.declared.pom.Listed.{Listed}
+use Rattle.module_poms.specs.declared.pom.ModulePom.{ModulePom}
 
 -- those of the profiles at some places
 in_profiles : (profiles : List Profile) (places : List ℕ) → flat_map (λ place. modules_in (slice_get profiles place)) places ≡ flat_map (λ (p : Profile). p.base.modules) (profiles_at profiles places)

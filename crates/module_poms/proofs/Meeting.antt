@@ -1,8 +1,8 @@
 -- POMs that are met.
 use Rattle.std.proofs.Common.{◌≡◌, ℕ, Bool, true, false, ◌||◌, List, [], ◌∷◌, ◌++◌, refl, ap, ◌∙◌}
 use Rattle.std.specs.Str.{bytes_eq}
-use Rattle.module_discovery.specs.Met.{is_met}
-use Rattle.module_discovery.specs.declared.pom.ModulePom.{ModulePom}
+use Rattle.module_poms.specs.Met.{is_met}
+use Rattle.module_poms.specs.declared.pom.ModulePom.{ModulePom}
 
 turned : (a b c : Bool) → (a || (b || c)) ≡ (b || (a || c))
 turned true true c = refl

@@ -1,0 +1,3 @@
+pub mod Injected
+pub mod Meeting
+pub mod Reading

@@ -5,7 +5,7 @@ use Rattle.classpaths.specs.declared.resolution.Resolution.{Resolution}
 use Rattle.cli_words.specs.declared.command_line.CommandLine.{CommandLine}
 use Rattle.goal_types.specs.declared.goal.SourceFile.{SourceFile}
 use Rattle.model_types.specs.declared.model.Model.{Model}
-use Rattle.effective.specs.Lawful.{IsLawful}
+use Rattle.import_store.specs.Lawful.{IsLawful}
 use Rattle.model_resolver.specs.declared.resolver.ProjectPom.{ProjectPom}
 use Rattle.project_models.specs.Models as project
 use Rattle.reactor_modules.specs.Reactor.{AreBuilt, AreInOrder}

@@ -8,7 +8,7 @@ use Rattle.model_validation.specs.Valid.{is_valid, is_valid_gav}
 use Rattle.model_validation.specs.Validation.{is_named, is_soft}
 use Rattle.model_validation.specs.declared.kind.VersionKind.{VersionKind}
 use Rattle.model_validation.specs.declared.kind.VersionKind.TheVariants.{Missing, Soft, Range, Unreadable}
-use Rattle.effective.specs.Lawful.{IsLawful}
+use Rattle.import_store.specs.Lawful.{IsLawful}
 
 both : (a b : Bool) → (a && b) ≡ true → (a ≡ true) × (b ≡ true)
 both true true e = (refl, refl)

@@ -21,7 +21,7 @@ use Rattle.pom_source.specs.Answers.{Built, fault_failed}
 use Rattle.pom_source.specs.declared.fault.BuildFault.{BuildFault}
 use Rattle.pom_source.specs.declared.fault.BuildFault.TheVariants.{Refused, Absent, Source, Memory}
 use Rattle.pom_source.specs.declared.found.Given.{Given}
-use Rattle.effective.specs.Lawful.{IsLawful}
+use Rattle.import_store.specs.Lawful.{IsLawful}
 use Rattle.project_models.specs.Models.{Modules, project_models}
 use Rattle.project_libraries.specs.Known.{libraries_of}
 use Rattle.project_libraries.specs.Resolving.{Resolves}

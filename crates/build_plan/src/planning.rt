@@ -3,7 +3,7 @@ ghost use Rattle.std.specs.Prelude.{◌≡◌, ℕ, ◌≤◌, ◌<◌, false, N
 ghost use Rattle.mvn_shared.specs.Cause.{HasCause};
 ghost use Rattle.mvn_shared.specs.Files.{Files};
 ghost use Rattle.mvn_outside.specs.Shelf.{files_now};
-ghost use Rattle.effective.specs.Kept.{HoldsAll};
+ghost use Rattle.import_store.specs.Kept.{HoldsAll};
 ghost use Rattle.model_resolver.specs.Devices.{Counted, IsCounted};
 ghost use Rattle.model_resolver.specs.Finding.{world_of};
 ghost use Rattle.project_models.specs.Models.{AreModules};

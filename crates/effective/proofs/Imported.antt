@@ -22,7 +22,7 @@ use Rattle.model_steps.specs.Building.{built}
 use Rattle.model_steps.specs.Imports.{import_gav}
 use Rattle.model_validation.specs.Validation.{model_problem, unless}
 use Rattle.model_validation.specs.declared.problem.Problem.{Problem}
-use Rattle.effective.specs.Effective.{asked, effective, ended, entry, full, import_on, imported, imports_from, managed_of, met_import, read_found, wanted, whole}
+use Rattle.import_store.specs.Effective.{asked, effective, ended, entry, full, import_on, imported, imports_from, managed_of, met_import, read_found, wanted, whole}
 use Rattle.effective.specs.Imports.{AreAmong, AreImports, IsManagedAt, IsPutTogether, import_entry, no_more, own_entry}
 
 -- what gives entries under one gives the same under another

@@ -10,9 +10,9 @@ use Rattle.pom_source.specs.Worlds.{World}
 use Rattle.pom_source.specs.declared.fault.BuildFault.{BuildFault}
 use Rattle.pom_source.specs.declared.fault.BuildFault.TheVariants.{Refused, Absent, Source, Memory}
 use Rattle.pom_source.specs.declared.found.Given.{Given}
-use Rattle.effective.specs.Effective.{import_found, imported}
-use Rattle.effective.specs.Kept.{IsImport, OrFails}
-use Rattle.effective.specs.declared.kept.Import.{Import}
+use Rattle.import_store.specs.Effective.{import_found, imported}
+use Rattle.import_store.specs.Kept.{IsImport, OrFails}
+use Rattle.import_store.specs.declared.kept.Import.{Import}
 
 err_is : {A : Type 0} (x y : BuildFault) → ◌≡◌ {A = Built A} (Err x) (Err y) → x ≡ y
 err_is x y e = cc

@@ -46,7 +46,7 @@ use Rattle.model_validation.specs.declared.kind.VersionKind.{VersionKind}
 use Rattle.model_validation.specs.declared.kind.VersionKind.TheVariants.{Missing, Soft, Range, Unreadable}
 use Rattle.model_validation.specs.declared.problem.Problem.{Problem}
 use Rattle.effective.specs.Absence.{IsAbsentExactly, has_pom}
-use Rattle.effective.specs.Effective.{asked, effective, ended, entry, full, if_there, import_found, import_on, imported, imports_from, managed_of, met_import, read_found, wanted, whole}
+use Rattle.import_store.specs.Effective.{asked, effective, ended, entry, full, if_there, import_found, import_on, imported, imports_from, managed_of, met_import, read_found, wanted, whole}
 
 -- anything but that a POM is absent
 abbrev Present : {A : Type 0} → Built A → Type 0

@@ -21,15 +21,15 @@ use Rattle.pom_store.specs.Stores.{meets}
 use Rattle.pom_store.proofs.Keeping.{apart_both, apart_first, apart_last, or_left, or_right}
 use Rattle.model_steps.specs.Building.{built}
 use Rattle.model_steps.specs.Imports.{import_gav}
-use Rattle.effective.specs.Effective.{ended, entry, full, imported, imports_from, managed_of, whole}
-use Rattle.effective.specs.Kept.{AreKept, IsBuilt, IsEntry, IsFound, IsImport, IsRead}
-use Rattle.effective.specs.Knowing.{import_of, raw_of}
-use Rattle.effective.specs.Serving.{serves}
-use Rattle.effective.specs.declared.below.Below.{Below}
-use Rattle.effective.specs.declared.kept.BuiltModel.{BuiltModel}
-use Rattle.effective.specs.declared.kept.Import.{Import}
-use Rattle.effective.specs.declared.kept.ImportLists.{ImportLists}
-use Rattle.effective.proofs.Knowing.{import_known, raw_again}
+use Rattle.import_store.specs.Effective.{ended, entry, full, imported, imports_from, managed_of, whole}
+use Rattle.import_store.specs.Kept.{AreKept, IsBuilt, IsEntry, IsFound, IsImport, IsRead}
+use Rattle.import_store.specs.Knowing.{import_of, raw_of}
+use Rattle.import_store.specs.Serving.{serves}
+use Rattle.import_store.specs.declared.below.Below.{Below}
+use Rattle.import_store.specs.declared.kept.BuiltModel.{BuiltModel}
+use Rattle.import_store.specs.declared.kept.Import.{Import}
+use Rattle.import_store.specs.declared.kept.ImportLists.{ImportLists}
+use Rattle.import_store.proofs.Knowing.{import_known, raw_again}
 
 and_left : (a b : Bool) → (a && b) ≡ true → a ≡ true
 and_left true b e = refl

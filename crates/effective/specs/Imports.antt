@@ -15,7 +15,7 @@ use Rattle.pom_store.specs.Lineage.{is_in}
 use Rattle.model_steps.specs.Assembly.{model_of}
 use Rattle.model_steps.specs.Building.{built}
 use Rattle.model_steps.specs.Imports.{import_gav}
-use Rattle.effective.specs.Effective.{asked, effective, full}
+use Rattle.import_store.specs.Effective.{asked, effective, full}
 
 -- whoever is among the first is among the others
 abbrev pub AreAmong : (poms others : List PomId) → Type 0

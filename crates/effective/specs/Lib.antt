@@ -2,9 +2,4 @@ pub use Rattle.pom_source.specs.Answers
 pub use Rattle.pom_source.specs.Worlds
 pub use Rattle.pom_store.specs.Stores
 pub mod Absence
-pub mod Effective
 pub mod Imports
-pub mod Kept
-pub mod Knowing
-pub mod Lawful
-pub mod Serving

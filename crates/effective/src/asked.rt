@@ -4,15 +4,13 @@ ghost use Rattle.profile_activation.specs.Judging.{TellsOn};
 ghost use Rattle.pom_source.specs.Answers.{Says, build_failed};
 ghost use Rattle.pom_source.specs.Worlds.{World};
 ghost use Rattle.pom_source.specs.declared.found.Given as givens;
-ghost use Rattle.effective.specs.Kept.{HoldsAll};
-ghost use Rattle.effective.specs.Lawful.{IsLawful};
+ghost use Rattle.import_store.specs.Kept.{HoldsAll};
+ghost use Rattle.import_store.specs.Lawful.{IsLawful};
 ghost use Rattle.effective.specs.Absence.{IsAbsentExactly, has_pom};
-ghost use Rattle.effective.specs.Effective.{asked, asked_path, effective};
+ghost use Rattle.import_store.specs.Effective.{asked, asked_path, effective};
 
 use crate::imports::whole;
-use crate::lineages::lineage_of;
-use crate::looked::asked_gav;
-use crate::run_store::RunStore;
+use import_store::{RunStore, asked_gav, lineage_of};
 use model_types::{Model, RawModel};
 use mvn_base::PomId;
 use mvn_shared::{List, Mem, Shared, Text};
@@ -78,7 +76,7 @@ fn asked<P: PomSource>(
 }
 
 // The POM that is asked for, in all steps.
-#[tactic(auto, using(pom_store::proofs::Telling::told_both, crate::proofs::Standing::built_gives, crate::proofs::Asking::whole_stops))]
+#[tactic(auto, using(pom_store::proofs::Telling::told_both, crate::proofs::Standing::built_gives, import_store::proofs::Asking::whole_stops))]
 fn modelled<P: PomSource>(
     alloc: Global,
     store: &mut RunStore,

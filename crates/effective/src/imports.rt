@@ -8,15 +8,12 @@ ghost use Rattle.pom_source.specs.Worlds.{World};
 ghost use Rattle.model_types.specs.declared.model.RawModel as models;
 ghost use Rattle.pom_store.specs.Lineage.{is_in, lineage, next_poms};
 ghost use Rattle.model_validation.specs.Valid.{has_no_import};
-ghost use Rattle.effective.specs.Lawful.{IsLawful};
-ghost use Rattle.effective.specs.Effective.{ended, entry, full, import_found, imported, imports_from, managed_of, whole};
-ghost use Rattle.effective.specs.Kept.{AreKept, HoldsAll, IsBuilt, IsEntry, IsFound, IsImport, IsRead, OrFails};
-ghost use Rattle.effective.specs.Serving.{serves};
+ghost use Rattle.import_store.specs.Lawful.{IsLawful};
+ghost use Rattle.import_store.specs.Effective.{ended, entry, full, import_found, imported, imports_from, managed_of, whole};
+ghost use Rattle.import_store.specs.Kept.{AreKept, HoldsAll, IsBuilt, IsEntry, IsFound, IsImport, IsRead, OrFails};
+ghost use Rattle.import_store.specs.Serving.{serves};
 
-use crate::kept::{BuiltModel, Entries, Import, ImportLists};
-use crate::lineages::lineage_with;
-use crate::looked::wanted;
-use crate::run_store::RunStore;
+use import_store::{BuiltModel, Entries, Import, ImportLists, RunStore, lineage_with, wanted};
 use model_steps::{filled, import_gav, is_import, model_of};
 use model_types::{BuildBase, Dependency, Model, RawModel};
 use model_validation::checked;
@@ -27,7 +24,7 @@ use pom_store::{Joined, next_poms};
 use std::alloc::Global;
 
 // A POM with all that it builds on, filled: what was joined for it.
-#[tactic(auto, using(crate::proofs::Asking::full_says))]
+#[tactic(auto, using(import_store::proofs::Asking::full_says))]
 fn full(alloc: Global, given: &Given, joined: &Joined) -> Result<RawModel, BuildFault>
     ensures says { (world : World) (raw : models.RawModel)
         → lineage world given.now raw ≡ Ok joined.now → Says (full world given.now raw) result }
@@ -40,7 +37,7 @@ fn full(alloc: Global, given: &Given, joined: &Joined) -> Result<RawModel, Build
 }
 
 // A full model with its plugins and the entries of its imports, completed and checked.
-#[tactic(auto, using(crate::proofs::Replacing::lawful))]
+#[tactic(auto, using(import_store::proofs::Replacing::lawful))]
 fn ended(
     alloc: Global,
     full: &RawModel,
@@ -129,7 +126,7 @@ fn fresh<P: PomSource>(
 
 // The same of an import's POM, if further POMs may be built.
 #[cycle(built)]
-#[tactic(auto, using(pom_store::proofs::Telling::told_both, crate::proofs::Standing::is_found, crate::proofs::Knowing::found_stops, crate::proofs::Knowing::found_fails))]
+#[tactic(auto, using(pom_store::proofs::Telling::told_both, crate::proofs::Standing::is_found, import_store::proofs::Knowing::found_stops, import_store::proofs::Knowing::found_fails))]
 fn import_found<P: PomSource>(
     alloc: Global,
     store: &mut RunStore,
@@ -164,7 +161,7 @@ fn import_found<P: PomSource>(
 
 // The same of an imported POM that was read.
 #[cycle(built)]
-#[tactic(auto, using(pom_store::proofs::Telling::untold, pom_store::proofs::Telling::told_both, crate::proofs::Standing::is_read, crate::proofs::Standing::read_serves, crate::proofs::Asking::managed_stops))]
+#[tactic(auto, using(pom_store::proofs::Telling::untold, pom_store::proofs::Telling::told_both, crate::proofs::Standing::is_read, crate::proofs::Standing::read_serves, import_store::proofs::Asking::managed_stops))]
 fn import_read<P: PomSource>(
     alloc: Global,
     store: &mut RunStore,

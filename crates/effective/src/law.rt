@@ -5,7 +5,7 @@ ghost use Rattle.model_types.specs.declared.dependency.Dependency as entries;
 ghost use Rattle.model_types.specs.declared.model.Model as models;
 ghost use Rattle.pom_source.specs.Worlds.{World};
 ghost use Rattle.pom_source.specs.declared.found.Given as givens;
-ghost use Rattle.effective.specs.Effective.{effective, imported};
+ghost use Rattle.import_store.specs.Effective.{effective, imported};
 ghost use Rattle.effective.specs.Imports.{AreAmong, IsPutTogether};
 
 /// A law of effective models: an import stands for what the effective model of its coordinates manages, whoever imports it. So the

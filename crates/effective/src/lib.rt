@@ -3,16 +3,8 @@
 #![tactic(auto)]
 
 mod asked;
-mod below;
 mod imports;
-mod kept;
 pub mod law;
-mod lineages;
-mod looked;
-mod run_store;
 
 pub use asked::{effective, effective_with};
-pub use below::Below;
-pub use kept::{BuiltModel, Import, ImportLists};
 pub use law::{import_stays, imports_are_models};
-pub use run_store::RunStore;

@@ -1,7 +1,8 @@
 // The POMs of a project on a disk, and their effective models.
 use crate::answer::{Counts, answer_text};
 use crate::reading::{all_files, pom_bytes};
-use effective::{RunStore, effective_with};
+use effective::effective_with;
+use import_store::RunStore;
 use mvn_base::{Gav, PomId};
 use mvn_outside::{ReadFault, Tree};
 use mvn_shared::{Bytes, Mem, OutOfMemory, Text};

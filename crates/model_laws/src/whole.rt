@@ -8,7 +8,7 @@ ghost use Rattle.pom_source.specs.Worlds.{World};
 ghost use Rattle.pom_source.specs.declared.found.Given as givens;
 ghost use Rattle.model_steps.specs.Assembly.{model_of};
 ghost use Rattle.model_steps.specs.Building.{built};
-ghost use Rattle.effective.specs.Effective.{effective};
+ghost use Rattle.import_store.specs.Effective.{effective};
 ghost use Rattle.model_laws.specs.Once.{HasKeysOnce};
 
 /// A law of models that are put together from a filled POM, its plugins and what its imports manage: of dependencies, of managed

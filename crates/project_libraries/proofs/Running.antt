@@ -7,7 +7,7 @@ use Rattle.mvn_outside.specs.Shelf.{files_now}
 use Rattle.mvn_outside.specs.declared.shelf.ShelfTold.{ShelfTold}
 use Rattle.pom_source.specs.Worlds.{World}
 use Rattle.mvn_base.specs.Gav.{gav_eq}
-use Rattle.effective.specs.Kept.{HoldsAll}
+use Rattle.import_store.specs.Kept.{HoldsAll}
 use Rattle.model_resolver.specs.Devices.{FitsTold, Told}
 use Rattle.model_resolver.specs.Finding.{world_of}
 use Rattle.library_lookup.specs.Libraries.{Libraries}

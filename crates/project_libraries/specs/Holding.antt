@@ -9,7 +9,7 @@ use Rattle.model_types.specs.declared.model.Model.{Model}
 use Rattle.pom_source.specs.Worlds.{World}
 use Rattle.pom_source.specs.declared.found.Given.{Given}
 use Rattle.mvn_base.specs.Gav.{gav_eq}
-use Rattle.effective.specs.Kept.{HoldsAll}
+use Rattle.import_store.specs.Kept.{HoldsAll}
 use Rattle.model_resolver.specs.Devices.{Told}
 use Rattle.model_resolver.specs.Finding.{world_of}
 use Rattle.model_resolver.specs.Resolving.{TellsSame, standing}

@@ -1,6 +1,6 @@
 pub use Rattle.pom_source.specs.Answers
 pub use Rattle.pom_source.specs.Worlds
-pub use Rattle.effective.specs.Kept
+pub use Rattle.import_store.specs.Kept
 pub use Rattle.model_resolver.specs.Devices
 pub use Rattle.model_resolver.specs.Finding
 pub use Rattle.library_lookup.specs.Libraries

@@ -8,14 +8,15 @@ ghost use Rattle.profile_activation.specs.Judging.{TellsOn};
 ghost use Rattle.pom_source.specs.Answers.{Built, Says, build_failed};
 ghost use Rattle.pom_source.specs.Worlds.{World};
 ghost use Rattle.mvn_base.specs.Gav.{gav_eq};
-ghost use Rattle.effective.specs.Effective.{effective};
-ghost use Rattle.effective.specs.Kept.{HoldsAll};
+ghost use Rattle.import_store.specs.Effective.{effective};
+ghost use Rattle.import_store.specs.Kept.{HoldsAll};
 ghost use Rattle.library_lookup.specs.Faults.{lookup_failed};
 ghost use Rattle.project_libraries.specs.Holding.{HoldsKnown};
 ghost use Rattle.project_libraries.specs.Known.{known_at, known_of};
 
 use crate::memo::{find_known, keep_known};
-use effective::{RunStore, effective_with};
+use effective::effective_with;
+use import_store::RunStore;
 use library_lookup::{Known, Library, LookupFault};
 use model_types::Model;
 use mvn_base::{Gav, PomId};

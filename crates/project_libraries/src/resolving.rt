@@ -4,7 +4,7 @@ ghost use Rattle.mvn_shared.specs.Cause.{HasCause};
 ghost use Rattle.mvn_outside.specs.Shelf.{files_now};
 ghost use Rattle.pom_source.specs.Answers.{Says, build_failed};
 ghost use Rattle.pom_source.specs.declared.fault.BuildFault.TheVariants as fault;
-ghost use Rattle.effective.specs.Kept.{HoldsAll};
+ghost use Rattle.import_store.specs.Kept.{HoldsAll};
 ghost use Rattle.model_resolver.specs.Devices.{Counted, IsCounted};
 ghost use Rattle.model_resolver.specs.Finding.{world_of};
 ghost use Rattle.library_lookup.specs.Libraries.{Libraries};
@@ -15,7 +15,7 @@ ghost use Rattle.project_libraries.specs.Resolving.{Resolves, ResolvesModule, ma
 use crate::memo::known_modules;
 use crate::run_lookup::{RunLookup, Whole};
 use classpaths::Resolution;
-use effective::RunStore;
+use import_store::RunStore;
 use library_lookup::{Lookup, MediationFault};
 use managed_deps::{ManagedSet, managed};
 use model_resolver::{Failures, ModelResolver, ProjectPom, ProjectPoms};

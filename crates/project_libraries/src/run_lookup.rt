@@ -9,7 +9,7 @@ ghost use Rattle.project_libraries.specs.Available.{available};
 
 use crate::known::known_at;
 use crate::versions::{Versions, available};
-use effective::RunStore;
+use import_store::RunStore;
 use library_lookup::{Known, Lookup, LookupFault};
 use model_resolver::ModelResolver;
 use model_types::Model;

@@ -9,7 +9,7 @@ use Rattle.pom_source.specs.Worlds.{World}
 use Rattle.pom_source.specs.declared.found.Given.{Given}
 use Rattle.module_poms.specs.Discovery.{discovered}
 use Rattle.module_discovery.proofs.Projects.{is_project}
-use Rattle.effective.specs.Effective.{effective}
+use Rattle.import_store.specs.Effective.{effective}
 use Rattle.model_resolver.specs.Finding.{world_of}
 use Rattle.model_resolver.specs.declared.resolver.ProjectPom.{ProjectPom}
 use Rattle.project_models.specs.Models.{Modules, each, first_double, found_pom, models_of, modules_of, project_models, project_poms, single, unless_double}

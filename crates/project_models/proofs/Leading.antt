@@ -21,8 +21,8 @@ use Rattle.pom_store.specs.declared.origin.Candidate.TheVariants as candidates
 use Rattle.pom_store.specs.declared.store.Store.{Store}
 use Rattle.pom_store.proofs.Holding.{same_gav}
 use Rattle.pom_store.proofs.Kept.{gav_itself}
-use Rattle.effective.specs.Kept.{HoldsAll}
-use Rattle.effective.specs.declared.run_store.RunStore.{RunStore}
+use Rattle.import_store.specs.Kept.{HoldsAll}
+use Rattle.import_store.specs.declared.run_store.RunStore.{RunStore}
 use Rattle.model_resolver.specs.Finding.{found_in_project, repository_of, world_of}
 use Rattle.model_resolver.specs.declared.resolver.ProjectPom.{ProjectPom}
 use Rattle.project_models.specs.Models.{project_poms}

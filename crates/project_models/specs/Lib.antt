@@ -4,8 +4,8 @@ pub use Rattle.mvn_outside.specs.Shelf
 pub use Rattle.pom_source.specs.Answers
 pub use Rattle.pom_source.specs.Worlds
 pub use Rattle.profile_activation.specs.Judging
-pub use Rattle.effective.specs.Kept
-pub use Rattle.effective.specs.Lawful
+pub use Rattle.import_store.specs.Kept
+pub use Rattle.import_store.specs.Lawful
 pub use Rattle.model_resolver.specs.Devices
 pub use Rattle.model_resolver.specs.Finding
 pub mod Models

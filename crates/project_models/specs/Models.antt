@@ -19,8 +19,8 @@ use Rattle.mvn_base.specs.Gav.{gav_eq}
 use Rattle.pom_store.specs.Beside.{raw_gav}
 use Rattle.module_poms.specs.Discovery.{discovered}
 use Rattle.module_poms.specs.declared.pom.ModulePom.{ModulePom}
-use Rattle.effective.specs.Effective.{effective}
-use Rattle.effective.specs.Lawful.{IsLawful}
+use Rattle.import_store.specs.Effective.{effective}
+use Rattle.import_store.specs.Lawful.{IsLawful}
 use Rattle.model_resolver.specs.Finding.{world_of}
 use Rattle.model_resolver.specs.declared.resolver.ProjectPom.{ProjectPom}
 use Rattle.project_models.specs.declared.doubles.Double.{Double}

@@ -9,7 +9,7 @@ use Rattle.pom_source.specs.declared.found.Given.{Given}
 use Rattle.mvn_base.specs.Gav.{gav_eq}
 use Rattle.module_discovery.specs.Listing.{IsProject}
 use Rattle.module_poms.specs.declared.pom.ModulePom.{ModulePom}
-use Rattle.effective.specs.Effective.{effective}
+use Rattle.import_store.specs.Effective.{effective}
 use Rattle.model_resolver.specs.Finding.{world_of}
 use Rattle.model_resolver.specs.declared.resolver.ProjectPom.{ProjectPom}
 use Rattle.project_models.specs.Models.{Modules, found_pom}

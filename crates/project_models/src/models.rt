@@ -6,12 +6,13 @@ ghost use Rattle.mvn_shared.specs.Cause.{HasCause};
 ghost use Rattle.profile_activation.specs.Judging.{TellsOn};
 ghost use Rattle.pom_source.specs.Answers.{Says, build_failed};
 ghost use Rattle.pom_source.specs.Worlds.{World};
-ghost use Rattle.effective.specs.Effective.{effective};
-ghost use Rattle.effective.specs.Kept.{HoldsAll};
-ghost use Rattle.effective.specs.Lawful.{IsLawful};
+ghost use Rattle.import_store.specs.Effective.{effective};
+ghost use Rattle.import_store.specs.Kept.{HoldsAll};
+ghost use Rattle.import_store.specs.Lawful.{IsLawful};
 ghost use Rattle.project_models.specs.Models.{models_of};
 
-use effective::{RunStore, effective_with};
+use effective::effective_with;
+use import_store::RunStore;
 use model_resolver::ProjectPom;
 use model_types::Model;
 use mvn_base::PomId;

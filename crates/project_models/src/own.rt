@@ -1,13 +1,13 @@
 // What is kept of a project's POMs before their effective models are built.
 ghost use Rattle.std.specs.Prelude.{◌≡◌, [], Ok, IfOk};
 ghost use Rattle.mvn_shared.specs.Files.{Files};
-ghost use Rattle.effective.specs.Kept.{HoldsAll};
+ghost use Rattle.import_store.specs.Kept.{HoldsAll};
 ghost use Rattle.model_resolver.specs.Finding.{world_of};
 ghost use Rattle.pom_store.specs.Stores.{Holds};
 ghost use Rattle.pom_source.specs.declared.found.Given as givens;
 ghost use Rattle.project_models.specs.Models.{project_poms};
 
-use effective::RunStore;
+use import_store::RunStore;
 use model_resolver::ProjectPom;
 use mvn_shared::{List, Mem};
 use pom_store::Store;

@@ -22,7 +22,7 @@ use Rattle.model_validation.specs.Kinds.{kind_of}
 use Rattle.model_validation.specs.Validation.{checked, gav_problem, is_named, is_soft, model_problem, problem, unless}
 use Rattle.model_validation.specs.declared.kind.VersionKind.{VersionKind}
 use Rattle.model_validation.specs.declared.kind.VersionKind.TheVariants.{Missing, Soft, Range, Unreadable}
-use Rattle.effective.specs.Effective.{asked, effective, ended, full, imported, imports_from, whole}
+use Rattle.import_store.specs.Effective.{asked, effective, ended, full, imported, imports_from, whole}
 use Rattle.project_models.specs.Projects.{AreEffective}
 use Rattle.project_models.specs.Projects.AreEffective.{no_pom, one_more}
 

@@ -1,8 +1,8 @@
 use Rattle.std.proofs.Common.{◌≡◌, ◌+◌, ◌*◌, true, drop}
 use Rattle.profile_activation.specs.Judging.{TellsOn}
 use Rattle.pom_source.specs.Worlds.{World}
-use Rattle.effective.specs.Kept.{HoldsAll}
-use Rattle.effective.specs.Serving.{serves}
+use Rattle.import_store.specs.Kept.{HoldsAll}
+use Rattle.import_store.specs.Serving.{serves}
 use Rattle.effective.proofs.Standing.{OnTheWay}
 use Rattle.effective.proofs.imports.+built.Given as goal
 

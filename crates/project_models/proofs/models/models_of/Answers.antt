@@ -5,8 +5,8 @@ use Rattle.model_types.specs.declared.model.Model.{Model}
 use Rattle.profile_activation.specs.Judging.TellsOn.{here}
 use Rattle.pom_source.specs.Answers.{Built}
 use Rattle.pom_store.proofs.Telling.{told_both}
-use Rattle.effective.specs.Effective.{effective}
-use Rattle.effective.specs.Lawful.{IsLawful}
+use Rattle.import_store.specs.Effective.{effective}
+use Rattle.import_store.specs.Lawful.{IsLawful}
 use Rattle.model_resolver.specs.declared.resolver.ProjectPom.{ProjectPom}
 use Rattle.project_models.proofs.Each.{all_done, all_more, count_more, none_left, none_yet, one_more, with_rest}
 use Rattle.project_models.proofs.models.models_of.Goals as goal

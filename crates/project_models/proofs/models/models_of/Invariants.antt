@@ -3,9 +3,9 @@ use Rattle.std.specs.List.{AllByRecursion}
 use Rattle.mvn_base.specs.declared.refusal.PomId.TheVariants as ids
 use Rattle.profile_activation.specs.Judging.{TellsOn}
 use Rattle.pom_source.specs.Worlds.{World}
-use Rattle.effective.specs.Effective.{effective}
-use Rattle.effective.specs.Kept.{HoldsAll}
-use Rattle.effective.specs.Lawful.{IsLawful}
+use Rattle.import_store.specs.Effective.{effective}
+use Rattle.import_store.specs.Kept.{HoldsAll}
+use Rattle.import_store.specs.Lawful.{IsLawful}
 use Rattle.model_resolver.specs.declared.resolver.ProjectPom.{ProjectPom}
 use Rattle.project_models.specs.Models.{models_of}
 use Rattle.project_models.proofs.Each.{with_rest}

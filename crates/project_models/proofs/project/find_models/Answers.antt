@@ -2,7 +2,7 @@ use Rattle.std.proofs.Common.{◌≡◌, Err, List, sym, subst, ◌∙◌}
 use Rattle.pom_source.specs.Answers.{Says}
 use Rattle.pom_source.specs.Worlds.{World}
 use Rattle.pom_source.specs.declared.fault.BuildFault.TheVariants.{Memory}
-use Rattle.effective.specs.Kept.{HoldsAll}
+use Rattle.import_store.specs.Kept.{HoldsAll}
 use Rattle.model_resolver.specs.Devices.{Counts, FitsTold, Told}
 use Rattle.model_resolver.specs.Finding.{world_of}
 use Rattle.model_resolver.specs.declared.resolver.ProjectPom.{ProjectPom}

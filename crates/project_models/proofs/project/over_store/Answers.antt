@@ -1,7 +1,7 @@
 use Rattle.std.proofs.Common.{Ok, Err, IfOk}
 use Rattle.pom_source.specs.Answers.{Says}
 use Rattle.pom_source.specs.Chains.{stop_fails}
-use Rattle.effective.specs.Kept.{HoldsAll}
+use Rattle.import_store.specs.Kept.{HoldsAll}
 use Rattle.model_resolver.specs.Finding.{world_of}
 use Rattle.project_models.specs.Models.{Gives, models_of, modules_of, single}
 use Rattle.project_models.specs.declared.project.ProjectModels.{ProjectModels}

@@ -1,7 +1,7 @@
 use Rattle.std.proofs.Common.{◌≡◌, [], Ok, Err, IfOk}
 use Rattle.pom_source.specs.declared.fault.BuildFault.TheVariants.{Memory}
 use Rattle.pom_store.specs.Stores.{Holds}
-use Rattle.effective.specs.Kept.{HoldsAll}
+use Rattle.import_store.specs.Kept.{HoldsAll}
 use Rattle.model_resolver.specs.Devices.{Counts}
 use Rattle.model_resolver.specs.Finding.{world_of}
 use Rattle.model_resolver.proofs.Counting.{counted_none}

@@ -1,0 +1,5 @@
+pub mod Asking
+pub mod Knowing
+pub mod Meeting
+pub mod Replacing
+pub mod Storing

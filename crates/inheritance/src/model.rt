@@ -1,6 +1,6 @@
 ghost use Rattle.std.specs.Prelude.{◌≡◌, IfOk};
-ghost use Rattle.model_merge.specs.Keyed.{with_others};
-ghost use Rattle.model_merge.specs.Merging.{key_of_pair};
+ghost use Rattle.keyed_lists.specs.Keyed.{with_others};
+ghost use Rattle.keyed_lists.specs.Keys.{key_of_pair};
 ghost use Rattle.inheritance.specs.Inherit.{inherit, inherit_base, inherit_build, inherit_build_base, inherit_coordinates, inherit_outputs, inherit_sources};
 
 use crate::placing::inherited_plugins;

@@ -4,8 +4,9 @@ ghost use Rattle.std.specs.List.{list_all, list_any};
 ghost use Rattle.mvn_base.specs.declared.key.Key as names;
 ghost use Rattle.model_types.specs.declared.plugin.Plugin as plugins;
 ghost use Rattle.model_types.specs.declared.plugin.Execution as executions;
-ghost use Rattle.model_merge.specs.Keyed.{overlaid, same_key, settled};
-ghost use Rattle.model_merge.specs.Merging.{key_of_plugin, merged_plugin, settled_plugins};
+ghost use Rattle.keyed_lists.specs.Keyed.{overlaid, same_key, settled};
+ghost use Rattle.keyed_lists.specs.Keys.{key_of_plugin};
+ghost use Rattle.model_merge.specs.Merging.{merged_plugin, settled_plugins};
 ghost use Rattle.inheritance.specs.Placing.{handed_on, inheritable, inherited_plugins, is_shared, leading, placed};
 ghost use Rattle.inheritance.specs.Others.{Stands, HasKeys, listed};
 

@@ -1,8 +1,9 @@
 ghost use Rattle.std.specs.Prelude.{◌≡◌, [], ◌∷◌, map, filter, option_map, IfOk};
 ghost use Rattle.std.specs.Str.{bytes_eq};
-ghost use Rattle.model_merge.specs.Keyed as keyed;
-ghost use Rattle.model_merge.specs.Keyed.{others, overlaid, underlaid};
-ghost use Rattle.model_merge.specs.Merging.{key_of_plugin, merged_plugin, settled_plugins};
+ghost use Rattle.keyed_lists.specs.Keyed as keyed;
+ghost use Rattle.keyed_lists.specs.Keyed.{others, overlaid, underlaid};
+ghost use Rattle.keyed_lists.specs.Keys.{key_of_plugin};
+ghost use Rattle.model_merge.specs.Merging.{merged_plugin, settled_plugins};
 ghost use Rattle.lifecycle.specs.Bindings.{bindings, bound_execution, bound_id, bound_plugin, bound_plugins, bound_to, row_view};
 
 use crate::table::{Row, rows_of};

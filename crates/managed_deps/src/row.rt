@@ -67,7 +67,7 @@ impl Eq for Row {
 impl Hash for Row {
     ghost use Rattle.std.proofs.Common.{ap};
     ghost use Rattle.managed_deps.specs.Managed.{key_of};
-    ghost use Rattle.model_merge.proofs.UnderKeys.{same_key_is};
+    ghost use Rattle.keyed_lists.proofs.UnderKeys.{same_key_is};
 
     ghost hash_input = { λ d. ⟦<Key as Hash>⟧.hash_input (key_of d) };
 
@@ -86,7 +86,7 @@ impl Equivalent<Row> for &Key {
     ghost use Rattle.std.proofs.Common.{ap};
     ghost use Rattle.managed_deps.specs.Keys.{same_key_equiv};
     ghost use Rattle.managed_deps.specs.Managed.{key_of, same_key};
-    ghost use Rattle.model_merge.proofs.UnderKeys.{same_key_is};
+    ghost use Rattle.keyed_lists.proofs.UnderKeys.{same_key_is};
 
     ghost equivalent = { λ key d. same_key key.now (key_of d) };
 

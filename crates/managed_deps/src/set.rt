@@ -1,6 +1,6 @@
 ghost use Rattle.std.specs.Prelude.{◌≡◌, [], map, find, fold, IfOk, OnOk};
 ghost use Rattle.std.specs.Option.{option_copied};
-ghost use Rattle.model_merge.specs.Keyed.{keyed};
+ghost use Rattle.keyed_lists.specs.Keyed.{keyed};
 ghost use Rattle.mvn_base.specs.declared.key.Key as keys;
 ghost use Rattle.managed_deps.specs.Managed.{add, all_entries, find_entry, find_pair, first_of_each, is_import, key_of, own_entries, same_key};
 
@@ -21,7 +21,7 @@ pub struct ManagedSet {
 impl Model for ManagedSet {
     ghost use Rattle.std.specs.Prelude as logic;
     ghost use Rattle.std.specs.Coded.{coded_list};
-    ghost use Rattle.model_merge.specs.Keyed.{keyed};
+    ghost use Rattle.keyed_lists.specs.Keyed.{keyed};
     ghost use Rattle.mvn_base.specs.declared.key.Key as keys;
     ghost use Rattle.managed_deps.specs.Managed.{key_of};
     ghost use Rattle.model_types.specs.declared.dependency.Dependency as dependencies;

@@ -6,7 +6,7 @@ use Rattle.collector.specs.Edges.{direct_edges}
 use Rattle.collector.specs.declared.edge.Edge.{Edge}
 use Rattle.model_types.specs.declared.dependency.Dependency.{Dependency}
 use Rattle.mvn_base.specs.declared.key.Key.{Key}
-use Rattle.model_merge.specs.Keyed.{same_key}
+use Rattle.keyed_lists.specs.Keyed.{same_key}
 use Rattle.mediation.specs.declared.winner.Winner.{Winner}
 use Rattle.mediation.specs.Counting.{Counts, IsMediated, Wins}
 use Rattle.library_lookup.specs.Faults.{Reason}

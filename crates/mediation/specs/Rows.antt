@@ -1,7 +1,7 @@
 -- Winners as they are kept: each with its edge, its version and the place of the winner that it stands below.
 use Rattle.std.specs.Prelude.{◌≡◌, ◌≤◌, ℕ, suc, List, [], ◌∷◌, ◌++◌, fold, find, length, map, position, slice_get, unwrap_or, Option, Some, None, Result, Ok, Err, All}
 use Rattle.std.specs.Option.{option_or}
-use Rattle.model_merge.specs.Keyed.{same_key}
+use Rattle.keyed_lists.specs.Keyed.{same_key}
 use Rattle.mvn_base.specs.declared.key.Key.{Key}
 use Rattle.model_types.specs.declared.dependency.Dependency.{Dependency}
 use Rattle.collector.specs.Edges.{transitive_edges}

@@ -4,7 +4,7 @@ ghost use Rattle.collector.specs.Edges.{direct_edges};
 ghost use Rattle.collector.specs.declared.edge.Edge.{Edge};
 ghost use Rattle.model_types.specs.declared.dependency.Dependency.{Dependency};
 ghost use Rattle.mvn_base.specs.declared.key.Key.{Key};
-ghost use Rattle.model_merge.specs.Keyed.{same_key};
+ghost use Rattle.keyed_lists.specs.Keyed.{same_key};
 ghost use Rattle.winner_law.specs.Winners.{winner_of};
 ghost use Rattle.mediation.specs.declared.winner.Winner.{Winner};
 ghost use Rattle.mediation.specs.Counting.{IsMediated};

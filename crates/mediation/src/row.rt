@@ -47,7 +47,7 @@ impl Model for Row {
 impl PartialEq for Row {
     ghost use Rattle.std.specs.Cmp.{on_equiv, partial_equiv_from_equiv};
     ghost use Rattle.mediation.specs.Keys.{same_key_equiv};
-    ghost use Rattle.model_merge.specs.Keyed.{same_key};
+    ghost use Rattle.keyed_lists.specs.Keyed.{same_key};
 
     ghost eq = { λ a b. same_key a.edge.key b.edge.key };
 
@@ -68,7 +68,7 @@ impl Eq for Row {
 impl Hash for Row {
     ghost use Rattle.std.proofs.Common.{ap};
     ghost use Rattle.mediation.specs.Keys.{key_input};
-    ghost use Rattle.model_merge.proofs.UnderKeys.{same_key_is};
+    ghost use Rattle.keyed_lists.proofs.UnderKeys.{same_key_is};
 
     ghost hash_input = { λ w. key_input w.edge.key };
 
@@ -88,7 +88,7 @@ pub struct Sought<'a> {
 impl<'a> PartialEq for Sought<'a> {
     ghost use Rattle.std.specs.Cmp.{on_equiv, partial_equiv_from_equiv};
     ghost use Rattle.mediation.specs.Keys.{same_key_equiv};
-    ghost use Rattle.model_merge.specs.Keyed.{same_key};
+    ghost use Rattle.keyed_lists.specs.Keyed.{same_key};
 
     ghost eq = { λ a b. same_key a.key.now b.key.now };
 
@@ -109,7 +109,7 @@ impl<'a> Eq for Sought<'a> {
 impl<'a> Hash for Sought<'a> {
     ghost use Rattle.std.proofs.Common.{ap};
     ghost use Rattle.mediation.specs.Keys.{key_input};
-    ghost use Rattle.model_merge.proofs.UnderKeys.{same_key_is};
+    ghost use Rattle.keyed_lists.proofs.UnderKeys.{same_key_is};
 
     ghost hash_input = { λ s. key_input s.key.now };
 
@@ -123,8 +123,8 @@ impl<'a> Hash for Sought<'a> {
 impl<'a> Equivalent<Row> for Sought<'a> {
     ghost use Rattle.std.proofs.Common.{ap};
     ghost use Rattle.mediation.specs.Keys.{key_input, same_key_equiv};
-    ghost use Rattle.model_merge.proofs.UnderKeys.{same_key_is};
-    ghost use Rattle.model_merge.specs.Keyed.{same_key};
+    ghost use Rattle.keyed_lists.proofs.UnderKeys.{same_key_is};
+    ghost use Rattle.keyed_lists.specs.Keyed.{same_key};
 
     ghost equivalent = { λ s w. same_key s.key.now w.edge.key };
 

@@ -10,9 +10,10 @@ use Rattle.model_types.specs.declared.dependency.Dependency.{Dependency}
 use Rattle.model_types.specs.declared.model.Model.{Model}
 use Rattle.model_types.specs.declared.model.RawModel.{RawModel}
 use Rattle.model_types.specs.declared.plugin.Plugin.{Plugin}
-use Rattle.model_merge.specs.Keyed.{item_of, overlaid, same_key, settled, underlaid}
-use Rattle.model_merge.specs.Merging.{key_of_dependency, key_of_execution, key_of_extension, key_of_plugin, merged_plugin, settled_plugin, settled_plugins}
-use Rattle.model_merge.proofs.UnderKeys.{and_left, and_right}
+use Rattle.keyed_lists.specs.Keyed.{item_of, overlaid, same_key, settled, underlaid}
+use Rattle.keyed_lists.specs.Keys.{key_of_dependency, key_of_execution, key_of_extension, key_of_plugin}
+use Rattle.model_merge.specs.Merging.{merged_plugin, settled_plugin, settled_plugins}
+use Rattle.keyed_lists.proofs.UnderKeys.{and_left, and_right}
 use Rattle.managed_deps.specs.Managed.{all_entries, apply_one, apply_plugins}
 use Rattle.lifecycle.specs.Bindings.{bindings, bound_to, undeclared}
 use Rattle.profile_activation.specs.Activation.{is_of_project}

@@ -2,8 +2,9 @@ ghost use Rattle.std.specs.Prelude.{◌≡◌, ℕ, true, List, [], ◌++◌, So
 ghost use Rattle.model_types.specs.declared.dependency.Dependency as dependencies;
 ghost use Rattle.model_types.specs.declared.model.RawModel as models;
 ghost use Rattle.model_types.specs.declared.plugin.Plugin as plugins;
-ghost use Rattle.model_merge.specs.Keyed.{item_of};
-ghost use Rattle.model_merge.specs.Merging.{key_of_dependency, key_of_plugin, merged_plugin, settled_plugins};
+ghost use Rattle.keyed_lists.specs.Keyed.{item_of};
+ghost use Rattle.keyed_lists.specs.Keys.{key_of_dependency, key_of_plugin};
+ghost use Rattle.model_merge.specs.Merging.{merged_plugin, settled_plugins};
 ghost use Rattle.inheritance.specs.Inherit.{inherit};
 ghost use Rattle.inheritance.specs.Placing.{inheritable, inherited_plugins};
 ghost use Rattle.managed_deps.specs.Managed.{apply_one, apply_plugins, first_of_each};

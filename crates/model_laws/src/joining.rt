@@ -1,10 +1,10 @@
 ghost use Rattle.std.specs.Prelude.{◌≡◌, List};
 ghost use Rattle.model_types.specs.declared.plugin.Execution as executions;
 ghost use Rattle.model_types.specs.declared.plugin.Plugin as plugins;
-ghost use Rattle.model_merge.specs.Keyed.{with_others};
+ghost use Rattle.keyed_lists.specs.Keyed.{with_others};
 ghost use Rattle.model_merge.specs.Merging.{merged_plugin, settled_plugin};
 ghost use Rattle.model_laws.specs.Keys.{HasFirst, HasMerged, IsJoin, IsSettled, merged_executions};
-ghost use Rattle.model_merge.specs.Merging.{key_of_execution};
+ghost use Rattle.keyed_lists.specs.Keys.{key_of_execution};
 
 use model_merge::Keyed;
 

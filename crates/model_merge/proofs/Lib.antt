@@ -1,3 +1,1 @@
-pub mod UnderKeys
-mod Pairing
 mod Singles

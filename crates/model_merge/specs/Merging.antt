@@ -1,37 +1,12 @@
--- What tells items of a POM's lists apart, and how executions and plugins are merged. POM Reference, "Plugins" and "Inheritance";
+-- How executions and plugins are merged. POM Reference, "Plugins" and "Inheritance";
 -- the order of merged lists is an own rule.
-use Rattle.std.specs.Prelude.{ℕ, ◌&&◌, List, [], map}
+use Rattle.std.specs.Prelude.{◌&&◌, List, map}
 use Rattle.std.specs.Option.{option_or}
-use Rattle.mvn_base.specs.declared.gav.Gav.{Gav}
-use Rattle.mvn_base.specs.declared.key.Key.{Key}
-use Rattle.mvn_base.specs.declared.machine.Pair.{Pair}
-use Rattle.model_types.specs.declared.dependency.Dependency.{Dependency}
 use Rattle.model_types.specs.declared.plugin.Execution.{Execution}
 use Rattle.model_types.specs.declared.plugin.Plugin.{Plugin}
-use Rattle.model_merge.specs.Configuration.{merged_configuration}
-use Rattle.model_merge.specs.Keyed.{merged_lists, settled, with_others}
-
--- a key of one part, and of two
-abbrev pub key_of_name : List ℕ → Key
-key_of_name name = record { group = name; artifact = []; kind = []; classifier = [] }
-
-abbrev pub key_of_two : List ℕ → List ℕ → Key
-key_of_two group artifact = record { group = group; artifact = artifact; kind = []; classifier = [] }
-
-abbrev pub key_of_pair : Pair → Key
-key_of_pair p = key_of_name p.name
-
-abbrev pub key_of_dependency : Dependency → Key
-key_of_dependency d = record { group = d.group; artifact = d.artifact; kind = d.kind; classifier = d.classifier }
-
-abbrev pub key_of_extension : Gav → Key
-key_of_extension e = key_of_two e.group e.artifact
-
-abbrev pub key_of_execution : Execution → Key
-key_of_execution e = key_of_name e.id
-
-abbrev pub key_of_plugin : Plugin → Key
-key_of_plugin p = key_of_two p.group p.artifact
+use Rattle.settings_merge.specs.Configuration.{merged_configuration}
+use Rattle.keyed_lists.specs.Keys.{key_of_dependency, key_of_execution, key_of_name, key_of_plugin}
+use Rattle.keyed_lists.specs.Keyed.{merged_lists, settled, with_others}
 
 -- an execution that names each of its goals once
 unfoldable pub settled_execution : Execution → Execution

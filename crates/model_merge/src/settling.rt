@@ -1,31 +1,54 @@
 ghost use Rattle.std.specs.Prelude.{◌≡◌, map, IfOk};
 ghost use Rattle.std.specs.List.{list_all};
-ghost use Rattle.model_merge.specs.Keyed.{settled};
-ghost use Rattle.model_merge.specs.Merging.{key_of_execution, settled_execution, settled_plugin, settled_plugins};
+ghost use Rattle.keyed_lists.specs.Keyed.{settled};
+ghost use Rattle.keyed_lists.specs.Keys.{key_of_dependency, key_of_execution, key_of_name};
+ghost use Rattle.model_merge.specs.Merging.{settled_execution, settled_plugin, settled_plugins};
 ghost use Rattle.model_merge.specs.Singles.{has_single_goal, is_single};
 
-use crate::joined::settled;
-use crate::keyed::Mergeable;
+use crate::mergeable::Mergeable;
+use crate::parts::{
+    ExecutionLists, ExecutionName, PluginLists, PluginName, execution_of, plugin_of,
+};
+use keyed_lists::settled;
 use model_types::{Execution, Plugin};
 use mvn_shared::{List, Mem, Shared};
 use std::alloc::Global;
+
+// An execution's id and phase.
+fn execution_name(execution: &Execution) -> Mem<ExecutionName>
+    ensures { IfOk result (λ name. name ≡ (record {
+      id = execution.now.id;
+      phase = execution.now.phase;
+    })) }
+{
+    let id = execution.id.clone()?;
+    let phase = execution.phase.clone()?;
+    Ok(ExecutionName { id, phase })
+}
+
+// An execution's lists, with each goal once.
+fn goals_once(alloc: Global, execution: &Execution) -> Mem<ExecutionLists>
+    ensures { IfOk result (λ lists. lists ≡ (record {
+      goals = settled key_of_name execution.now.goals;
+      configuration = execution.now.configuration;
+    })) }
+{
+    let configuration = execution.configuration.share()?;
+    let goals = settled(alloc, execution.goals.as_slice())?;
+    Ok(ExecutionLists {
+        goals,
+        configuration,
+    })
+}
 
 // An execution of several goals that names each once.
 #[tactic(auto, unfolding(crate::specs::Merging::settled_execution))]
 fn with_goals_once(alloc: Global, execution: &Execution) -> Mem<Execution>
     ensures { IfOk result (λ settled. settled ≡ settled_execution execution.now) }
 {
-    let id = execution.id.clone()?;
-    let phase = execution.phase.clone()?;
-    let goals = settled(alloc, execution.goals.as_slice())?;
-    let configuration = execution.configuration.share()?;
-    Ok(Execution {
-        id,
-        phase,
-        goals,
-        inherited: execution.inherited,
-        configuration,
-    })
+    let name = execution_name(execution)?;
+    let lists = goals_once(alloc, execution)?;
+    Ok(execution_of(name, execution.inherited, lists))
 }
 
 /// An execution that names each of its goals once: of equal ones the last, at the place of the first. Costs its goals, on the average;
@@ -65,26 +88,50 @@ fn settled_executions(
     settled(alloc, each_settled(alloc, executions)?.as_slice())
 }
 
+// A plugin's name and version.
+fn plugin_name(plugin: &Plugin) -> Mem<PluginName>
+    ensures { IfOk result (λ name. name ≡ (record {
+      group = plugin.now.group;
+      artifact = plugin.now.artifact;
+      version = plugin.now.version;
+    })) }
+{
+    let group = plugin.group.clone()?;
+    let artifact = plugin.artifact.clone()?;
+    let version = plugin.version.clone()?;
+    Ok(PluginName {
+        group,
+        artifact,
+        version,
+    })
+}
+
+// A plugin's lists, with one dependency of each key and one execution of each id.
+fn settled_lists(alloc: Global, plugin: &Plugin) -> Mem<PluginLists>
+    ensures { IfOk result (λ lists. lists ≡ (record {
+      dependencies = settled key_of_dependency plugin.now.dependencies;
+      executions = settled key_of_execution (map settled_execution plugin.now.executions);
+      configuration = plugin.now.configuration;
+    })) }
+{
+    let configuration = plugin.configuration.share()?;
+    let dependencies = settled(alloc, plugin.dependencies.as_slice())?;
+    let executions = settled_executions(alloc, plugin.executions.as_slice())?;
+    Ok(PluginLists {
+        dependencies,
+        executions,
+        configuration,
+    })
+}
+
 // A plugin with one dependency of each key and one execution of each id.
 #[tactic(auto, unfolding(crate::specs::Merging::settled_plugin))]
 fn with_parts_once(alloc: Global, plugin: &Plugin) -> Mem<Plugin>
     ensures { IfOk result (λ settled. settled ≡ settled_plugin plugin.now) }
 {
-    let group = plugin.group.clone()?;
-    let artifact = plugin.artifact.clone()?;
-    let version = plugin.version.clone()?;
-    let dependencies = settled(alloc, plugin.dependencies.as_slice())?;
-    let executions = settled_executions(alloc, plugin.executions.as_slice())?;
-    let configuration = plugin.configuration.share()?;
-    Ok(Plugin {
-        group,
-        artifact,
-        version,
-        inherited: plugin.inherited,
-        dependencies,
-        executions,
-        configuration,
-    })
+    let name = plugin_name(plugin)?;
+    let lists = settled_lists(alloc, plugin)?;
+    Ok(plugin_of(name, plugin.inherited, lists))
 }
 
 // Whether each of some executions has at most one goal.

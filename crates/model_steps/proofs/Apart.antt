@@ -6,7 +6,7 @@ use Rattle.std.proofs.Math.Seq.{drop-cons}
 use Rattle.std.proofs.lemmas.Bool.{false≢true}
 use Rattle.std.proofs.lemmas.Slice.Eq.{bytes_eq-Decides}
 use Rattle.mvn_base.specs.declared.key.Key.{Key}
-use Rattle.model_merge.specs.Keyed.{put, same_key, settled}
+use Rattle.keyed_lists.specs.Keyed.{put, same_key, settled}
 use Rattle.model_steps.specs.Once.{are_new}
 
 text_self : (t : List ℕ) → bytes_eq t t ≡ true

@@ -1,7 +1,7 @@
 ghost use Rattle.std.specs.Prelude.{◌≡◌, ◌||◌, List as Items, ℕ, false, not, IfOk, OnOk};
 ghost use Rattle.std.specs.HashSet.{contains};
 ghost use Rattle.std.specs.Str.{bytes_eq};
-ghost use Rattle.model_merge.specs.Keyed.{settled};
+ghost use Rattle.keyed_lists.specs.Keyed.{settled};
 ghost use Rattle.model_merge.specs.Merging.{settled_plugins};
 ghost use Rattle.model_steps.specs.Once.{are_new};
 

@@ -3,8 +3,9 @@ use Rattle.std.specs.Prelude.{List, [], ◌++◌, flat_map, map, Option, Some, N
 use Rattle.model_types.specs.declared.build.BuildBase.{BuildBase}
 use Rattle.model_types.specs.declared.model.ModelBase.{ModelBase}
 use Rattle.model_types.specs.declared.profile.Profile.{Profile}
-use Rattle.model_merge.specs.Keyed.{absorbed, settled}
-use Rattle.model_merge.specs.Merging.{key_of_dependency, key_of_pair, key_of_plugin, merged_plugin, settled_plugin}
+use Rattle.keyed_lists.specs.Keyed.{absorbed, settled}
+use Rattle.keyed_lists.specs.Keys.{key_of_dependency, key_of_pair, key_of_plugin}
+use Rattle.model_merge.specs.Merging.{merged_plugin, settled_plugin}
 use Rattle.profile_injection.specs.Injection.{plugins_in}
 
 -- what a profile has, behind what others have

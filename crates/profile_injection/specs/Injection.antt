@@ -8,8 +8,9 @@ use Rattle.model_types.specs.declared.model.ModelBase.{ModelBase}
 use Rattle.model_types.specs.declared.model.RawModel.{RawModel}
 use Rattle.model_types.specs.declared.plugin.Plugin.{Plugin}
 use Rattle.model_types.specs.declared.profile.Profile.{Profile}
-use Rattle.model_merge.specs.Keyed.{absorb, settled}
-use Rattle.model_merge.specs.Merging.{key_of_dependency, key_of_pair, key_of_plugin, merged_plugin, settled_plugins}
+use Rattle.keyed_lists.specs.Keyed.{absorb, settled}
+use Rattle.keyed_lists.specs.Keys.{key_of_dependency, key_of_pair, key_of_plugin}
+use Rattle.model_merge.specs.Merging.{merged_plugin, settled_plugins}
 
 -- the profiles at some places
 abbrev pub profiles_at : List Profile → List ℕ → List Profile

@@ -1,6 +1,7 @@
 ghost use Rattle.std.specs.Prelude.{◌≡◌, map, IfOk};
-ghost use Rattle.model_merge.specs.Keyed as merging;
-ghost use Rattle.model_merge.specs.Merging.{key_of_plugin, merged_plugin, settled_plugin};
+ghost use Rattle.keyed_lists.specs.Keyed as merging;
+ghost use Rattle.keyed_lists.specs.Keys.{key_of_plugin};
+ghost use Rattle.model_merge.specs.Merging.{merged_plugin, settled_plugin};
 ghost use Rattle.profile_injection.specs.Contents.{absorbed_build, settled_base};
 ghost use Rattle.profile_injection.specs.Injection.{inject, inject_base, inject_build, inject_build_base, profiles_at};
 

@@ -6,7 +6,7 @@ use Rattle.std.proofs.lemmas.List.{drop_all}
 use Rattle.std.proofs.lemmas.Grind.{flat_map-append}
 use Rattle.collector.specs.declared.edge.Edge.{Edge}
 use Rattle.mediation.specs.declared.winner.Winner.{Winner}
-use Rattle.model_merge.specs.Keyed.{same_key}
+use Rattle.keyed_lists.specs.Keyed.{same_key}
 use Rattle.mvn_base.specs.declared.key.Key.{Key}
 
 or_assoc : (a b c : Bool) → (a || (b || c)) ≡ ((a || b) || c)

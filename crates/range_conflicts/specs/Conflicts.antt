@@ -5,7 +5,7 @@ use Rattle.collector.specs.Edges.{direct_edges}
 use Rattle.collector.specs.declared.edge.Edge.{Edge}
 use Rattle.mediation.specs.Rows.{edges_below, row_of}
 use Rattle.mediation.specs.declared.winner.Winner.{Winner}
-use Rattle.model_merge.specs.Keyed.{same_key}
+use Rattle.keyed_lists.specs.Keyed.{same_key}
 use Rattle.model_types.specs.declared.dependency.Dependency.{Dependency}
 use Rattle.mvn_base.specs.declared.key.Key.{Key}
 use Rattle.version_order.specs.Requirements.{admits, requirement}

@@ -1,7 +1,7 @@
 ghost use Rattle.std.specs.Prelude.{◌≡◌, ◌&&◌, ◌||◌, false, IfOk, OnOk};
 ghost use Rattle.std.specs.HashSet.{contains};
 ghost use Rattle.std.specs.List.{list_any};
-ghost use Rattle.model_merge.specs.Keyed.{same_key};
+ghost use Rattle.keyed_lists.specs.Keyed.{same_key};
 ghost use Rattle.mvn_base.specs.declared.key.Key as names;
 ghost use Rattle.range_conflicts.specs.Conflicts.{conflicts, is_of, some_conflict};
 

@@ -3,7 +3,7 @@ use Rattle.std.proofs.Common.{◌≡◌, ℕ, zero, suc, Bool, true, false, List
 use Rattle.std.specs.Option.{option_map, option_or}
 use Rattle.collector.specs.declared.edge.Edge.{Edge}
 use Rattle.mvn_base.specs.declared.key.Key.{Key}
-use Rattle.model_merge.specs.Keyed.{same_key}
+use Rattle.keyed_lists.specs.Keyed.{same_key}
 use Rattle.winner_law.specs.Winners.{Graph, Path, counting, level, longer, winner_of, winners}
 use Rattle.winner_law.proofs.Firsts.{first_counts, found_behind, or_none}
 

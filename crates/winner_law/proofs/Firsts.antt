@@ -5,7 +5,7 @@ use Rattle.std.proofs.lemmas.Bool.{false≢true}
 use Rattle.std.specs.Str.{bytes_eq}
 use Rattle.std.proofs.lemmas.Slice.Eq.{bytes_eq-Decides}
 use Rattle.mvn_base.specs.declared.key.Key.{Key}
-use Rattle.model_merge.specs.Keyed.{same_key}
+use Rattle.keyed_lists.specs.Keyed.{same_key}
 use Rattle.winner_law.specs.Winners.{Graph, Path, counting, ends_at, firsts, level, longer, winner_of, winners}
 
 -- what is found in two lists

@@ -6,7 +6,7 @@ use Rattle.std.specs.Ordering.{nat_cmp}
 use Rattle.std.specs.declared.cmp.Ordering.TheVariants.{Less}
 use Rattle.collector.specs.declared.edge.Edge.{Edge}
 use Rattle.mvn_base.specs.declared.key.Key.{Key}
-use Rattle.model_merge.specs.Keyed.{same_key}
+use Rattle.keyed_lists.specs.Keyed.{same_key}
 
 -- what a project's declarations and each edge's end lead to
 pub record Graph : Type 0 where

@@ -5,7 +5,7 @@ ghost use Rattle.collector.specs.declared.edge.Edge.{Edge};
 ghost use Rattle.model_types.specs.declared.dependency.Dependency.{Dependency};
 ghost use Rattle.model_types.specs.declared.dependency.Exclusion.{Exclusion};
 ghost use Rattle.mvn_base.specs.declared.key.Key.{Key};
-ghost use Rattle.model_merge.specs.Keyed.{same_key};
+ghost use Rattle.keyed_lists.specs.Keyed.{same_key};
 ghost use Rattle.winner_law.specs.Example.{base_one, example, near, web};
 ghost use Rattle.winner_law.specs.Winners.{Ascends, Before, Graph, IsAtMost, IsOrdered, Path, SharesNone, counting, winner_of, winners};
 

@@ -1,4 +1,5 @@
-use Rattle.model_merge.specs.Merging.{key_of_execution, merged_execution}
+use Rattle.keyed_lists.specs.Keys.{key_of_execution}
+use Rattle.model_merge.specs.Merging.{merged_execution}
 use Rattle.model_laws.proofs.Merges.{item_merged, join_merged}
 use Rattle.model_laws.proofs.Plugins.{execution_keeps}
 use Rattle.model_laws.proofs.joining.executions_join.Goals as goal

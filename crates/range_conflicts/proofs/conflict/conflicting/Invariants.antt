@@ -1,7 +1,7 @@
 use Rattle.std.proofs.Common.{◌≡◌, ◌||◌, ◌++◌, drop, flat_map}
 use Rattle.std.specs.HashSet.{contains}
 use Rattle.mvn_base.specs.declared.key.Key.{Key}
-use Rattle.model_merge.specs.Keyed.{same_key}
+use Rattle.keyed_lists.specs.Keyed.{same_key}
 use Rattle.range_conflicts.specs.Conflicts.{some_conflict}
 use Rattle.range_conflicts.proofs.conflict.conflicting.Given as goal
 

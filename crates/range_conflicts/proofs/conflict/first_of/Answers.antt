@@ -1,6 +1,6 @@
 use Rattle.std.proofs.Common.{sym, ◌∙◌}
 use Rattle.std.specs.HashSet.{contains}
-use Rattle.model_merge.specs.Keyed.{same_key}
+use Rattle.keyed_lists.specs.Keyed.{same_key}
 use Rattle.range_conflicts.proofs.Joined.{find_here, find_next, find_none, find_without}
 use Rattle.range_conflicts.proofs.conflict.first_of.Goals as goal
 use Rattle.range_conflicts.proofs.conflict.first_of.Goals.{in-Some+else-contains, in_default}

@@ -1,6 +1,6 @@
 use Rattle.std.proofs.Common.{◌≡◌, drop, find}
 use Rattle.std.specs.HashSet.{contains}
-use Rattle.model_merge.specs.Keyed.{same_key}
+use Rattle.keyed_lists.specs.Keyed.{same_key}
 use Rattle.range_conflicts.proofs.conflict.first_of.Given as goal
 
 abbrev pub invariant-loop-place : goal.invariant-loop-place

@@ -3,7 +3,7 @@ ghost use Rattle.collector.specs.Edges.{direct_edge, direct_edges};
 
 use crate::edge::{Edge, stated_edge};
 use crate::exclusions::Exclusions;
-use model_merge::Keyed;
+use keyed_lists::Keyed;
 use model_types::Dependency;
 use mvn_shared::{List, Mem, Shared};
 use std::alloc::Global;

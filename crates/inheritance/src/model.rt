@@ -4,7 +4,8 @@ ghost use Rattle.keyed_lists.specs.Keys.{key_of_pair};
 ghost use Rattle.inheritance.specs.Inherit.{inherit, inherit_base, inherit_build, inherit_build_base, inherit_coordinates, inherit_outputs, inherit_sources};
 
 use crate::placing::inherited_plugins;
-use model_merge::{Item, settled, stated, stated_list, with_others};
+use keyed_lists::{Item, settled, with_others};
+use model_merge::{stated, stated_list};
 use model_types::{Build, BuildBase, Coordinates, ModelBase, Outputs, RawModel, Sources};
 use mvn_base::Pair;
 use mvn_shared::{List, Mem, Shared};

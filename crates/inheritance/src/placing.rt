@@ -10,7 +10,8 @@ ghost use Rattle.model_merge.specs.Merging.{merged_plugin, settled_plugins};
 ghost use Rattle.inheritance.specs.Placing.{handed_on, inheritable, inherited_plugins, is_shared, leading, placed};
 ghost use Rattle.inheritance.specs.Others.{Stands, HasKeys, listed};
 
-use model_merge::{Keyed, each_settled, merged_over, settled, settled_plugins};
+use keyed_lists::{Keyed, settled};
+use model_merge::{each_settled, merged_over, settled_plugins};
 use model_types::{Execution, Plugin};
 use mvn_base::Key;
 use mvn_shared::{List, Mem, Shared};

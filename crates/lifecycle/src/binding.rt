@@ -7,7 +7,8 @@ ghost use Rattle.model_merge.specs.Merging.{merged_plugin, settled_plugins};
 ghost use Rattle.lifecycle.specs.Bindings.{bindings, bound_execution, bound_id, bound_plugin, bound_plugins, bound_to, row_view};
 
 use crate::table::{Row, rows_of};
-use model_merge::{appended, each_settled, merged_over, merged_under, others_than, settled};
+use keyed_lists::{appended, others_than, settled};
+use model_merge::{each_settled, merged_over, merged_under};
 use model_types::{Execution, Plugin};
 use mvn_base::{MAVEN_PLUGINS, Setting};
 use mvn_shared::{List, Mem, Shared, Text};

@@ -6,10 +6,10 @@ ghost use Rattle.lifecycle.specs.Goals.{call_at, call_in, calls_of, is_bound_by,
 
 use crate::table::Row;
 use goal_types::{GoalCall, goal_rule};
-use model_merge::merged_configuration;
 use model_types::{Execution, Plugin};
 use mvn_base::{MAVEN_PLUGINS, Phase, phase_of};
 use mvn_shared::{List, Mem, Text};
+use settings_merge::merged_configuration;
 use std::alloc::Global;
 
 /// What the id of a bound execution begins with.

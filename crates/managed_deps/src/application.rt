@@ -2,7 +2,8 @@ ghost use Rattle.std.specs.Prelude.{◌≡◌, map, Some, IfOk};
 ghost use Rattle.managed_deps.specs.Managed.{apply_one, apply_plugins, exclusions_of, with_managed};
 
 use crate::set::ManagedSet;
-use model_merge::{Keyed, each_settled, merged_under, settled_plugins, stated};
+use keyed_lists::Keyed;
+use model_merge::{each_settled, merged_under, settled_plugins, stated};
 use model_types::{Dependency, Exclusion, Plugin};
 use mvn_shared::{List, Mem, Shared};
 use std::alloc::Global;

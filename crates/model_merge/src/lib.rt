@@ -10,8 +10,6 @@ mod settling;
 
 pub use fallback::{stated, stated_list};
 pub use joined::{absorbed, merged_lists, merged_over, merged_under};
-pub use keyed_lists::{Item, Keyed, appended, copies, others_than, settled, with_others};
 pub use mergeable::Mergeable;
 pub use plugin::{merged_execution, merged_plugin};
-pub use settings_merge::merged_configuration;
 pub use settling::{each_settled, settled_plugin, settled_plugins};

@@ -1,11 +1,13 @@
 // POMs and parts of POMs that are joined.
 use crate::parts::{both_needs, both_properties, build_text, plugin_text, settings_text};
 use inheritance::{inherit, super_pom};
-use model_merge::{merged_configuration, merged_plugin, settled, with_others};
+use keyed_lists::{settled, with_others};
+use model_merge::merged_plugin;
 use model_types::{Dependency, Plugin, RawModel};
 use mvn_base::{ModelError, Pair};
 use mvn_shared::{Mem, Shared};
 use row_models::{behind, field, model_text, word};
+use settings_merge::merged_configuration;
 use std::alloc::Global;
 
 // A POM with its parent's.

@@ -1,7 +1,7 @@
 // What is managed, and what declarations take from it.
 use crate::parts::{needs_text, plugins_text};
+use keyed_lists::copies;
 use managed_deps::{apply, apply_plugins, managed};
-use model_merge::copies;
 use model_types::{Dependency, RawModel};
 use mvn_base::ModelError;
 use mvn_shared::{List, Mem, Shared};

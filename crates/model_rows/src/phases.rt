@@ -1,8 +1,8 @@
 // The plugins that a packaging binds, and the goals of a POM that run up to a phase.
 use crate::goal_lists::goals_text;
 use crate::parts::plugins_text;
+use keyed_lists::copies;
 use lifecycle::{bind, bindings, goals, phase_of};
-use model_merge::copies;
 use model_types::{Build, BuildBase, Coordinates, Model, Plugin, RawModel};
 use mvn_base::{Gav, ModelError, Phase};
 use mvn_shared::{List, Mem, Shared, Text};

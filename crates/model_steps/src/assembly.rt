@@ -6,8 +6,8 @@ ghost use Rattle.model_steps.specs.Assembly.{base_of, build_of, completed, gav_o
 ghost use Rattle.model_validation.specs.Valid.{has_no_import, is_scoped};
 
 use crate::once::{once, plugins_once};
+use keyed_lists::{copies, settled};
 use managed_deps::{ManagedSet, apply, managed};
-use model_merge::{copies, settled};
 use model_types::{Build, BuildBase, Coordinates, Dependency, Model, ModelBase, Parent, RawModel};
 use model_validation::{is_scope, text_or_empty};
 use mvn_base::{Gav, PomId};

@@ -6,7 +6,7 @@ ghost use Rattle.pom_source.specs.Answers.{Says, build_failed, refused};
 ghost use Rattle.model_steps.specs.Folders.{basedir_in, filled, from_basedir, is_absolute, placed, placed_build, placed_in, placed_outputs, placed_sources, stays};
 
 use interpolate::fill;
-use model_merge::copies;
+use keyed_lists::copies;
 use model_types::{Build, Outputs, RawModel, Sources};
 use mvn_base::{Machine, ModelError, PomId};
 use mvn_shared::{List, Mem, Shared, Text};

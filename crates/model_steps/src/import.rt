@@ -5,7 +5,7 @@ ghost use Rattle.pom_source.specs.Answers.{Says, build_failed};
 ghost use Rattle.pom_source.specs.Refusals.{text_refused};
 ghost use Rattle.model_steps.specs.Imports.{dependency_gav, gav_by, import_gav};
 
-use model_merge::Keyed;
+use keyed_lists::Keyed;
 use model_types::Dependency;
 use model_validation::{VersionKind, is_scope, kind_of, text_or_empty};
 use mvn_base::{Gav, PomId, Rule, key_text};

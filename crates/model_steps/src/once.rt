@@ -5,7 +5,8 @@ ghost use Rattle.keyed_lists.specs.Keyed.{settled};
 ghost use Rattle.model_merge.specs.Merging.{settled_plugins};
 ghost use Rattle.model_steps.specs.Once.{are_new};
 
-use model_merge::{Keyed, each_settled, settled};
+use keyed_lists::{Keyed, settled};
+use model_merge::each_settled;
 use model_types::{Dependency, Plugin};
 use mvn_shared::{List, Mem, Shared, Text};
 use std::alloc::Global;

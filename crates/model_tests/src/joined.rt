@@ -1,5 +1,6 @@
 // Lists that are joined, and what is stated first (`model_merge`).
-use model_merge::{Item, appended, copies, others_than, stated, stated_list};
+use keyed_lists::{Item, appended, copies, others_than};
+use model_merge::{stated, stated_list};
 use mvn_base::Pair;
 use mvn_shared::{List, Mem, Text};
 use row_models::{pairs, push_pairs, words};

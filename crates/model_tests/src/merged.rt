@@ -1,10 +1,8 @@
 // Plugins and dependencies that are merged, inherited and managed (`model_merge`, `inheritance`, `managed_deps`).
 use inheritance::inherited_plugins;
+use keyed_lists::{Keyed, copies};
 use managed_deps::{ManagedSet, managed};
-use model_merge::{
-    Keyed, Mergeable, absorbed, copies, each_settled, merged_execution, merged_lists, merged_over,
-    merged_under, settled_plugin, settled_plugins,
-};
+use model_merge::{Mergeable, absorbed, each_settled, merged_execution, merged_lists, merged_over, merged_under, settled_plugin, settled_plugins};
 use model_types::{Dependency, Plugin};
 use mvn_base::ModelError;
 use mvn_shared::{List, Mem, Shared, Text};

@@ -10,7 +10,7 @@ ghost use Rattle.model_types.specs.declared.model.Model as models;
 use crate::kind::{VersionKind, kind_of, kind_of_text};
 use crate::problem::Problem;
 use crate::texts::{is_of_project, is_scope, text_or_empty};
-use model_merge::Keyed;
+use keyed_lists::Keyed;
 use model_types::{Dependency, Model};
 use mvn_base::{Gav, PomId, Rule, key_text, valid_group, valid_name, valid_version};
 use mvn_shared::{Mem, Shared, Text};

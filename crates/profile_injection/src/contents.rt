@@ -3,7 +3,8 @@ ghost use Rattle.model_merge.specs.Merging as merging;
 ghost use Rattle.profile_injection.specs.Contents.{all_behind, all_built, base_behind, base_behind_at, build_behind, build_behind_at, no_plugins};
 ghost use Rattle.profile_injection.specs.Injection.{profiles_at};
 
-use model_merge::{Item, copies, settled_plugins};
+use keyed_lists::{Item, copies};
+use model_merge::settled_plugins;
 use model_types::{BuildBase, ModelBase, Plugin, Profile};
 use mvn_shared::{List, Mem, Shared};
 use std::alloc::Global;

@@ -6,7 +6,8 @@ ghost use Rattle.profile_injection.specs.Contents.{absorbed_build, settled_base}
 ghost use Rattle.profile_injection.specs.Injection.{inject, inject_base, inject_build, inject_build_base, profiles_at};
 
 use crate::contents::{gathered_base, gathered_build};
-use model_merge::{absorbed, copies, each_settled, settled};
+use keyed_lists::{copies, settled};
+use model_merge::{absorbed, each_settled};
 use model_types::{Build, BuildBase, ModelBase, Plugin, Profile, RawModel};
 use mvn_shared::{List, Mem, Shared};
 use std::alloc::Global;

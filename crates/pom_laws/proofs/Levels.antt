@@ -4,10 +4,10 @@ use Rattle.std.specs.Str.{encode_utf8_all}
 use Rattle.std.proofs.lemmas.Bool.{false≢true}
 use Rattle.std.proofs.lemmas.Bool.Decides.{Decides-eqb}
 use Rattle.pom_text.specs.declared.node.Node.{Node}
-use Rattle.pom_text.specs.Characters.{is_space}
-use Rattle.pom_text.specs.Grammar.{Piece, comment, instruction, section, reference, start_tag, empty_tag, end_tag, character}
-use Rattle.pom_text.specs.Parts.{line_part, lines}
-use Rattle.pom_text.specs.References.{referred}
+use Rattle.pom_words.specs.Characters.{is_space}
+use Rattle.pom_words.specs.Grammar.{Piece, comment, instruction, section, reference, start_tag, empty_tag, end_tag, character}
+use Rattle.pom_words.specs.Parts.{line_part, lines}
+use Rattle.pom_words.specs.References.{referred}
 use Rattle.pom_text.specs.Spells.{from_there, grown, is_element, is_shallow, nests}
 use Rattle.pom_text.specs.Texts.{IsText}
 use Rattle.pom_text.specs.Tree.{Standing, add_child, add_text, attribute_names, begun, changed, character_list, closes, ended, grow, in_innermost, innermost, may_begin, nothing_yet, passed, with_child, with_text}

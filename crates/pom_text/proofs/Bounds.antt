@@ -1,23 +1,23 @@
 -- How long what is read can be, and where its places can lie.
-use Rattle.std.proofs.Common.{◌≡◌, ℕ, zero, suc, ◌+◌, ◌-◌, ◌*◌, ◌≤◌, Bool, true, false, ◌==◌, List, [], ◌∷◌, codes, length, Option, Some, None, Result, Ok, Err, refl, sym, ap, ◌∙◌, arith, length-append, if◌then◌else◌}
+use Rattle.std.proofs.Common.{◌≡◌, ℕ, zero, suc, ◌+◌, ◌-◌, ◌*◌, ◌≤◌, Bool, true, false, ◌==◌, List, codes, length, Option, Some, None, Result, Ok, Err, refl, sym, ap, ◌∙◌, arith, length-append, if◌then◌else◌}
 use Rattle.std.proofs.lemmas.Bool.{false≢true}
 use Rattle.std.proofs.lemmas.List.Sums.{prefix_len-le-length}
-use Rattle.std.proofs.lemmas.Str.{length-encode, len_utf8_bounds, utf8_valid_len_le}
-use Rattle.std.specs.Char.{encode_utf8}
+use Rattle.std.proofs.lemmas.Str.{utf8_valid_len_le}
 use Rattle.std.specs.List.{prefix_len}
 use Rattle.std.specs.Result.{result_map_both}
-use Rattle.std.specs.Str.{bytes_eq, chars, encode_utf8_all}
+use Rattle.std.specs.Str.{bytes_eq, chars}
 use Rattle.std.specs.Str.Lossy.{utf8_valid_len}
-use Rattle.pom_text.specs.declared.decoded.Decoded.{Decoded}
-use Rattle.pom_text.specs.declared.encoding.Encoding.{Encoding}
-use Rattle.pom_text.specs.declared.encoding.Encoding.TheVariants.{Utf8, UsAscii, Iso88591}
-use Rattle.pom_text.specs.Encodings.{announces, chosen, decoded, encoded, is_ascii, named, or_bad}
-use Rattle.pom_text.specs.Grammar.{declaration}
-use Rattle.pom_text.specs.Openings.{behind_declaration, encoding_from, encoding_or, encoding_within, if_there, closed, named_behind, named_encoding, opening}
-use Rattle.pom_text.specs.Reads.{after, attribute_of}
-use Rattle.pom_text.specs.Runs.{decoded_bytes}
+use Rattle.pom_words.specs.declared.decoded.Decoded.{Decoded}
+use Rattle.pom_words.specs.declared.encoding.Encoding.{Encoding}
+use Rattle.pom_words.specs.declared.encoding.Encoding.TheVariants.{Utf8, UsAscii, Iso88591}
+use Rattle.pom_words.specs.Encodings.{announces, chosen, decoded, encoded, is_ascii, named, or_bad}
+use Rattle.pom_words.specs.Grammar.{declaration}
+use Rattle.pom_words.specs.Openings.{behind_declaration, encoding_from, encoding_or, encoding_within, if_there, closed, named_behind, named_encoding, opening}
+use Rattle.pom_words.specs.Reads.{after, attribute_of}
+use Rattle.pom_words.specs.Lent.{decoded_bytes}
 use Rattle.pom_text.proofs.Declarations.{declaration_splits}
-use Rattle.pom_text.proofs.Fronts.{none_some, same_some, unbound}
+use Rattle.pom_words.proofs.Fronts.{none_some, same_some, unbound}
+use Rattle.pom_words.proofs.Decodes.{bytes_within}
 
 -- results
 is_ok : {A B : Type 0} → Result A B → Bool
@@ -43,10 +43,6 @@ same_err d e so = ap (err_in d) so
 pub same_ok : {A B : Type 0} → (x y : A) → (let r : Result A B = Ok x in r) ≡ Ok y → x ≡ y
 unfolding ok_in
 same_ok x y so = ap (ok_in x) so
-
-pub bytes_within : (text : List ℕ) → length (encode_utf8_all text) ≤ 4 * length text
-bytes_within [] = omega arith
-bytes_within (c ∷ text) = omega (arith, bytes_within text, length-append (encode_utf8 c) (encode_utf8_all text), length-encode c, (len_utf8_bounds c).1)
 
 pub encoded_within : (encoding : Encoding) (text : List ℕ) → length (encoded encoding text) ≤ 4 * length text
 unfolding encoded

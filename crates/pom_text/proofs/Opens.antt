@@ -1,28 +1,17 @@
 -- What stands behind a declaration, in a text that is cut at the first character that may not stand in one.
-use Rattle.std.proofs.Common.{◌≡◌, ℕ, suc, ◌+◌, Bool, true, false, nat_eq, List, [], ◌∷◌, ◌++◌, codes, drop, Option, Some, None, refl, sym, ap, subst, ◌∙◌, arith, append_assoc, if◌then◌else◌}
+use Rattle.std.proofs.Common.{◌≡◌, ℕ, ◌+◌, Bool, true, false, nat_eq, List, [], ◌∷◌, ◌++◌, codes, drop, Option, Some, None, refl, sym, ap, subst, ◌∙◌, arith, append_assoc, if◌then◌else◌}
 use Rattle.std.proofs.lemmas.Bool.{false≢true}
 use Rattle.std.proofs.lemmas.Bool.Decides.{nat_tests}
-use Rattle.std.specs.List.{list_all, prefix_len, starts_with}
-use Rattle.pom_text.specs.Characters.{is_allowed, is_space}
-use Rattle.pom_text.specs.Encodings.{Names, Opens, announces, begins_space, declared, is_declaration, undeclared}
-use Rattle.pom_text.specs.Grammar.{Attribute, declaration}
-use Rattle.pom_text.specs.Openings.{behind_declaration, named_encoding, opening}
-use Rattle.pom_text.specs.Reads.{begins}
+use Rattle.std.specs.List.{list_all, starts_with}
+use Rattle.pom_words.specs.Characters.{is_allowed, is_space}
+use Rattle.pom_words.specs.Encodings.{Names, Opens, announces, begins_space, declared, is_declaration, undeclared}
+use Rattle.pom_words.specs.Grammar.{Attribute, declaration}
+use Rattle.pom_words.specs.Openings.{behind_declaration, named_encoding, opening}
+use Rattle.pom_words.specs.Reads.{begins}
 use Rattle.pom_text.proofs.Chains.{within}
 use Rattle.pom_text.proofs.Declarations.{declaration_parts, declaration_reads, declaration_splits, declaration_tail, named_none, named_reads, tail, tail_begins}
 use Rattle.pom_text.proofs.Ends.{all_after, and_first_all}
-use Rattle.pom_text.proofs.Fronts.{and_first, and_second, both, none_some, same_some, starts_front, starts_splits}
-
--- where a run of characters ends, none of them stands next
-pub run_stops : (p : ℕ → Bool) (text : List ℕ) → begins p (drop (prefix_len p text) text) ≡ false
-run_stops p [] = refl
-run_stops p (c ∷ text) = by (p c) refl (run_stops p text)
-  where
-    by : (b : Bool) → p c ≡ b → begins p (drop (prefix_len p text) text) ≡ false → begins p (drop (prefix_len p (c ∷ text)) (c ∷ text)) ≡ false
-    by true e rest =
-        let one : 1 + prefix_len p text ≡ suc (prefix_len p text) = omega arith in
-        ap (λ b. begins p (drop (if b then 1 + prefix_len p text else 0) (c ∷ text))) e ∙ ap (λ k. begins p (drop k (c ∷ text))) one ∙ rest
-    by false e rest = ap (λ b. begins p (drop (if b then 1 + prefix_len p text else 0) (c ∷ text))) e ∙ e
+use Rattle.pom_words.proofs.Fronts.{and_first, and_second, both, none_some, same_some, starts_front, starts_splits}
 
 -- the encoding that bytes name is what is read
 pub names_so : (bytes : List ℕ) → Names bytes (named_encoding bytes)

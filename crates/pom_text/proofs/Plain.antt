@@ -1,34 +1,21 @@
 -- A run of characters at once.
-use Rattle.std.proofs.Common.{◌≡◌, ℕ, zero, suc, ◌+◌, ◌<◌, ◌≤◌, Bool, true, false, not, ◌&&◌, ◌==◌, List, [], ◌∷◌, ◌++◌, length, take, drop, Option, Some, None, option_and_then, refl, sym, ap, ◌∙◌, arith, append_assoc, append-nil, length-append, if◌then◌else◌}
+use Rattle.std.proofs.Common.{◌≡◌, ℕ, zero, suc, ◌+◌, ◌<◌, ◌≤◌, Bool, true, false, not, ◌&&◌, ◌==◌, List, [], ◌∷◌, ◌++◌, length, drop, Option, Some, None, option_and_then, refl, sym, ap, ◌∙◌, arith, append_assoc, append-nil, length-append, if◌then◌else◌}
 use Rattle.std.proofs.lemmas.Bool.{and_parts, and_right, false≢true, not-true}
 use Rattle.std.proofs.lemmas.Str.{encodes-append}
 use Rattle.std.specs.List.{list_all, prefix_len}
-use Rattle.std.specs.Str.{IsUtf8, chars, encode_utf8_all}
+use Rattle.std.specs.Str.{encode_utf8_all}
 use Rattle.mvn_base.specs.declared.rule.Rule.TheVariants.{NotPomText}
 use Rattle.pom_text.specs.declared.node.Node.{Node}
-use Rattle.pom_text.specs.Characters.{is_space}
+use Rattle.pom_words.specs.Characters.{is_space}
 use Rattle.pom_text.specs.Growth.{fitting, take_part}
-use Rattle.pom_text.specs.Parts.{Character, line_part, lines}
-use Rattle.pom_text.specs.Reads.{begins, piece_of, skip_space}
+use Rattle.pom_words.specs.Parts.{Character, line_part, lines, is_empty}
+use Rattle.pom_words.specs.Reads.{begins, piece_of, skip_space}
 use Rattle.pom_text.specs.Running.{halted, run}
-use Rattle.pom_text.specs.Runs.{IsRunOf, grown_run, is_run, unfed}
-use Rattle.pom_text.specs.Tree.{Standing, add_text, changed, in_innermost, innermost, is_empty, passed, with_text}
-use Rattle.pom_text.proofs.Bytes.{cut_back, cut_front}
-use Rattle.pom_text.proofs.Flat.{run_flat}
-use Rattle.pom_text.proofs.Fronts.{none_some, run_all, run_splits, same_some}
-use Rattle.pom_text.proofs.Opens.{run_stops}
+use Rattle.pom_words.specs.Lent.{IsRunOf, is_run, unfed}
+use Rattle.pom_text.specs.Runs.{grown_run}
+use Rattle.pom_text.specs.Tree.{Standing, add_text, changed, in_innermost, innermost, passed, with_text}
+use Rattle.pom_words.proofs.Fronts.{none_some, same_some}
 use Rattle.pom_text.proofs.Runs.{length_changed, run_more, run_unfit}
-
--- the run at the front, in bytes and in characters
-pub run_cut : (bs xs ys : List ℕ) (n : ℕ) → IsUtf8 bs → n ≡ prefix_len is_run bs → xs ≡ take n bs → ys ≡ drop n bs → IsRunOf (chars bs) (chars xs) (chars ys)
-run_cut bs xs ys n u is a b =
-    let front = cut_front is_run bs xs n run_flat u is a in
-    let back = cut_back is_run bs ys n run_flat u is b in
-    record {
-      splits = run_splits is_run (chars bs) ∙ ap (λ l. l ++ drop (prefix_len is_run (chars bs)) (chars bs)) (sym front) ∙ ap (λ l. chars xs ++ l) (sym back);
-      all = ap (list_all is_run) front ∙ run_all is_run (chars bs);
-      stops = ap (begins is_run) back ∙ run_stops is_run (chars bs);
-    }
 
 -- what a character of a run is not
 record IsApart (c : ℕ) : Type 0 where

@@ -1,17 +1,9 @@
 pub use Rattle.mvn_base.specs.Limits
-pub mod Characters
-pub mod References
-pub mod Numerals
-pub mod Grammar
-pub mod Parts
 pub mod Tree
-pub mod Reads
 pub mod Growth
 pub mod Spells
 pub mod Running
 pub mod Runs
-pub mod Encodings
-pub mod Openings
 pub mod Texts
 pub mod Answers
 pub mod Faults

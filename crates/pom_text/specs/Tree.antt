@@ -1,13 +1,13 @@
 -- How elements stand in one another. An element's text and its children are what stands directly in it; outside the root
 -- there are comments, instructions and white space alone. XML 1.0, sections 2.1, 2.8 and 3.1; own: elements are numbered in
 -- the order in which they begin.
-use Rattle.std.specs.Prelude.{ℕ, ◌-◌, Bool, true, false, ◌||◌, not, ◌==◌, List, [], ◌∷◌, ◌++◌, length, map, take, zero, suc, Option, Some, None, option_and_then, slice_get, if◌then◌else◌}
+use Rattle.std.specs.Prelude.{ℕ, ◌-◌, Bool, false, ◌||◌, not, ◌==◌, List, [], ◌∷◌, ◌++◌, length, map, take, zero, suc, Option, Some, None, option_and_then, slice_get, if◌then◌else◌}
 use Rattle.std.specs.Str.{bytes_eq, encode_utf8_all}
 use Rattle.pom_text.specs.declared.node.Node.{Node}
-use Rattle.pom_text.specs.Characters.{is_space}
-use Rattle.pom_text.specs.Grammar.{Attribute, Piece, comment, instruction, section, reference, start_tag, empty_tag, end_tag, character}
-use Rattle.pom_text.specs.Parts.{line_part, lines}
-use Rattle.pom_text.specs.References.{referred}
+use Rattle.pom_words.specs.Characters.{is_space}
+use Rattle.pom_words.specs.Grammar.{Attribute, Piece, comment, instruction, section, reference, start_tag, empty_tag, end_tag, character}
+use Rattle.pom_words.specs.Parts.{is_empty, line_part, lines}
+use Rattle.pom_words.specs.References.{referred}
 
 -- the elements that have begun, the numbers of those that have not ended, and whether a carriage return in text stands
 -- directly before
@@ -34,10 +34,6 @@ add_child child node = record { name = node.name; attributes = node.attributes; 
 -- the open element that began last
 abbrev pub innermost : List ℕ → Option ℕ
 innermost path = slice_get path (length path - 1)
-
-abbrev pub is_empty : {A : Type 0} → List A → Bool
-is_empty [] = true
-is_empty (x ∷ xs) = false
 
 -- what stands nowhere in the tree
 abbrev pub passed : Standing → Standing

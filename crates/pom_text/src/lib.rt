@@ -1,16 +1,9 @@
 //! The text of a POM, read into elements: the grammar, exactly, and the first place at which it fails.
 #![tactic(auto)]
 
-mod allowed;
 mod attribute;
-mod character;
-mod cuts;
-mod declaration;
-mod decoded;
 mod document;
-mod encoding;
 mod fault;
-mod front;
 mod law;
 mod names;
 mod node;
@@ -18,10 +11,8 @@ mod part;
 mod piece;
 mod read;
 mod reader;
-mod reference;
 mod spelled;
 mod tree;
-mod words;
 
 pub use fault::TextFault;
 pub use law::one_reading;

@@ -4,21 +4,21 @@ ghost use Rattle.mvn_base.specs.declared.rule.Rule as rules;
 ghost use Rattle.pom_text.specs.declared.node.Node as nodes;
 ghost use Rattle.pom_text.specs.declared.fault.TextFault.TheVariants.{Refused};
 ghost use Rattle.pom_text.specs.Answers.{Agrees, answer, decoded_answer, encoding_answer, reading_answer, text_answer};
-ghost use Rattle.pom_text.specs.Encodings.{chosen, decoded};
-ghost use Rattle.pom_text.specs.Openings.{named_encoding};
+ghost use Rattle.pom_words.specs.Encodings.{chosen, decoded};
+ghost use Rattle.pom_words.specs.Openings.{named_encoding};
 ghost use Rattle.pom_text.specs.Runs.{EndsWith, HasFront, read_len};
 ghost use Rattle.pom_text.specs.Running.{outcome_of};
 ghost use Rattle.pom_text.specs.Texts.{AreElements, IsAnswered, IsRefusal, IsText, Refuses};
 
-use crate::allowed::allowed_of;
-use crate::cuts::is_over;
-use crate::declaration::named_encoding;
-use crate::encoding::{Encoding, mark_len};
 use crate::fault::TextFault;
-use crate::front::opening;
 use crate::node::PomText;
 use crate::reader::{Reading, read_pieces};
 use mvn_base::{POM_LIMIT, Rule};
+use pom_words::allowed::allowed_of;
+use pom_words::cuts::is_over;
+use pom_words::declaration::named_encoding;
+use pom_words::encoding::{Encoding, mark_len};
+use pom_words::front::opening;
 use std::alloc::Global;
 
 // A refusal, at a byte behind a mark of so many bytes.

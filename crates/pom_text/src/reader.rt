@@ -7,7 +7,6 @@ ghost use Rattle.pom_text.specs.Running.{begins_element, finish, outcome_of, run
 ghost use Rattle.pom_text.specs.Spells.{is_done, is_doctype};
 ghost use Rattle.pom_text.specs.Tree.{nothing_yet};
 
-use crate::cuts::{after, is_over, run_of, skip_space};
 use crate::document::Document;
 use crate::node::Node;
 use crate::part::Part;
@@ -15,6 +14,7 @@ use crate::piece::piece_of;
 use crate::tree::Tree;
 use mvn_base::Rule;
 use mvn_shared::{List, Mem};
+use pom_words::cuts::{after, is_over, run_of, skip_space};
 use std::alloc::Global;
 
 /// The most elements that may be open at once. Project rule.

@@ -2,18 +2,19 @@ ghost use Rattle.std.specs.Prelude.{◌≡◌, ◌<◌, true, length, IfOk, IfSo
 ghost use Rattle.std.specs.List.{list_all};
 ghost use Rattle.std.specs.Str.{bytes_eq, chars, encode_utf8_all};
 ghost use Rattle.pom_text.specs.Growth.{HasChanged, HasGotChild, Takes, standing_of};
-ghost use Rattle.pom_text.specs.Parts.{Character, Section, Reference};
-ghost use Rattle.pom_text.specs.Runs.{TakesRun, begun_by, is_run, line_bytes, said};
+ghost use Rattle.pom_words.specs.Parts.{Character, Section, Reference};
+ghost use Rattle.pom_text.specs.Runs.{TakesRun, begun_by, line_bytes, said};
+ghost use Rattle.pom_words.specs.Lent.{is_run};
 ghost use Rattle.pom_text.specs.Tree.{add_child, add_text, closes, ended, innermost, may_begin, nothing_yet, passed};
 
 use crate::attribute::tag_names;
-use crate::cuts::{is_over, skip_space};
 use crate::document::Document;
 use crate::names::{SLOTS, key_of, new_name, slot_of};
 use crate::node::Node;
 use crate::part::{Part, Tag};
 use crate::spelled::{behind_feed, push_lines, text_of};
 use mvn_shared::{List, Mem, Shared, Text};
+use pom_words::cuts::{is_over, skip_space};
 use std::alloc::Global;
 use std::mem::replace;
 
@@ -81,7 +82,7 @@ fn share_own_text(alloc: Global, node: &mut Node) -> Mem<()>
 }
 
 // Whether an element has this name.
-#[tactic(auto, using(crate::proofs::Bytes::whole_again))]
+#[tactic(auto, using(pom_words::proofs::Bytes::whole_again))]
 fn is_named(node: &Node, name: &str) -> bool
     ensures { result ≡ bytes_eq node.now.name (encode_utf8_all (chars name.now)) }
 {
@@ -204,7 +205,7 @@ impl Tree {
     }
 
     // A carriage return that stands for itself.
-    #[tactic(auto, using(crate::proofs::Breaks::return_bytes), unfolding(crate::specs::Tree::with_text, crate::specs::Growth::take_part, crate::specs::Characters::is_space))]
+    #[tactic(auto, using(crate::proofs::Breaks::return_bytes), unfolding(crate::specs::Tree::with_text, crate::specs::Growth::take_part, pom_words::specs::Characters::is_space))]
     fn take_return(&mut self) -> Mem<bool>
         ensures { Takes result self.old self.new (Character 13) }
     {

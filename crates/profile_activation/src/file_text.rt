@@ -1,4 +1,5 @@
-ghost use Rattle.std.specs.Prelude.{◌≡◌, ◌++◌, List as Items, ℕ, codes, flat_map, unwrap_or, IfOk, OnOk};
+ghost use Rattle.std.specs.Prelude.{◌≡◌, ◌++◌, [], List as Items, ℕ, codes, flat_map, option_map, unwrap_or, IfOk, OnOk};
+ghost use Rattle.pom_paths.specs.Paths.{joined};
 ghost use Rattle.std.specs.String.{string_bytes};
 ghost use Rattle.expressions.specs.declared.part.Part.TheVariants as variants;
 ghost use Rattle.profile_activation.specs.FileTexts.{basedir_of, below_root, filled, filled_part, path_of};
@@ -110,19 +111,29 @@ pub(crate) fn filled(alloc: Global, basedir: &Text, known: &Known, text: &Text) 
     filled_parts(alloc, basedir, known, list.as_slice())
 }
 
+// What stands behind the beginning of a text, followed from the root on.
+fn joined_behind(alloc: Global, front: &str, text: &str) -> Mem<Option<Text>>
+    ensures { IfOk result (λ path. path ≡ option_map (joined []) (behind front.now text.now)) }
+{
+    match behind(front, text) {
+        Some(rest) => {
+            let rest = Text::from_str(alloc, rest)?;
+            let root = Text::of(String::new(alloc));
+            Ok(Some(joined(alloc, &root, &rest)?))
+        }
+        None => Ok(None),
+    }
+}
+
 // An absolute path in the project, from its root on.
 fn below_root(alloc: Global, root: &Text, text: &Text) -> Mem<Option<Text>>
     ensures { IfOk result (λ path. path ≡ below_root root.now text.now) }
 {
-    let nothing = Text::of(String::new(alloc));
     if text == root {
-        return Ok(Some(nothing));
+        return Ok(Some(Text::of(String::new(alloc))));
     }
     let front = format!(in alloc; "{root}/")?;
-    match behind(front.as_str(), text.as_str()) {
-        Some(rest) => Ok(Some(joined(alloc, &nothing, &Text::from_str(alloc, rest)?)?)),
-        None => Ok(None),
-    }
+    joined_behind(alloc, front.as_str(), text.as_str())
 }
 
 /// The path that a filled text names, from the project's root on. Costs its length.

@@ -15,7 +15,7 @@ use std::alloc::Global;
 
 /// Where a project's POM stands: its folder, from the project's root on, and as a path of the
 /// system.
-#[derive(Debug, Drop)]
+#[derive(Drop)]
 pub(crate) struct Place {
     folder: Text,
     basedir: Text,

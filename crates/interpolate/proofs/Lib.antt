@@ -1,5 +1,3 @@
 mod Lists
-mod Plain
 mod Refusals
-mod Steps
 mod Standing

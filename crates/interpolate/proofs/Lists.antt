@@ -1,7 +1,5 @@
 -- Lists that are filled one by one.
 use Rattle.std.proofs.Common.{◌≡◌, ℕ, suc, ◌+◌, ◌<◌, Bool, true, false, List, [], ◌∷◌, ◌++◌, length, get_or, drop, Option, None, Some, Result, Ok, Err, refl, arith, sym, ap, subst, ◌∙◌, if◌then◌else◌}
-use Rattle.std.specs.Option.{option_map_or, option_or}
-use Rattle.std.specs.Str.{bytes_eq}
 use Rattle.std.proofs.Math.Seq.{drop-cons}
 use Rattle.std.proofs.lemmas.List.{append-nil, append_assoc}
 use Rattle.mvn_base.specs.declared.machine.Pair.{Pair}
@@ -9,20 +7,14 @@ use Rattle.mvn_base.specs.declared.rule.Rule.{Rule}
 use Rattle.mvn_base.specs.declared.setting.Setting.{Setting}
 use Rattle.mvn_base.specs.declared.setting.Setting.TheViews.{out-Setting, roll-Setting}
 use Rattle.mvn_base.specs.declared.setting.Setting.TheFolds.{fold_out-Setting}
-use Rattle.expressions.specs.declared.part.Part.{Part}
-use Rattle.expressions.specs.Named.{last_named}
-use Rattle.interpolate.specs.Values.{Filled, ◌>>=◌, filled_from, value, with_part}
-use Rattle.expressions.specs.Parts.{parts}
-use Rattle.interpolate.specs.Filling.{each, fill_property, fill_setting, first_name, resolved, setting_step, text_of, unresolved}
-use Rattle.interpolate.specs.Tables.{Fails, Gives, prefixed}
-use Rattle.interpolate.specs.declared.fault.FillFault.{FillFault}
-use Rattle.interpolate.specs.declared.fault.FillFault.TheVariants.{Refused, Memory}
-use Rattle.interpolate.specs.declared.filler.Filler.{Filler}
-
--- three lists behind another
-pub behind_three : {A : Type 0} (before a b d : List A) {one two : List A} → one ≡ before ++ a → two ≡ one ++ b → two ++ d ≡ before ++ ((a ++ b) ++ d)
-behind_three before a b d first second =
-    ap (λ l. l ++ d) (second ∙ ap (λ l. l ++ b) first) ∙ append_assoc (before ++ a) b d ∙ append_assoc before a (b ++ d) ∙ ap (λ l. before ++ l) (sym (append_assoc a b d))
+use Rattle.model_values.specs.Values.{Filled, ◌>>=◌}
+use Rattle.interpolate.specs.Filling.{each, fill_property, fill_setting, setting_step}
+use Rattle.model_values.specs.Texts.{text_of}
+use Rattle.model_values.specs.Tables.{Fails, Gives, IsTable}
+use Rattle.interpolate.specs.Told.{beside, prefixed}
+use Rattle.model_values.specs.declared.fault.FillFault.{FillFault}
+use Rattle.model_values.specs.declared.fault.FillFault.TheVariants.{Refused, Memory}
+use Rattle.model_values.specs.declared.filler.Filler.{Filler}
 
 -- one step of a chain
 pub chain : {A B : Type 0} {said : Filled A} {x : A} {whole : Filled B} (f : A → Filled B) → said ≡ Ok x → f x ≡ whole → (said >>= f) ≡ whole
@@ -76,42 +68,6 @@ list_fails known f done items i x new Memory whole low is fails so = record {}
 pub list_done : {A B : Type 0} (f : A → Filled B) (done : List B) (items : List A) (i : ℕ) (whole : Filled (List B)) → drop i items ≡ [] → prefixed done (each f (drop i items)) ≡ whole → whole ≡ Ok done
 list_done f done items i whole nothing so = sym so ∙ ap (λ l. prefixed done (each f l)) nothing ∙ ap (λ l. Ok l) (append-nil done)
 
--- the rest of a text, one part at a time
-part_at : (place : List ℕ) (value : List ℕ → Filled (List ℕ)) (done : List ℕ) (parts : List Part) (i : ℕ) (p : Part) → i < length parts → p ≡ get_or parts i p → filled_from place value done (drop i parts) ≡ (with_part place value done p >>= (λ more. filled_from place value more (drop (i + 1) parts)))
-part_at place value done parts i p low is =
-    let one : i + 1 ≡ suc i = omega arith in
-    ap (filled_from place value done) (drop-cons parts i p low)
-    ∙ ap (λ a. with_part place value done a >>= (λ more. filled_from place value more (drop (suc i) parts))) (sym is)
-    ∙ ap (λ k. with_part place value done p >>= (λ more. filled_from place value more (drop k parts))) (sym one)
-
-pub part_fails : (place : List ℕ) (value : List ℕ → Filled (List ℕ)) (done : List ℕ) (parts : List Part) (i : ℕ) (p : Part) (e : Rule × List ℕ) (whole : Filled (List ℕ)) → i < length parts → p ≡ get_or parts i p → with_part place value done p ≡ Err e → filled_from place value done (drop i parts) ≡ whole → whole ≡ Err e
-part_fails place value done parts i p e whole low is fails so =
-    sym so ∙ part_at place value done parts i p low is ∙ ap (λ r. r >>= (λ more. filled_from place value more (drop (i + 1) parts))) fails
-
-pub part_more : (place : List ℕ) (value : List ℕ → Filled (List ℕ)) (done more : List ℕ) (parts : List Part) (i : ℕ) (p : Part) (whole : Filled (List ℕ)) → i < length parts → p ≡ get_or parts i p → with_part place value done p ≡ Ok more → filled_from place value done (drop i parts) ≡ whole → filled_from place value more (drop (i + 1) parts) ≡ whole
-part_more place value done more parts i p whole low is comes so =
-    sym (ap (λ r. r >>= (λ d. filled_from place value d (drop (i + 1) parts))) comes) ∙ sym (part_at place value done parts i p low is) ∙ so
-
-pub text_fails : (known : List Pair) (place done : List ℕ) (parts : List Part) (i : ℕ) (p : Part) (new : Filler) (fault : FillFault) (whole : Filled (List ℕ)) → i < length parts → p ≡ get_or parts i p → Gives known (with_part place (value known []) done p) new (Err fault) → filled_from place (value known []) done (drop i parts) ≡ whole → Gives known whole new (Err fault)
-text_fails known place done parts i p new (Refused r at) whole low is fails so = part_fails place (value known []) done parts i p (r, at) whole low is fails so
-text_fails known place done parts i p new Memory whole low is fails so = record {}
-
-pub text_done : (place : List ℕ) (value : List ℕ → Filled (List ℕ)) (done : List ℕ) (parts : List Part) (i : ℕ) (whole : Filled (List ℕ)) → drop i parts ≡ [] → filled_from place value done (drop i parts) ≡ whole → whole ≡ Ok done
-text_done place value done parts i whole nothing so = sym so ∙ ap (filled_from place value done) nothing
-
--- a text in which nothing is left
-pub name_there : (said : Filled (List ℕ)) (t : List ℕ) → said ≡ Ok t → first_name (parts t) ≡ None → (said >>= resolved) ≡ Ok t
-name_there said t is none = ap (λ r. r >>= resolved) is ∙ ap (λ o. option_map_or unresolved o (Ok t)) none
-
--- names put into a map one by one, of equal ones the last
-pub put_name : (p : Pair) (ps : List Pair) (q : List ℕ) (old new : Option (List ℕ)) (whole : Option (List ℕ)) → new ≡ (if bytes_eq p.name q then Some p.value else old) → option_or (last_named (p ∷ ps) q) old ≡ whole → option_or (last_named ps q) new ≡ whole
-put_name p ps q old new whole is so = ap (option_or (last_named ps q)) is ∙ by (last_named ps q) (bytes_eq p.name q) ∙ so
-  where
-    by : (o : Option (List ℕ)) (b : Bool) → option_or o (if b then Some p.value else old) ≡ option_or (option_or o (if b then Some p.value else None)) old
-    by (Some v) b = refl
-    by None true = refl
-    by None false = refl
-
 -- a setting is its name, its text filled and its children filled
 setting_filled : (known : List Pair) (s : Setting) → fill_setting known s ≡ (text_of known (out-Setting s).name (out-Setting s).text >>= (λ text. each (fill_setting known) (out-Setting s).children >>= (λ children. Ok (roll-Setting (record { name = (out-Setting s).name; text = text; children = children })))))
 setting_filled known = fold_out-Setting (Filled Setting) (setting_step known)
@@ -128,10 +84,17 @@ setting_fails known s name text new (Refused r at) named has fails =
     ∙ chain _ (ap (λ n. text_of known n (out-Setting s).text) (sym named) ∙ has) (ap (λ c. c >>= (λ children. Ok (roll-Setting (record { name = (out-Setting s).name; text = text; children = children })))) fails)
 setting_fails known s name text new Memory named has fails = record {}
 
--- a list without length is empty
-pub no_items : {A : Type 0} (xs : List A) → length xs ≡ 0 → xs ≡ []
-no_items [] e = refl
-no_items (x ∷ xs) e = absurd (some_items (length xs) e)
-  where
-    some_items : (n : ℕ) → suc n ≡ 0 → ⊥
-    some_items n e = omega (arith, e)
+ok_same : {A : Type 0} (x y : A) → ◌≡◌ {A = Result A FillFault} (Ok x) (Ok y) → x ≡ y
+ok_same x y e = cc
+
+err_same : {A : Type 0} (one two : FillFault) → ◌≡◌ {A = Result A FillFault} (Err one) (Err two) → one ≡ two
+err_same one two e = cc
+
+-- what comes next, beside what is filled already
+pub next_gives : {A B : Type 0} (known : List Pair) (said : Filled B) (new : Filler) (first : A) (second : Result B FillFault) (both : A × B) → Gives known said new second → Ok both ≡ beside first second → (said ≡ Ok both.1) × IsTable known [] new × (both.0 ≡ first)
+next_gives known said new first (Ok b) both gives is = let same = ok_same both (first, b) is in (gives.0 ∙ (λ i. Ok ((sym same i).1)), gives.1, (λ i. (same i).0))
+next_gives known said new first (Err fault) both gives is = cc
+
+pub next_fails : {A B : Type 0} (known : List Pair) (said : Filled B) (new : Filler) (first : A) (second : Result B FillFault) (fault : FillFault) → Gives known said new second → ◌≡◌ {A = Result (A × B) FillFault} (Err fault) (beside first second) → Fails said fault
+next_fails known said new first (Ok b) fault gives is = cc
+next_fails known said new first (Err other) fault gives is = subst (λ f. Fails said f) (sym (err_same fault other is)) gives

@@ -4,10 +4,11 @@ use Rattle.mvn_base.specs.declared.machine.Machine.{Machine}
 use Rattle.mvn_base.specs.declared.machine.Pair.{Pair}
 use Rattle.model_types.specs.declared.model.RawModel.{RawModel}
 use Rattle.interpolate.specs.Filling.{fill, fill_model, refused_in}
-use Rattle.interpolate.specs.Named.{named}
-use Rattle.interpolate.specs.Tables.{Fails, TellsOf}
-use Rattle.interpolate.specs.declared.fault.FillFault.{FillFault}
-use Rattle.interpolate.specs.declared.fault.FillFault.TheVariants.{Refused, Memory}
+use Rattle.model_values.specs.Named.{named}
+use Rattle.model_values.specs.Tables.{Fails}
+use Rattle.interpolate.specs.Told.{TellsOf}
+use Rattle.model_values.specs.declared.fault.FillFault.{FillFault}
+use Rattle.model_values.specs.declared.fault.FillFault.TheVariants.{Refused, Memory}
 
 pub fill_tells : (raw : RawModel) (basedir : Option (List ℕ)) (machine : Machine) (defines known : List Pair) (fault : FillFault) → known ≡ named raw basedir machine defines → Fails (fill_model known raw) fault → TellsOf raw.pom fault (fill raw basedir machine defines)
 unfolding fill

@@ -6,13 +6,12 @@ use Rattle.mvn_base.specs.declared.machine.Pair.{Pair}
 use Rattle.model_types.specs.declared.dependency.Dependency.{Dependency}
 use Rattle.model_types.specs.declared.dependency.Exclusion.{Exclusion}
 use Rattle.model_types.specs.declared.plugin.Plugin.{Plugin}
-use Rattle.mvn_base.specs.declared.rule.Rule.TheVariants.{TooLarge}
-use Rattle.expressions.specs.declared.part.Part.TheVariants.{Plain}
-use Rattle.expressions.specs.Parts.{cut, found, parts, parts_within, split}
-use Rattle.interpolate.specs.Values.{◌>>=◌, Filled, filled_from, stands, value}
-use Rattle.interpolate.specs.Filling.{each, fill_dependency, fill_exclusion, fill_execution, fill_plugin, fill_setting, first_name, if_there, name_of, text_of}
+use Rattle.model_values.specs.Values.{◌>>=◌, Filled, stands}
+use Rattle.interpolate.specs.Filling.{each, fill_dependency, fill_exclusion, fill_execution, fill_key, fill_plugin, fill_setting, fill_usage, if_there}
+use Rattle.model_values.specs.Texts.{name_of}
 use Rattle.interpolate.specs.Stands.{dependency_stands, exclusion_stands, plugin_stands, stands_if}
-use Rattle.interpolate.proofs.Lists.{chain, name_there}
+use Rattle.interpolate.proofs.Lists.{chain}
+use Rattle.model_values.proofs.Standing.{name_stands, text_stands}
 
 both_first : (a b : Bool) → (a && b) ≡ true → a ≡ true
 both_first true b e = refl
@@ -21,49 +20,6 @@ both_first false b e = e
 both_second : (a b : Bool) → (a && b) ≡ true → b ≡ true
 both_second true b e = e
 both_second false b e = absurd (false≢true e)
-
-not_so : (b : Bool) → not b ≡ true → b ≡ false
-not_so true e = absurd (false≢true e)
-not_so false e = refl
-
--- a text without a `$` isn't cut
-uncut : (text : List ℕ) → list_any (λ c. c == 36) text ≡ false → cut 36 text ≡ None
-uncut [] none = refl
-uncut (b ∷ text) none = by (b == 36) refl (uncut text)
-  where
-    by : (t : Bool) → (b == 36) ≡ t → (list_any (λ c. c == 36) text ≡ false → cut 36 text ≡ None) → cut 36 (b ∷ text) ≡ None
-    by true is rest = absurd (false≢true (sym none ∙ ap (λ t. t || list_any (λ c. c == 36) text) is))
-    by false is rest =
-        ap (λ t. if t then Some ([], text) else option_map (λ e. (b ∷ e.0, e.1)) (cut 36 text)) is
-        ∙ ap (option_map (λ e. (b ∷ e.0, e.1))) (rest (sym (ap (λ t. t || list_any (λ c. c == 36) text) is) ∙ none))
-
--- so it is one plain piece
-one_piece : (text : List ℕ) → cut 36 text ≡ None → parts text ≡ Plain text ∷ []
-unfolding parts
-one_piece text none = by (length text)
-  where
-    by : (n : ℕ) → parts_within n text ≡ Plain text ∷ []
-    by zero = refl
-    by (suc n) = ap (λ o. split (parts_within n) text (found o)) none
-
-module _ (text : List ℕ) (is : stands text ≡ true) where
-  plain : parts text ≡ Plain text ∷ []
-  plain = one_piece text (uncut text (not_so (list_any (λ c. c == 36) text) (both_first (not (list_any (λ c. c == 36) text)) (not (nat_lt 65536 (length text))) is)))
-
-  short : nat_lt 65536 (length text) ≡ false
-  short = not_so (nat_lt 65536 (length text)) (both_second (not (list_any (λ c. c == 36) text)) (not (nat_lt 65536 (length text))) is)
-
-  -- and filled with any values it is itself
-  pub text_stands : (known : List Pair) (place : List ℕ) → text_of known place text ≡ Ok text
-  unfolding text_of
-  text_stands known place =
-      ap (filled_from place (value known []) []) plain
-      ∙ ap (λ b. (if b then Err (TooLarge, place) else Ok text) >>= (λ more. filled_from place (value known []) more [])) short
-
-  -- no expression is left in it
-  pub name_stands : (known : List Pair) (place : List ℕ) → name_of known place text ≡ Ok text
-  unfolding name_of
-  name_stands known place = name_there (text_of known place text) text (text_stands known place) (ap first_name plain)
 
 module _ (known : List Pair) where
   name_if_stands : (element : List ℕ) (text : Option (List ℕ)) → stands_if text ≡ true → if_there (name_of known element) text ≡ Ok text
@@ -80,6 +36,23 @@ unfolding fill_exclusion
 exclusion_stood known e is =
     chain _ (name_stands e.group (both_first (stands e.group) (stands e.artifact) is) known (codes "groupId"))
     (chain _ (name_stands e.artifact (both_second (stands e.group) (stands e.artifact) is) known (codes "artifactId")) refl)
+
+-- so are the texts that say which artifact is meant
+key_stood : (known : List Pair) (group artifact : List ℕ) (version : Option (List ℕ)) → stands group ≡ true → stands artifact ≡ true → stands_if version ≡ true → fill_key known group artifact version ≡ Ok (record { group = group; artifact = artifact; version = version })
+unfolding fill_key
+key_stood known group artifact version one two three =
+    chain _ (name_stands group one known (codes "groupId"))
+    (chain _ (name_stands artifact two known (codes "artifactId"))
+    (chain _ (name_if_stands known (codes "version") version three) refl))
+
+-- and those that say how a dependency is used
+usage_stood : (known : List Pair) (d : Dependency) → stands d.kind ≡ true → stands d.classifier ≡ true → stands_if d.scope ≡ true → stands d.optional ≡ true → fill_usage known d ≡ Ok (record { kind = d.kind; classifier = d.classifier; scope = d.scope; optional = d.optional })
+unfolding fill_usage
+usage_stood known d one two three four =
+    chain _ (name_stands d.kind one known (codes "type"))
+    (chain _ (name_stands d.classifier two known (codes "classifier"))
+    (chain _ (name_if_stands known (codes "scope") d.scope three)
+    (chain _ (text_stands d.optional four known (codes "optional")) refl)))
 
 -- so is a dependency whose texts do
 pub dependency_stood : (d : Dependency) → dependency_stands d ≡ true → (known : List Pair) → fill_dependency known d ≡ Ok d
@@ -99,14 +72,9 @@ dependency_stood d is known =
     let s5 = both_second (stands d.classifier) from_scope s4 in
     let s6 = both_second (stands_if d.scope) from_optional s5 in
     let s7 = both_second (stands d.optional) all s6 in
-    chain _ (name_stands d.group (both_first (stands d.group) from_artifact is) known (codes "groupId"))
-    (chain _ (name_stands d.artifact (both_first (stands d.artifact) from_version s1) known (codes "artifactId"))
-    (chain _ (name_if_stands known (codes "version") d.version (both_first (stands_if d.version) from_kind s2))
-    (chain _ (name_stands d.kind (both_first (stands d.kind) from_classifier s3) known (codes "type"))
-    (chain _ (name_stands d.classifier (both_first (stands d.classifier) from_scope s4) known (codes "classifier"))
-    (chain _ (name_if_stands known (codes "scope") d.scope (both_first (stands_if d.scope) from_optional s5))
-    (chain _ (text_stands d.optional (both_first (stands d.optional) all s6) known (codes "optional"))
-    (chain _ (each_stands (fill_exclusion known) exclusion_stands (exclusion_stood known) d.exclusions s7) refl)))))))
+    chain _ (key_stood known d.group d.artifact d.version (both_first (stands d.group) from_artifact is) (both_first (stands d.artifact) from_version s1) (both_first (stands_if d.version) from_kind s2))
+    (chain _ (usage_stood known d (both_first (stands d.kind) from_classifier s3) (both_first (stands d.classifier) from_scope s4) (both_first (stands_if d.scope) from_optional s5) (both_first (stands d.optional) all s6))
+    (chain _ (each_stands (fill_exclusion known) exclusion_stands (exclusion_stood known) d.exclusions s7) refl))
 
 nothing : {A : Type 0} (items : List A) → (length items == 0) ≡ true → items ≡ []
 nothing [] none = refl
@@ -134,9 +102,7 @@ plugin_stood p is known =
     let s3 = both_second (stands_if p.version) from_dependencies s2 in
     let s4 = both_second dependencies from_executions s3 in
     let s5 = both_second executions configuration s4 in
-    chain _ (name_stands p.group (both_first (stands p.group) from_artifact is) known (codes "groupId"))
-    (chain _ (name_stands p.artifact (both_first (stands p.artifact) from_version s1) known (codes "artifactId"))
-    (chain _ (name_if_stands known (codes "version") p.version (both_first (stands_if p.version) from_dependencies s2))
+    chain _ (key_stood known p.group p.artifact p.version (both_first (stands p.group) from_artifact is) (both_first (stands p.artifact) from_version s1) (both_first (stands_if p.version) from_dependencies s2))
     (chain _ (each_stands (fill_dependency known) dependency_stands (λ d so. dependency_stood d so known) p.dependencies (both_first dependencies from_executions s3))
     (chain _ (each_none (fill_execution known) p.executions (both_first executions configuration s4))
-    (chain _ (each_none (fill_setting known) p.configuration s5) refl)))))
+    (chain _ (each_none (fill_setting known) p.configuration s5) refl)))

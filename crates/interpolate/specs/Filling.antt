@@ -2,14 +2,12 @@
 -- packaging, the build's folders and final name, what is managed, the dependencies, managed plugins, plugins and extensions, and in each
 -- item the order of its fields.
 use Rattle.std.specs.Prelude.{ℕ, List, [], ◌∷◌, codes, map, Option, None, Some, Result, Ok, Err}
-use Rattle.std.specs.Option.{option_map_or}
 use Rattle.mvn_base.specs.declared.gav.Gav.{Gav}
 use Rattle.mvn_base.specs.declared.machine.Machine.{Machine}
 use Rattle.mvn_base.specs.declared.machine.Pair.{Pair}
 use Rattle.mvn_base.specs.declared.refusal.Place.TheVariants as places
 use Rattle.mvn_base.specs.declared.refusal.PomId.{PomId}
 use Rattle.mvn_base.specs.declared.refusal.Refusal.{Refusal}
-use Rattle.mvn_base.specs.declared.rule.Rule.TheVariants.{Unresolved}
 use Rattle.mvn_base.specs.declared.setting.Setting.{Setting}
 use Rattle.mvn_base.specs.declared.setting.Setting.TheOpen.{Setting-F}
 use Rattle.mvn_base.specs.declared.setting.Setting.TheViews.{roll-Setting}
@@ -25,11 +23,11 @@ use Rattle.model_types.specs.declared.model.ModelBase.{ModelBase}
 use Rattle.model_types.specs.declared.model.RawModel.{RawModel}
 use Rattle.model_types.specs.declared.plugin.Execution.{Execution}
 use Rattle.model_types.specs.declared.plugin.Plugin.{Plugin}
-use Rattle.expressions.specs.declared.part.Part.{Part}
-use Rattle.expressions.specs.declared.part.Part.TheVariants.{Plain, Name}
-use Rattle.expressions.specs.Parts.{parts}
-use Rattle.interpolate.specs.Named.{named}
-use Rattle.interpolate.specs.Values.{Filled, ◌>>=◌, filled, value}
+use Rattle.model_values.specs.Named.{named}
+use Rattle.interpolate.specs.declared.item_parts.ItemKey.{ItemKey}
+use Rattle.interpolate.specs.declared.item_parts.Usage.{Usage}
+use Rattle.model_values.specs.Texts.{name_of, text_of}
+use Rattle.model_values.specs.Values.{Filled, ◌>>=◌}
 
 abbrev pub if_there : {A B : Type 0} → (A → Filled B) → Option A → Filled (Option B)
 if_there f None = Ok None
@@ -43,19 +41,6 @@ in_turn (x ∷ xs) = x >>= (λ y. in_turn xs >>= (λ ys. Ok (y ∷ ys)))
 abbrev pub each : {A B : Type 0} → (A → Filled B) → List A → Filled (List B)
 each f xs = in_turn (map f xs)
 
--- the first expression that stands in a text
-abbrev pub first_name : List Part → Option (List ℕ)
-first_name [] = None
-first_name (Plain text ∷ ps) = first_name ps
-first_name (Name name ∷ ps) = Some name
-
-abbrev pub unresolved : List ℕ → Filled (List ℕ)
-unresolved name = Err (Unresolved, name)
-
--- a text in which no expression may be left
-abbrev pub resolved : List ℕ → Filled (List ℕ)
-resolved text = option_map_or unresolved (first_name (parts text)) (Ok text)
-
 -- a base with these in the place of its own; its modules stay as they are
 abbrev pub with_items : ModelBase → List Pair → List Dependency → List Dependency → ModelBase
 with_items b properties managed dependencies = record { modules = b.modules; properties = properties; managed = managed; dependencies = dependencies }
@@ -64,47 +49,55 @@ with_items b properties managed dependencies = record { modules = b.modules; pro
 abbrev pub with_groups : RawModel → Coordinates → ModelBase → Build → RawModel
 with_groups raw coordinates base build = record { pom = raw.pom; parent = raw.parent; coordinates = coordinates; base = base; build = build; profiles = raw.profiles }
 
+-- a dependency of these parts
+abbrev pub dependency_of : ItemKey → Usage → List Exclusion → Dependency
+dependency_of key usage exclusions = record { group = key.group; artifact = key.artifact; version = key.version; kind = usage.kind; classifier = usage.classifier; scope = usage.scope; optional = usage.optional; exclusions = exclusions }
+
 module _ (known : List Pair) where
-  -- the text of an element of this name
-  unfoldable pub text_of : List ℕ → List ℕ → Filled (List ℕ)
-  text_of element text = filled element (value known []) text
-
-  -- and of one that says which artifact is meant, or its version or scope
-  unfoldable pub name_of : List ℕ → List ℕ → Filled (List ℕ)
-  name_of element text = text_of element text >>= resolved
-
   unfoldable pub fill_property : Pair → Filled Pair
-  fill_property p = text_of p.name p.value >>= (λ value. Ok (record { name = p.name; value = value }))
+  fill_property p = text_of known p.name p.value >>= (λ value. Ok (record { name = p.name; value = value }))
 
   unfoldable pub fill_exclusion : Exclusion → Filled Exclusion
   fill_exclusion e =
-      name_of (codes "groupId") e.group >>= (λ group.
-      name_of (codes "artifactId") e.artifact >>= (λ artifact.
+      name_of known (codes "groupId") e.group >>= (λ group.
+      name_of known (codes "artifactId") e.artifact >>= (λ artifact.
       Ok (record { group = group; artifact = artifact })))
 
   unfoldable pub fill_extension : Gav → Filled Gav
   fill_extension g =
-      name_of (codes "groupId") g.group >>= (λ group.
-      name_of (codes "artifactId") g.artifact >>= (λ artifact.
-      name_of (codes "version") g.version >>= (λ version.
+      name_of known (codes "groupId") g.group >>= (λ group.
+      name_of known (codes "artifactId") g.artifact >>= (λ artifact.
+      name_of known (codes "version") g.version >>= (λ version.
       Ok (record { group = group; artifact = artifact; version = version }))))
+
+  -- the texts that say which artifact an item means
+  unfoldable pub fill_key : List ℕ → List ℕ → Option (List ℕ) → Filled ItemKey
+  fill_key g a v =
+      name_of known (codes "groupId") g >>= (λ group.
+      name_of known (codes "artifactId") a >>= (λ artifact.
+      if_there (name_of known (codes "version")) v >>= (λ version.
+      Ok (record { group = group; artifact = artifact; version = version }))))
+
+  -- the texts that say how a dependency is used
+  unfoldable pub fill_usage : Dependency → Filled Usage
+  fill_usage d =
+      name_of known (codes "type") d.kind >>= (λ kind.
+      name_of known (codes "classifier") d.classifier >>= (λ classifier.
+      if_there (name_of known (codes "scope")) d.scope >>= (λ scope.
+      text_of known (codes "optional") d.optional >>= (λ optional.
+      Ok (record { kind = kind; classifier = classifier; scope = scope; optional = optional })))))
 
   unfoldable pub fill_dependency : Dependency → Filled Dependency
   fill_dependency d =
-      name_of (codes "groupId") d.group >>= (λ group.
-      name_of (codes "artifactId") d.artifact >>= (λ artifact.
-      if_there (name_of (codes "version")) d.version >>= (λ version.
-      name_of (codes "type") d.kind >>= (λ kind.
-      name_of (codes "classifier") d.classifier >>= (λ classifier.
-      if_there (name_of (codes "scope")) d.scope >>= (λ scope.
-      text_of (codes "optional") d.optional >>= (λ optional.
+      fill_key d.group d.artifact d.version >>= (λ key.
+      fill_usage d >>= (λ usage.
       each fill_exclusion d.exclusions >>= (λ exclusions.
-      Ok (record { group = group; artifact = artifact; version = version; kind = kind; classifier = classifier; scope = scope; optional = optional; exclusions = exclusions })))))))))
+      Ok (dependency_of key usage exclusions))))
 
   -- a setting's name stays as it is
   abbrev pub setting_step : Setting-F (Filled Setting) → Filled Setting
   setting_step c =
-      text_of c.name c.text >>= (λ text.
+      text_of known c.name c.text >>= (λ text.
       in_turn c.children >>= (λ children.
       Ok (roll-Setting (record { name = c.name; text = text; children = children }))))
 
@@ -113,44 +106,42 @@ module _ (known : List Pair) where
 
   unfoldable pub fill_execution : Execution → Filled Execution
   fill_execution e =
-      text_of (codes "id") e.id >>= (λ id.
-      if_there (text_of (codes "phase")) e.phase >>= (λ phase.
-      each (text_of (codes "goal")) e.goals >>= (λ goals.
+      text_of known (codes "id") e.id >>= (λ id.
+      if_there (text_of known (codes "phase")) e.phase >>= (λ phase.
+      each (text_of known (codes "goal")) e.goals >>= (λ goals.
       each fill_setting e.configuration >>= (λ configuration.
       Ok (record { id = id; phase = phase; goals = goals; inherited = e.inherited; configuration = configuration })))))
 
   unfoldable pub fill_plugin : Plugin → Filled Plugin
   fill_plugin p =
-      name_of (codes "groupId") p.group >>= (λ group.
-      name_of (codes "artifactId") p.artifact >>= (λ artifact.
-      if_there (name_of (codes "version")) p.version >>= (λ version.
+      fill_key p.group p.artifact p.version >>= (λ key.
       each fill_dependency p.dependencies >>= (λ dependencies.
       each fill_execution p.executions >>= (λ executions.
       each fill_setting p.configuration >>= (λ configuration.
-      Ok (record { group = group; artifact = artifact; version = version; inherited = p.inherited; dependencies = dependencies; executions = executions; configuration = configuration })))))))
+      Ok (record { group = key.group; artifact = key.artifact; version = key.version; inherited = p.inherited; dependencies = dependencies; executions = executions; configuration = configuration })))))
 
   unfoldable pub fill_coordinates : Coordinates → Filled Coordinates
   fill_coordinates c =
-      if_there (name_of (codes "groupId")) c.group >>= (λ group.
-      name_of (codes "artifactId") c.artifact >>= (λ artifact.
-      if_there (name_of (codes "version")) c.version >>= (λ version.
-      text_of (codes "packaging") c.packaging >>= (λ packaging.
+      if_there (name_of known (codes "groupId")) c.group >>= (λ group.
+      name_of known (codes "artifactId") c.artifact >>= (λ artifact.
+      if_there (name_of known (codes "version")) c.version >>= (λ version.
+      text_of known (codes "packaging") c.packaging >>= (λ packaging.
       Ok (record { group = group; artifact = artifact; version = version; packaging = packaging })))))
 
   unfoldable pub fill_outputs : Outputs → Filled Outputs
   fill_outputs o =
-      if_there (text_of (codes "directory")) o.directory >>= (λ directory.
-      if_there (text_of (codes "outputDirectory")) o.output >>= (λ output.
-      if_there (text_of (codes "testOutputDirectory")) o.test_output >>= (λ test_output.
-      if_there (text_of (codes "finalName")) o.final_name >>= (λ final_name.
+      if_there (text_of known (codes "directory")) o.directory >>= (λ directory.
+      if_there (text_of known (codes "outputDirectory")) o.output >>= (λ output.
+      if_there (text_of known (codes "testOutputDirectory")) o.test_output >>= (λ test_output.
+      if_there (text_of known (codes "finalName")) o.final_name >>= (λ final_name.
       Ok (record { directory = directory; output = output; test_output = test_output; final_name = final_name })))))
 
   unfoldable pub fill_sources : Sources → Filled Sources
   fill_sources s =
-      if_there (text_of (codes "sourceDirectory")) s.source >>= (λ source.
-      if_there (text_of (codes "testSourceDirectory")) s.test_source >>= (λ test_source.
-      each (text_of (codes "directory")) s.resources >>= (λ resources.
-      each (text_of (codes "directory")) s.test_resources >>= (λ test_resources.
+      if_there (text_of known (codes "sourceDirectory")) s.source >>= (λ source.
+      if_there (text_of known (codes "testSourceDirectory")) s.test_source >>= (λ test_source.
+      each (text_of known (codes "directory")) s.resources >>= (λ resources.
+      each (text_of known (codes "directory")) s.test_resources >>= (λ test_resources.
       Ok (record { source = source; test_source = test_source; resources = resources; test_resources = test_resources })))))
 
   -- what is managed, and the dependencies; the properties are filled before

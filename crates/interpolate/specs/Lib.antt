@@ -1,5 +1,3 @@
 pub mod Filling
-pub mod Named
-pub mod Tables
-pub mod Values
 pub mod Stands
+pub mod Told

@@ -4,7 +4,7 @@ use Rattle.std.specs.List.{list_all}
 use Rattle.model_types.specs.declared.dependency.Dependency.{Dependency}
 use Rattle.model_types.specs.declared.dependency.Exclusion.{Exclusion}
 use Rattle.model_types.specs.declared.plugin.Plugin.{Plugin}
-use Rattle.interpolate.specs.Values.{stands}
+use Rattle.model_values.specs.Values.{stands}
 
 -- a text that may be missing
 abbrev pub stands_if : Option (List ℕ) → Bool

@@ -1,12 +1,12 @@
 ghost use Rattle.std.specs.Prelude.{◌≡◌, List as Items, [], IfOk};
 ghost use Rattle.mvn_base.specs.declared.machine.Pair as pairs;
 ghost use Rattle.interpolate.specs.Filling.{fill_base, fill_build, fill_build_base, fill_coordinates, fill_outputs, fill_sources, with_items};
-ghost use Rattle.interpolate.specs.Tables.{Gives, IsTable};
+ghost use Rattle.model_values.specs.Tables.{Gives, IsTable};
 
-use crate::fault::FillFault;
-use crate::filler::Filler;
+use crate::beside::beside;
 use crate::items::{Fill, Stand, fill_each, fill_texts, name_if, text_if};
 use model_types::{Build, BuildBase, Coordinates, Dependency, ModelBase, Outputs, Sources};
+use model_values::{FillFault, Filler};
 use mvn_base::Pair;
 use mvn_shared::{List, Mem, Shared};
 use std::alloc::Global;
@@ -23,9 +23,10 @@ impl Fill for Coordinates {
     #[tactic(auto, unfolding(crate::specs::Filling::fill_coordinates))]
     fn fill(&self, alloc: Global, filler: &mut Filler) -> Result<Coordinates, FillFault> {
         let group = name_if(alloc, filler, "groupId", &self.group)?;
-        let artifact = filler.name(alloc, "artifactId", &self.artifact)?;
-        let version = name_if(alloc, filler, "version", &self.version)?;
-        let packaging = filler.text(alloc, "packaging", &self.packaging)?;
+        let named = beside(group, filler.name(alloc, "artifactId", &self.artifact))?;
+        let key = beside(named, name_if(alloc, filler, "version", &self.version))?;
+        let all = beside(key, filler.text(alloc, "packaging", &self.packaging))?;
+        let (((group, artifact), version), packaging) = all;
         Ok(Coordinates {
             group,
             artifact,
@@ -47,9 +48,19 @@ impl Fill for Outputs {
     #[tactic(auto, unfolding(crate::specs::Filling::fill_outputs))]
     fn fill(&self, alloc: Global, filler: &mut Filler) -> Result<Outputs, FillFault> {
         let directory = text_if(alloc, filler, "directory", &self.directory)?;
-        let output = text_if(alloc, filler, "outputDirectory", &self.output)?;
-        let test_output = text_if(alloc, filler, "testOutputDirectory", &self.test_output)?;
-        let final_name = text_if(alloc, filler, "finalName", &self.final_name)?;
+        let main = beside(
+            directory,
+            text_if(alloc, filler, "outputDirectory", &self.output),
+        )?;
+        let folders = beside(
+            main,
+            text_if(alloc, filler, "testOutputDirectory", &self.test_output),
+        )?;
+        let all = beside(
+            folders,
+            text_if(alloc, filler, "finalName", &self.final_name),
+        )?;
+        let (((directory, output), test_output), final_name) = all;
         Ok(Outputs {
             directory,
             output,
@@ -71,9 +82,19 @@ impl Fill for Sources {
     #[tactic(auto, unfolding(crate::specs::Filling::fill_sources))]
     fn fill(&self, alloc: Global, filler: &mut Filler) -> Result<Sources, FillFault> {
         let source = text_if(alloc, filler, "sourceDirectory", &self.source)?;
-        let test_source = text_if(alloc, filler, "testSourceDirectory", &self.test_source)?;
-        let resources = fill_texts(alloc, filler, "directory", &self.resources)?;
-        let test_resources = fill_texts(alloc, filler, "directory", &self.test_resources)?;
+        let sources = beside(
+            source,
+            text_if(alloc, filler, "testSourceDirectory", &self.test_source),
+        )?;
+        let main = beside(
+            sources,
+            fill_texts(alloc, filler, "directory", &self.resources),
+        )?;
+        let all = beside(
+            main,
+            fill_texts(alloc, filler, "directory", &self.test_resources),
+        )?;
+        let (((source, test_source), resources), test_resources) = all;
         Ok(Sources {
             source,
             test_source,

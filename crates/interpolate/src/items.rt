@@ -1,15 +1,17 @@
 ghost use Rattle.std.specs.Prelude.{◌≡◌, List as Items, []};
 ghost use Rattle.std.specs.List.{list_all};
 ghost use Rattle.mvn_base.specs.declared.machine.Pair as pairs;
-ghost use Rattle.interpolate.specs.Filling.{each, fill_dependency, fill_exclusion, fill_execution, fill_extension, fill_plugin, fill_property, fill_setting, if_there, name_of, text_of};
+ghost use Rattle.interpolate.specs.Filling.{dependency_of, each, fill_dependency, fill_exclusion, fill_execution, fill_extension, fill_plugin, fill_property, fill_setting, if_there};
+ghost use Rattle.model_values.specs.Texts.{name_of, text_of};
 ghost use Rattle.interpolate.specs.Stands.{dependency_stands, exclusion_stands, plugin_stands, stands_if};
-ghost use Rattle.interpolate.specs.Tables.{Gives, IsTable};
-ghost use Rattle.interpolate.specs.Values.{Filled};
+ghost use Rattle.model_values.specs.Tables.{Gives, IsTable};
+ghost use Rattle.model_values.specs.Values.{Filled};
 
-use crate::fault::FillFault;
-use crate::filler::{Filler, stands};
+use crate::beside::beside;
+use crate::item_parts::{ItemKey, Usage, fill_key, fill_usage};
 use crate::settings::fill_configuration;
 use model_types::{Dependency, Exclusion, Execution, Plugin};
+use model_values::{FillFault, Filler, stands};
 use mvn_base::{Gav, Pair};
 use mvn_shared::{List, Shared, Text};
 use std::alloc::Global;
@@ -18,8 +20,8 @@ use std::alloc::Global;
 pub(crate) trait Fill: Sized + Drop {
     ghost use Rattle.std.specs.Prelude.{List as Items, []};
     ghost use Rattle.mvn_base.specs.declared.machine.Pair.{Pair};
-    ghost use Rattle.interpolate.specs.Values.{Filled};
-    ghost use Rattle.interpolate.specs.Tables.{Gives, IsTable};
+    ghost use Rattle.model_values.specs.Values.{Filled};
+    ghost use Rattle.model_values.specs.Tables.{Gives, IsTable};
 
     /// With its texts filled, by what can be named.
     ghost filled: { Items Pair → Self → Filled Self };
@@ -244,29 +246,43 @@ impl Fill for Gav {
     }
 }
 
+// A dependency of these parts.
+fn dependency_of(key: ItemKey, usage: Usage, exclusions: List<Exclusion>) -> Dependency
+    ensures { result ≡ dependency_of key usage exclusions }
+{
+    let ItemKey {
+        group,
+        artifact,
+        version,
+    } = key;
+    let Usage {
+        kind,
+        classifier,
+        scope,
+        optional,
+    } = usage;
+    Dependency {
+        group,
+        artifact,
+        version,
+        kind,
+        classifier,
+        scope,
+        optional,
+        exclusions,
+    }
+}
+
 impl Fill for Dependency {
     ghost filled = { fill_dependency };
 
     #[tactic(auto, unfolding(crate::specs::Filling::fill_dependency))]
     fn fill(&self, alloc: Global, filler: &mut Filler) -> Result<Dependency, FillFault> {
-        let group = filler.name(alloc, "groupId", &self.group)?;
-        let artifact = filler.name(alloc, "artifactId", &self.artifact)?;
-        let version = name_if(alloc, filler, "version", &self.version)?;
-        let kind = filler.name(alloc, "type", &self.kind)?;
-        let classifier = filler.name(alloc, "classifier", &self.classifier)?;
-        let scope = name_if(alloc, filler, "scope", &self.scope)?;
-        let optional = filler.text(alloc, "optional", &self.optional)?;
-        let exclusions = fill_each(alloc, filler, &self.exclusions)?;
-        Ok(Dependency {
-            group,
-            artifact,
-            version,
-            kind,
-            classifier,
-            scope,
-            optional,
-            exclusions,
-        })
+        let key = fill_key(alloc, filler, &self.group, &self.artifact, &self.version)?;
+        let parts = beside(key, fill_usage(alloc, filler, self))?;
+        let all = beside(parts, fill_each(alloc, filler, &self.exclusions))?;
+        let ((key, usage), exclusions) = all;
+        Ok(dependency_of(key, usage, exclusions))
     }
 }
 
@@ -276,9 +292,10 @@ impl Fill for Execution {
     #[tactic(auto, unfolding(crate::specs::Filling::fill_execution))]
     fn fill(&self, alloc: Global, filler: &mut Filler) -> Result<Execution, FillFault> {
         let id = filler.text(alloc, "id", &self.id)?;
-        let phase = text_if(alloc, filler, "phase", &self.phase)?;
-        let goals = fill_texts(alloc, filler, "goal", &self.goals)?;
-        let configuration = fill_configuration(alloc, filler, &self.configuration)?;
+        let bound = beside(id, text_if(alloc, filler, "phase", &self.phase))?;
+        let runs = beside(bound, fill_texts(alloc, filler, "goal", &self.goals))?;
+        let all = beside(runs, fill_configuration(alloc, filler, &self.configuration))?;
+        let (((id, phase), goals), configuration) = all;
         Ok(Execution {
             id,
             phase,
@@ -294,12 +311,16 @@ impl Fill for Plugin {
 
     #[tactic(auto, unfolding(crate::specs::Filling::fill_plugin))]
     fn fill(&self, alloc: Global, filler: &mut Filler) -> Result<Plugin, FillFault> {
-        let group = filler.name(alloc, "groupId", &self.group)?;
-        let artifact = filler.name(alloc, "artifactId", &self.artifact)?;
-        let version = name_if(alloc, filler, "version", &self.version)?;
-        let dependencies = fill_each(alloc, filler, &self.dependencies)?;
-        let executions = fill_each(alloc, filler, &self.executions)?;
-        let configuration = fill_configuration(alloc, filler, &self.configuration)?;
+        let key = fill_key(alloc, filler, &self.group, &self.artifact, &self.version)?;
+        let needs = beside(key, fill_each(alloc, filler, &self.dependencies))?;
+        let runs = beside(needs, fill_each(alloc, filler, &self.executions))?;
+        let all = beside(runs, fill_configuration(alloc, filler, &self.configuration))?;
+        let (((key, dependencies), executions), configuration) = all;
+        let ItemKey {
+            group,
+            artifact,
+            version,
+        } = key;
         Ok(Plugin {
             group,
             artifact,

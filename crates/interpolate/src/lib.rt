@@ -1,13 +1,11 @@
 //! Expressions in a model, and what they stand for.
 #![tactic(auto)]
 
-mod fault;
-mod filler;
+mod beside;
 mod groups;
+mod item_parts;
 mod items;
 mod model;
-mod named;
 mod settings;
-mod step;
 
 pub use model::fill;

@@ -5,14 +5,13 @@ ghost use Rattle.mvn_base.specs.declared.machine.Pair as pairs;
 ghost use Rattle.mvn_base.specs.declared.refusal.Refusal as refusals;
 ghost use Rattle.model_types.specs.declared.model.RawModel as models;
 ghost use Rattle.interpolate.specs.Filling.{fill, fill_groups, fill_model, with_groups};
-ghost use Rattle.interpolate.specs.Tables.{Gives, IsTable, TellsOf};
+ghost use Rattle.model_values.specs.Tables.{Gives, IsTable};
+ghost use Rattle.interpolate.specs.Told.{TellsOf};
 
-use crate::fault::FillFault;
-use crate::filler::Filler;
 use crate::groups::{fill_base, fill_build};
 use crate::items::{Fill, fill_each};
-use crate::named::named;
 use model_types::{Build, Coordinates, ModelBase, RawModel};
+use model_values::{FillFault, Filler, named};
 use mvn_base::{Machine, ModelError, Pair, Place, Refusal};
 use mvn_shared::{Mem, Shared, Text};
 use std::alloc::Global;

@@ -1,10 +1,9 @@
 ghost use Rattle.std.specs.Prelude.{List as Items, []};
 ghost use Rattle.mvn_base.specs.declared.machine.Pair as pairs;
 ghost use Rattle.interpolate.specs.Filling.{each, fill_setting};
-ghost use Rattle.interpolate.specs.Tables.{Gives, IsTable};
+ghost use Rattle.model_values.specs.Tables.{Gives, IsTable};
 
-use crate::fault::FillFault;
-use crate::filler::Filler;
+use model_values::{FillFault, Filler};
 use mvn_base::Setting;
 use mvn_shared::{List, Shared};
 use std::alloc::Global;

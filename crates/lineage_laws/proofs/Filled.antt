@@ -6,9 +6,10 @@ use Rattle.mvn_base.specs.declared.machine.Pair.{Pair}
 use Rattle.mvn_base.specs.declared.refusal.PomId.{PomId}
 use Rattle.model_types.specs.declared.model.Coordinates.{Coordinates}
 use Rattle.model_types.specs.declared.model.RawModel.{RawModel}
-use Rattle.interpolate.specs.Filling.{each, fill, fill_base, fill_build, fill_coordinates, fill_groups, fill_model, fill_outputs, fill_property, fill_sources, if_there, name_of, refused_in, text_of, with_groups}
-use Rattle.interpolate.specs.Named.{named}
-use Rattle.interpolate.specs.Values.{Filled, ◌>>=◌}
+use Rattle.interpolate.specs.Filling.{each, fill, fill_base, fill_build, fill_coordinates, fill_groups, fill_model, fill_outputs, fill_property, fill_sources, if_there, refused_in, with_groups}
+use Rattle.model_values.specs.Named.{named}
+use Rattle.model_values.specs.Texts.{name_of, text_of}
+use Rattle.model_values.specs.Values.{Filled, ◌>>=◌}
 use Rattle.lineage_laws.specs.Lines.{is_stated}
 use Rattle.lineage_laws.proofs.Once.{and_left, and_right, both_true}
 

@@ -1,7 +1,7 @@
 use Rattle.std.proofs.Common.{◌+◌, drop, ap, ◌∙◌}
 use Rattle.std.proofs.lemmas.List.{drop_all}
 use Rattle.interpolate.specs.Filling.{each}
-use Rattle.interpolate.specs.Tables.{prefixed}
+use Rattle.interpolate.specs.Told.{prefixed}
 use Rattle.interpolate.proofs.Lists.{each_more, list_done, list_fails}
 use Rattle.interpolate.proofs.items.fill_each.Goals as goal
 

@@ -1,7 +1,8 @@
 use Rattle.std.proofs.Common.{◌≡◌, List, [], drop}
 use Rattle.mvn_base.specs.declared.machine.Pair.{Pair}
 use Rattle.interpolate.specs.Filling.{each}
-use Rattle.interpolate.specs.Tables.{IsTable, prefixed}
+use Rattle.model_values.specs.Tables.{IsTable}
+use Rattle.interpolate.specs.Told.{prefixed}
 use Rattle.interpolate.proofs.items.fill_each.Given as goal
 
 abbrev pub invariant-loop-item : goal.invariant-loop-item

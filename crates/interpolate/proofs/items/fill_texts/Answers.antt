@@ -1,7 +1,8 @@
 use Rattle.std.proofs.Common.{◌+◌, drop, ap, ◌∙◌}
 use Rattle.std.proofs.lemmas.List.{drop_all}
-use Rattle.interpolate.specs.Filling.{each, text_of}
-use Rattle.interpolate.specs.Tables.{prefixed}
+use Rattle.interpolate.specs.Filling.{each}
+use Rattle.model_values.specs.Texts.{text_of}
+use Rattle.interpolate.specs.Told.{prefixed}
 use Rattle.interpolate.proofs.Lists.{each_more, list_done, list_fails}
 use Rattle.interpolate.proofs.items.fill_texts.Goals as goal
 

@@ -1,7 +1,9 @@
 use Rattle.std.proofs.Common.{◌≡◌, List, [], drop}
 use Rattle.mvn_base.specs.declared.machine.Pair.{Pair}
-use Rattle.interpolate.specs.Filling.{each, text_of}
-use Rattle.interpolate.specs.Tables.{IsTable, prefixed}
+use Rattle.interpolate.specs.Filling.{each}
+use Rattle.model_values.specs.Texts.{text_of}
+use Rattle.model_values.specs.Tables.{IsTable}
+use Rattle.interpolate.specs.Told.{prefixed}
 use Rattle.interpolate.proofs.items.fill_texts.Given as goal
 
 abbrev pub invariant-loop-text : goal.invariant-loop-text

@@ -1,5 +1,6 @@
 use Rattle.std.proofs.Common.{refl, ap, ◌∙◌}
-use Rattle.interpolate.specs.Filling.{if_there, name_of}
+use Rattle.interpolate.specs.Filling.{if_there}
+use Rattle.model_values.specs.Texts.{name_of}
 use Rattle.interpolate.proofs.Lists.{chain}
 use Rattle.interpolate.proofs.items.name_if.Goals as goal
 

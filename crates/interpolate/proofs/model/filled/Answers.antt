@@ -1,6 +1,6 @@
 use Rattle.std.proofs.Common.{subst}
 use Rattle.interpolate.specs.Filling.{fill_groups}
-use Rattle.interpolate.specs.Tables.{Gives}
+use Rattle.model_values.specs.Tables.{Gives}
 use Rattle.interpolate.proofs.model.filled.Goals as goal
 
 pub returns : goal.returns

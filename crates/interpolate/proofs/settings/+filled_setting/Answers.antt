@@ -1,8 +1,9 @@
 use Rattle.std.proofs.Common.{◌≡◌, ◌+◌, drop, rules, sym, ap, ◌∙◌}
 use Rattle.std.proofs.lemmas.List.{drop_all}
 use Rattle.mvn_base.specs.declared.setting.Setting.TheViews.{out-Setting}
-use Rattle.interpolate.specs.Filling.{each, fill_setting, text_of}
-use Rattle.interpolate.specs.Tables.{prefixed}
+use Rattle.interpolate.specs.Filling.{each, fill_setting}
+use Rattle.model_values.specs.Texts.{text_of}
+use Rattle.interpolate.specs.Told.{prefixed}
 use Rattle.interpolate.proofs.Lists.{each_more, list_done, list_fails, setting_done, setting_fails}
 use Rattle.interpolate.proofs.settings.+filled_setting.Goals as goal
 

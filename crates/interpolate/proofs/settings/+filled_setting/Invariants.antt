@@ -1,7 +1,8 @@
 use Rattle.std.proofs.Common.{◌≡◌, List, [], drop}
 use Rattle.mvn_base.specs.declared.machine.Pair.{Pair}
 use Rattle.interpolate.specs.Filling.{each, fill_setting}
-use Rattle.interpolate.specs.Tables.{IsTable, prefixed}
+use Rattle.model_values.specs.Tables.{IsTable}
+use Rattle.interpolate.specs.Told.{prefixed}
 use Rattle.interpolate.proofs.settings.+filled_setting.Given as goal
 
 abbrev pub invariant-fill_settings-loop-setting : goal.invariant-fill_settings-loop-setting

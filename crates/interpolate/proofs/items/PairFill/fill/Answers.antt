@@ -1,5 +1,5 @@
 use Rattle.std.proofs.Common.{◌≡◌, rules, sym, ap, ◌∙◌}
-use Rattle.interpolate.specs.Filling.{text_of}
+use Rattle.model_values.specs.Texts.{text_of}
 use Rattle.interpolate.proofs.Lists.{property_done}
 use Rattle.interpolate.proofs.items.PairFill.fill.Goals as goal
 

@@ -1,0 +1,4 @@
+mod Lists
+mod Plain
+pub mod Standing
+mod Steps

@@ -1,0 +1,4 @@
+pub mod Named
+pub mod Tables
+pub mod Texts
+pub mod Values

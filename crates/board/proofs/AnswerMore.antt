@@ -15,10 +15,10 @@ use Rattle.build_core.specs.Slots.{GoalsEnd, all_answered, goal_failed, kept_of,
 use Rattle.event_core.specs.Enabled.{Enabled}
 use Rattle.event_core.specs.Runs.{answers_in, goals_in, module_by}
 use Rattle.event_core.specs.Standing.{course_of, module_of, standing_of}
-use Rattle.event_core.specs.declared.deed.Deed.TheVariants as deed
+use Rattle.module_scripts.specs.declared.deed.Deed.TheVariants as deed
 use Rattle.event_core.specs.declared.entry.Carried.TheVariants as carried
 use Rattle.event_core.specs.declared.entry.RunEntry.{RunEntry}
-use Rattle.event_core.specs.declared.outline.Outline.{Outline}
+use Rattle.module_scripts.specs.declared.outline.Outline.{Outline}
 use Rattle.event_core.proofs.Weights.{nothing_is}
 use Rattle.goal_answers.specs.Tables.{goal_counts}
 use Rattle.run_law.proofs.Complete.{at_work}

@@ -13,16 +13,16 @@ use Rattle.build_core.specs.declared.plan.Origin.{Origin}
 use Rattle.build_core.specs.declared.plan.Origin.TheVariants as origin
 use Rattle.build_core.specs.declared.plan.Plan.{Plan}
 use Rattle.build_core.specs.declared.plan.PlanModule.{PlanModule}
-use Rattle.event_core.specs.declared.deed.Deed.{Deed}
-use Rattle.event_core.specs.declared.deed.Deed.TheVariants as deed
-use Rattle.event_core.specs.declared.outline.ModuleOutline.{ModuleOutline}
-use Rattle.event_core.specs.declared.outline.Outline.{Outline}
-use Rattle.event_core.specs.Climbing.{but}
+use Rattle.module_scripts.specs.declared.deed.Deed.{Deed}
+use Rattle.module_scripts.specs.declared.deed.Deed.TheVariants as deed
+use Rattle.module_scripts.specs.declared.outline.ModuleOutline.{ModuleOutline}
+use Rattle.module_scripts.specs.declared.outline.Outline.{Outline}
+use Rattle.module_scripts.specs.Climbing.{but}
 use Rattle.event_core.specs.Enabled.{Enabled, IsRun, is_due}
-use Rattle.event_core.specs.Outlines.{files_of, files_read, is_listed, module_outline, once_more, outline_of}
-use Rattle.event_core.specs.Scripts.{Script, Step, absent, answers, choice_script, done, fetches, frees, install_script, is_there, is_wanted, lock_script, may_publish, own_script, publishes, read_script, reads, release_script, script_of, settled, stage_of, step, steps, takes, whole, is_gathered, wanted}
+use Rattle.module_scripts.specs.Outlines.{files_of, files_read, is_empty, is_listed, module_outline, once_more, outline_of}
+use Rattle.module_scripts.specs.Scripts.{Script, Step, absent, answers, choice_script, done, fetches, frees, install_script, is_there, is_wanted, lock_script, may_publish, own_script, publishes, read_script, reads, release_script, script_of, settled, stage_of, step, steps, takes, whole, is_gathered, wanted}
 use Rattle.event_core.specs.SoundPlans.{IsSoundPlan, is_backed}
-use Rattle.event_core.specs.Standing.{Course, Standing, after, after_deed, after_free, course_of, goals_of, held_by, idle, is_empty, module_of, off_course, on_course, standing_of, start_of}
+use Rattle.event_core.specs.Standing.{Course, Standing, after, after_deed, after_free, course_of, goals_of, held_by, idle, module_of, off_course, on_course, standing_of, start_of}
 use Rattle.event_core.proofs.Ties.{any_idle}
 use Rattle.event_core.proofs.Weights.{nothing_is}
 use Rattle.run_law.proofs.Basics.{and_is, both3, chosen}

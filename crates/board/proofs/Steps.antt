@@ -17,16 +17,17 @@ use Rattle.build_core.specs.declared.plan.Plan.{Plan}
 use Rattle.event_core.specs.Causes.{cause_now, hold_cause, where_found}
 use Rattle.event_core.specs.Enabled.{Enabled, is_due, may_end_so}
 use Rattle.event_core.specs.Going.{AreOn, GoesOn, IsDue, NamesAscend, NeverWaits}
-use Rattle.event_core.specs.Outlines.{outline_of}
+use Rattle.module_scripts.specs.Outlines.{outline_of}
 use Rattle.event_core.specs.Sound.{IsSound}
 use Rattle.event_core.specs.SoundPlans.{IsSoundPlan}
 use Rattle.event_core.specs.Runs.{events_of, is_quiet_event}
-use Rattle.event_core.specs.Standing.{Course, Standing, course_of, first_lost, first_not_built, held_by, idle, is_complete, is_ready, is_skippable, is_waiting, module_of, off_course, on_course, progress_of, standing_of}
-use Rattle.event_core.specs.declared.deed.Deed.TheVariants as deed
-use Rattle.event_core.specs.declared.outline.Outline.{Outline}
+use Rattle.module_progress.specs.HowFar.{first_lost, first_not_built, is_ready, is_skippable, is_waiting, progress_of}
+use Rattle.event_core.specs.Standing.{Course, Standing, course_of, held_by, idle, is_complete, module_of, off_course, on_course, standing_of}
+use Rattle.module_scripts.specs.declared.deed.Deed.TheVariants as deed
+use Rattle.module_scripts.specs.declared.outline.Outline.{Outline}
 use Rattle.event_core.specs.declared.refused.NotEnabled.{NotEnabled}
 use Rattle.event_core.specs.declared.refused.NotEnabled.TheVariants.{Lock}
-use Rattle.event_core.proofs.Climbs.{both}
+use Rattle.module_scripts.proofs.Climbs.{both}
 use Rattle.event_core.proofs.Law.{cause_none, none_above}
 use Rattle.event_core.proofs.Weights.{nothing_is}
 use Rattle.goal_answers.specs.Tables.{goal_counts}

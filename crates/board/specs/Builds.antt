@@ -22,14 +22,15 @@ use Rattle.build_core.specs.OneThread.{name_of}
 use Rattle.build_core.specs.Slots.{GoalsEnd, slot_bytes}
 use Rattle.event_core.specs.Enabled.{Enabled}
 use Rattle.event_core.specs.Going.{AreOn, GoesOn}
-use Rattle.event_core.specs.Outlines.{outline_of}
+use Rattle.module_scripts.specs.Outlines.{outline_of}
 use Rattle.event_core.specs.Runs.{IsQuiet, answers_in, events_of, goals_in, module_by, standing_of_run}
-use Rattle.event_core.specs.Scripts.{is_there}
-use Rattle.event_core.specs.Standing.{Standing, course_of, is_complete, is_ready, is_skippable, module_of}
+use Rattle.module_scripts.specs.Scripts.{is_there}
+use Rattle.module_progress.specs.HowFar.{is_ready, is_skippable}
+use Rattle.event_core.specs.Standing.{Standing, course_of, is_complete, module_of}
 use Rattle.event_core.specs.declared.entry.Carried.{Carried}
 use Rattle.event_core.specs.declared.entry.Carried.TheVariants as carried
 use Rattle.event_core.specs.declared.entry.RunEntry.{RunEntry}
-use Rattle.event_core.specs.declared.outline.Outline.{Outline}
+use Rattle.module_scripts.specs.declared.outline.Outline.{Outline}
 use Rattle.event_core.specs.Worlds.{is_too_large_at}
 use Rattle.goal_answers.specs.declared.walk.GoalsStand.{GoalsStand}
 use Rattle.goal_answers.specs.declared.walk.GoalsStand.TheVariants as stand

@@ -7,8 +7,8 @@ use Rattle.build_core.specs.declared.event.Event.TheVariants as event
 use Rattle.event_core.specs.Causes.{cause_now}
 use Rattle.event_core.specs.Enabled.{Enabled, IsRun, is_due}
 use Rattle.event_core.specs.Standing.{course_of, standing_of}
-use Rattle.event_core.specs.declared.deed.Deed.TheVariants.{Take}
-use Rattle.event_core.specs.declared.outline.Outline.{Outline}
+use Rattle.module_scripts.specs.declared.deed.Deed.TheVariants.{Take}
+use Rattle.module_scripts.specs.declared.outline.Outline.{Outline}
 use Rattle.event_core.specs.declared.refused.NotEnabled.{NotEnabled}
 use Rattle.event_core.proofs.Law.{cause_none}
 use Rattle.event_core.proofs.Weights.{nothing_is}

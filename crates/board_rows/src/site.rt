@@ -1,6 +1,6 @@
 // A board, and beside it a core with the same events, which says what may come next.
 ghost use Rattle.std.specs.Prelude.{◌≡◌, ◌<◌, ◌^◌, ◌∷◌, ◌++◌, [], length, true, IfSome};
-ghost use Rattle.event_core.specs.Outlines.{outline_of};
+ghost use Rattle.module_scripts.specs.Outlines.{outline_of};
 ghost use Rattle.event_core.specs.Runs.{events_of};
 ghost use Rattle.event_core.specs.SoundPlans.{IsSoundPlan};
 ghost use Rattle.mvn_outside.specs.Shelf.{files_now};

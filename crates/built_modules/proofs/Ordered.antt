@@ -12,8 +12,8 @@ use Rattle.model_types.specs.declared.model.Model.{Model}
 use Rattle.reactor_order.specs.Graph.{has}
 use Rattle.mvn_base.specs.Gav.{gav_eq}
 use Rattle.classpaths.specs.declared.resolution.Resolution.{Resolution}
-use Rattle.event_core.specs.Climbing.{Climbs}
-use Rattle.event_core.specs.Outlines.{is_listed}
+use Rattle.module_scripts.specs.Climbing.{Climbs}
+use Rattle.module_scripts.specs.Outlines.{is_listed}
 use Rattle.event_core.specs.Sound.{are_below}
 use Rattle.goal_types.specs.declared.goal.SourceFile.{SourceFile}
 use Rattle.model_resolver.specs.declared.resolver.ProjectPom.{ProjectPom}

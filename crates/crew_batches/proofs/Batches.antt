@@ -9,21 +9,21 @@ use Rattle.name_locks.specs.declared.mode.Mode.TheVariants.{Shared, Exclusive}
 use Rattle.build_core.specs.declared.event.Event.TheVariants as event
 use Rattle.build_core.specs.declared.plan.Plan.{Plan}
 use Rattle.build_core.specs.declared.plan.PlanModule.{PlanModule}
-use Rattle.event_core.specs.declared.deed.Deed.TheVariants as deed
-use Rattle.event_core.specs.declared.outline.ModuleOutline.{ModuleOutline}
-use Rattle.event_core.specs.declared.script_place.ScriptPlace.{ScriptPlace}
-use Rattle.event_core.specs.declared.script_place.ScriptPlace.TheVariants as place
+use Rattle.module_scripts.specs.declared.deed.Deed.TheVariants as deed
+use Rattle.module_scripts.specs.declared.outline.ModuleOutline.{ModuleOutline}
+use Rattle.module_scripts.specs.declared.script_place.ScriptPlace.{ScriptPlace}
+use Rattle.module_scripts.specs.declared.script_place.ScriptPlace.TheVariants as place
 use Rattle.event_core.specs.Causes.{stage_at}
 use Rattle.event_core.specs.Enabled.{is_due}
-use Rattle.event_core.specs.Outlines.{is_listed}
+use Rattle.module_scripts.specs.Outlines.{is_empty, is_listed}
 use Rattle.event_core.specs.Runs.{module_by, standing_of_run}
-use Rattle.event_core.specs.ScriptPlaces.{rest_of}
-use Rattle.event_core.specs.Scripts.{Script, choice_script, done, fetches, is_there, read_script, settled, stage_of, steps, takes}
+use Rattle.module_scripts.specs.ScriptPlaces.{rest_of}
+use Rattle.module_scripts.specs.Scripts.{Script, choice_script, done, fetches, is_there, read_script, settled, stage_of, steps, takes}
 use Rattle.event_core.specs.SoundPlans.{IsSoundPlan}
-use Rattle.event_core.specs.Standing.{after_deed, is_empty, module_of, on_course}
+use Rattle.event_core.specs.Standing.{after_deed, module_of, on_course}
 use Rattle.event_core.specs.Worlds.{FitsTake, Stood}
-use Rattle.event_core.proofs.Dues.{lock_yes, share_yes}
-use Rattle.event_core.proofs.ScriptPlaces.{free_held, lock_more, locking_end, share_more, steps_at, steps_end}
+use Rattle.module_scripts.proofs.Dues.{lock_yes, share_yes}
+use Rattle.module_scripts.proofs.ScriptPlaces.{free_held, lock_more, locking_end, share_more, steps_at, steps_end}
 use Rattle.crew_laws.specs.Absent.{IsFirstAbsent}
 use Rattle.crew_laws.proofs.Settling.{choosing, fetching, late}
 use Rattle.atomic_table.specs.Seated.{TableId}

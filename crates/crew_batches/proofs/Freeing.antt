@@ -7,11 +7,11 @@ use Rattle.std.proofs.lemmas.List.Elements.{All-get_or}
 use Rattle.build_core.specs.declared.event.Event.TheVariants as event
 use Rattle.build_core.specs.declared.plan.Plan.{Plan}
 use Rattle.event_core.specs.declared.entry.RunEntry.{RunEntry}
-use Rattle.event_core.specs.declared.outline.Outline.{Outline}
-use Rattle.event_core.specs.Climbing.{Climbs, but}
-use Rattle.event_core.specs.Outlines.{is_listed, outline_of}
+use Rattle.module_scripts.specs.declared.outline.Outline.{Outline}
+use Rattle.module_scripts.specs.Climbing.{Climbs, but}
+use Rattle.module_scripts.specs.Outlines.{is_empty, is_listed, outline_of}
 use Rattle.event_core.specs.Runs.{IsRunOf, answers_in, events_of, goals_in, module_by, standing_of_run}
-use Rattle.event_core.specs.Standing.{Course, Standing, after_free, course_of, held_by, is_empty, module_of}
+use Rattle.event_core.specs.Standing.{Course, Standing, after_free, course_of, held_by, module_of}
 use Rattle.event_core.proofs.Ties.{free_module}
 use Rattle.run_law.proofs.Complete.{IsStanding, standing}
 use Rattle.run_law.proofs.Kept.{answers_more}

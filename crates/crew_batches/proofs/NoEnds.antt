@@ -7,12 +7,13 @@ use Rattle.build_core.specs.declared.event.Event.{Event}
 use Rattle.build_core.specs.declared.event.Event.TheVariants as event
 use Rattle.build_core.specs.declared.plan.Plan.{Plan}
 use Rattle.event_core.specs.declared.entry.RunEntry.{RunEntry}
-use Rattle.event_core.specs.declared.outline.Outline.{Outline}
-use Rattle.event_core.specs.declared.progress.Progress.TheVariants.{Waiting, Ended}
+use Rattle.module_scripts.specs.declared.outline.Outline.{Outline}
+use Rattle.module_progress.specs.declared.progress.Progress.TheVariants.{Waiting, Ended}
 use Rattle.event_core.specs.Enabled.{Enabled, IsEnabled}
-use Rattle.event_core.specs.Outlines.{outline_of}
+use Rattle.module_scripts.specs.Outlines.{outline_of}
 use Rattle.event_core.specs.Runs.{IsRunOf, events_of, module_by, standing_of_run}
-use Rattle.event_core.specs.Standing.{Standing, after, course_of, ended, is_over, module_of, progress_of}
+use Rattle.module_progress.specs.HowFar.{is_over, progress_of}
+use Rattle.event_core.specs.Standing.{Standing, after, course_of, ended, module_of}
 use Rattle.event_core.proofs.Fits.{fold_more}
 use Rattle.event_core.proofs.Weights.{nothing_is}
 use Rattle.run_law.proofs.Complete.{IsStanding, standing}

@@ -8,12 +8,12 @@ use Rattle.mvn_outside.specs.Shelf.{files_now}
 use Rattle.build_core.specs.declared.event.Event.{Event}
 use Rattle.build_core.specs.declared.plan.Plan.{Plan}
 use Rattle.build_core.specs.declared.plan.PlanModule.{PlanModule}
-use Rattle.event_core.specs.declared.deed.Deed.{Deed}
+use Rattle.module_scripts.specs.declared.deed.Deed.{Deed}
 use Rattle.event_core.specs.declared.entry.RunEntry.{RunEntry}
 use Rattle.event_core.specs.Causes.{stage_at}
 use Rattle.event_core.specs.Enabled.{is_due}
 use Rattle.event_core.specs.Runs.{IsRunOf, module_by, standing_of_run}
-use Rattle.event_core.specs.Scripts.{stage_of}
+use Rattle.module_scripts.specs.Scripts.{stage_of}
 use Rattle.event_core.specs.Standing.{Course, course_of, idle, module_of, off_course, on_course}
 use Rattle.event_core.specs.Worlds.{FitsTake, stood}
 use Rattle.run_law.proofs.Basics.{and_is}

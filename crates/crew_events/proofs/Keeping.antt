@@ -14,21 +14,21 @@ use Rattle.build_core.specs.OneThread.{request}
 use Rattle.build_core.specs.Slots.{GoalsEnd, all_answered, goal_failed, kept_of, one_goal, output_too_large}
 use Rattle.build_core.specs.declared.event.Event.TheVariants as event
 use Rattle.build_core.specs.declared.plan.Plan.{Plan}
-use Rattle.event_core.specs.declared.deed.Deed.TheVariants as deed
+use Rattle.module_scripts.specs.declared.deed.Deed.TheVariants as deed
 use Rattle.event_core.specs.declared.entry.Carried.TheVariants as carried
 use Rattle.event_core.specs.declared.entry.RunEntry.{RunEntry}
-use Rattle.event_core.specs.declared.outline.ModuleOutline.{ModuleOutline}
-use Rattle.event_core.specs.declared.script_place.ScriptPlace.TheVariants as place
+use Rattle.module_scripts.specs.declared.outline.ModuleOutline.{ModuleOutline}
+use Rattle.module_scripts.specs.declared.script_place.ScriptPlace.TheVariants as place
 use Rattle.event_core.specs.Causes.{stage_at}
 use Rattle.event_core.specs.Enabled.{Enabled, IsEnabled, goal_in_range, is_due}
-use Rattle.event_core.specs.Outlines.{module_outline, outline_of}
+use Rattle.module_scripts.specs.Outlines.{module_outline, outline_of}
 use Rattle.event_core.specs.Runs.{IsRunOf, answers_in, contents, goals_in, module_by, outputs_in, standing_of_run}
-use Rattle.event_core.specs.ScriptPlaces.{rest_of}
-use Rattle.event_core.specs.Scripts.{Script, answers, answers_left, install_script, steps}
+use Rattle.module_scripts.specs.ScriptPlaces.{rest_of}
+use Rattle.module_scripts.specs.Scripts.{Script, answers, answers_left, install_script, steps}
 use Rattle.event_core.specs.Standing.{course_of, module_of, on_course}
 use Rattle.event_core.specs.Worlds.{Fits, FitsAnswer, FitsModule, HandTold, TellsAnswer, is_good, is_told, is_told_by, stood}
-use Rattle.event_core.proofs.Dues.{answer_yes}
-use Rattle.event_core.proofs.ScriptPlaces.{answering_stays, length_below}
+use Rattle.module_scripts.proofs.Dues.{answer_yes}
+use Rattle.module_scripts.proofs.ScriptPlaces.{answering_stays, length_below}
 use Rattle.run_law.proofs.Stored.{get_in, get_map}
 use Rattle.worker_law.proofs.Staying.{course_stays, goals_stay, request_stays}
 use Rattle.crew_laws.proofs.Answering.{answered}

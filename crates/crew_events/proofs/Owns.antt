@@ -8,13 +8,13 @@ use Rattle.build_core.specs.declared.event.Event.TheVariants as event
 use Rattle.build_core.specs.declared.plan.OwnFile.{OwnFile}
 use Rattle.build_core.specs.declared.plan.Plan.{Plan}
 use Rattle.build_core.specs.declared.plan.PlanModule.{PlanModule}
-use Rattle.event_core.specs.declared.deed.Deed.TheVariants as deed
+use Rattle.module_scripts.specs.declared.deed.Deed.TheVariants as deed
 use Rattle.event_core.specs.declared.entry.RunEntry.{RunEntry}
-use Rattle.event_core.specs.declared.outline.Outline.{Outline}
+use Rattle.module_scripts.specs.declared.outline.Outline.{Outline}
 use Rattle.event_core.specs.Enabled.{IsRun, is_due}
-use Rattle.event_core.specs.Outlines.{is_listed, module_outline, outline_of}
+use Rattle.module_scripts.specs.Outlines.{is_listed, module_outline, outline_of}
 use Rattle.event_core.specs.Runs.{IsRunOf, events_of, module_by, standing_of_run}
-use Rattle.event_core.specs.Scripts.{Script, absent, answers, done, fetches, frees, may_publish, publishes, reads, step, takes, wanted, whole}
+use Rattle.module_scripts.specs.Scripts.{Script, absent, answers, done, fetches, frees, may_publish, publishes, reads, step, takes, wanted, whole}
 use Rattle.event_core.specs.SoundPlans.{IsSoundPlan}
 use Rattle.event_core.specs.Standing.{Standing, after, course_of, module_of, on_course, standing_of}
 use Rattle.event_core.proofs.Ties.{some_same}

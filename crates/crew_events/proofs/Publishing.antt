@@ -13,13 +13,13 @@ use Rattle.build_core.specs.declared.event.Event.TheVariants as event
 use Rattle.build_core.specs.declared.plan.OwnFile.{OwnFile}
 use Rattle.build_core.specs.declared.plan.Plan.{Plan}
 use Rattle.build_core.specs.declared.plan.PlanModule.{PlanModule}
-use Rattle.event_core.specs.declared.deed.Deed.TheVariants as deed
+use Rattle.module_scripts.specs.declared.deed.Deed.TheVariants as deed
 use Rattle.event_core.specs.declared.entry.Carried.{Carried}
 use Rattle.event_core.specs.declared.entry.Carried.TheVariants as carried
 use Rattle.event_core.specs.declared.entry.RunEntry.{RunEntry}
 use Rattle.event_core.specs.Causes.{stage_at}
 use Rattle.event_core.specs.Enabled.{Enabled, IsEnabled, is_due}
-use Rattle.event_core.specs.Outlines.{is_listed, outline_of}
+use Rattle.module_scripts.specs.Outlines.{is_listed, outline_of}
 use Rattle.event_core.specs.Runs.{IsRunOf, contents, module_by, standing_of_run}
 use Rattle.event_core.specs.Standing.{course_of, module_of}
 use Rattle.event_core.specs.Worlds.{Fits, FitsBytes, FitsModule, FitsPublish, HandTold, Stood, TellsBytes, is_told, is_told_by, stood}

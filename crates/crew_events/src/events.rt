@@ -10,7 +10,7 @@ ghost use Rattle.build_core.specs.declared.event.Event.TheVariants as event;
 ghost use Rattle.event_core.specs.Enabled.{is_due};
 ghost use Rattle.event_core.specs.Runs.{module_by};
 ghost use Rattle.event_core.specs.Worlds.{FitsAnswer, HandTold};
-ghost use Rattle.event_core.specs.declared.deed.Deed.TheVariants as deed;
+ghost use Rattle.module_scripts.specs.declared.deed.Deed.TheVariants as deed;
 ghost use Rattle.event_core.specs.declared.entry.Carried.TheVariants as carried;
 ghost use Rattle.run_law.specs.Given.{outputs_after};
 ghost use Rattle.board.specs.Builds.{answer_kept, standing_at};

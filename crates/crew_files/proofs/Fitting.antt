@@ -4,11 +4,11 @@ use Rattle.std.proofs.lemmas.Bool.{false≢true}
 use Rattle.mvn_shared.specs.Files.{Files}
 use Rattle.mvn_outside.specs.Pieces.{Contents}
 use Rattle.build_core.specs.OneThread.{name_of, remote_bytes}
-use Rattle.event_core.specs.Outlines.{is_listed}
+use Rattle.module_scripts.specs.Outlines.{is_listed}
 use Rattle.event_core.specs.Worlds.{FitsBytes, HandTold, TellsBytes, tells_bytes}
 use Rattle.event_core.specs.declared.entry.Carried.{Carried}
 use Rattle.event_core.specs.declared.entry.Carried.TheVariants as carried
-use Rattle.event_core.proofs.Climbs.{both}
+use Rattle.module_scripts.proofs.Climbs.{both}
 use Rattle.crew_turns.specs.Seen.{Told}
 use Rattle.crew_turns.specs.Tasks.{ModuleTask, stood_by}
 use Rattle.crew_stages.specs.Hands.{Test, told_by}

@@ -5,11 +5,12 @@ use Rattle.mvn_shared.specs.Files.{Files}
 use Rattle.name_locks.specs.declared.mode.Mode.TheVariants.{Exclusive, Shared}
 use Rattle.build_core.specs.declared.ending.Ending.{Ending}
 use Rattle.build_core.specs.declared.plan.Plan.{Plan}
-use Rattle.event_core.specs.declared.script_place.ScriptPlace.TheVariants as place
-use Rattle.event_core.specs.ScriptPlaces.{rest_of}
-use Rattle.event_core.specs.Scripts.{script_of, settled}
-use Rattle.event_core.specs.Standing.{is_empty, on_course}
-use Rattle.event_core.specs.declared.outline.ModuleOutline.{ModuleOutline}
+use Rattle.module_scripts.specs.declared.script_place.ScriptPlace.TheVariants as place
+use Rattle.module_scripts.specs.ScriptPlaces.{rest_of}
+use Rattle.module_scripts.specs.Scripts.{script_of, settled}
+use Rattle.module_scripts.specs.Outlines.{is_empty}
+use Rattle.event_core.specs.Standing.{on_course}
+use Rattle.module_scripts.specs.declared.outline.ModuleOutline.{ModuleOutline}
 use Rattle.crew_turns.specs.Seen.{KeepsFit, Told, course_by, names_by, there_by}
 use Rattle.crew_turns.specs.Tasks.{HasBegun, ModuleTask, plan_outline, unit_outline}
 use Rattle.crew_stages.specs.Hands.{Test, told_by}

@@ -7,18 +7,18 @@ use Rattle.std.proofs.lemmas.List.{get_or-set_same}
 use Rattle.name_locks.specs.Locks.{below}
 use Rattle.name_locks.specs.declared.mode.Mode.TheVariants.{Exclusive}
 use Rattle.build_core.specs.declared.event.Event.TheVariants as event
-use Rattle.event_core.specs.declared.deed.Deed.TheVariants as deed
+use Rattle.module_scripts.specs.declared.deed.Deed.TheVariants as deed
 use Rattle.event_core.specs.declared.entry.Carried.{Carried}
 use Rattle.event_core.specs.declared.entry.RunEntry.{RunEntry}
-use Rattle.event_core.specs.declared.outline.ModuleOutline.{ModuleOutline}
-use Rattle.event_core.specs.declared.script_place.ScriptPlace.TheVariants as place
+use Rattle.module_scripts.specs.declared.outline.ModuleOutline.{ModuleOutline}
+use Rattle.module_scripts.specs.declared.script_place.ScriptPlace.TheVariants as place
 use Rattle.event_core.specs.Enabled.{Enabled, is_due}
-use Rattle.event_core.specs.Outlines.{is_listed, outline_of}
+use Rattle.module_scripts.specs.Outlines.{is_empty, is_listed, outline_of}
 use Rattle.event_core.specs.Runs.{IsRunOf, events_of, module_by, standing_of_run}
-use Rattle.event_core.specs.ScriptPlaces.{rest_of}
-use Rattle.event_core.specs.Scripts.{Script, answers, install_script, own_script, reads, release_script, settled, stage_of, step, steps, takes, whole}
-use Rattle.event_core.specs.Standing.{Standing, after, after_deed, course_of, held_by, idle, is_empty, module_of, on_course}
-use Rattle.event_core.proofs.Dues.{fetch_yes}
+use Rattle.module_scripts.specs.ScriptPlaces.{rest_of}
+use Rattle.module_scripts.specs.Scripts.{Script, answers, install_script, own_script, reads, release_script, settled, stage_of, step, steps, takes, whole}
+use Rattle.event_core.specs.Standing.{Standing, after, after_deed, course_of, held_by, idle, module_of, on_course}
+use Rattle.module_scripts.proofs.Dues.{fetch_yes}
 use Rattle.run_law.proofs.Complete.{standing}
 use Rattle.run_law.proofs.LaterMoments.{front, next_is}
 use Rattle.worker_law.proofs.Staying.{course_stays, gathered, held_stays}

@@ -9,16 +9,17 @@ use Rattle.build_core.specs.declared.ending.Device.{Device}
 use Rattle.build_core.specs.declared.ending.Device.TheVariants as device
 use Rattle.build_core.specs.declared.ending.Ending.{Ending}
 use Rattle.build_core.specs.declared.ending.Ending.TheVariants as ending
-use Rattle.event_core.specs.declared.script_place.ScriptPlace.TheVariants as place
-use Rattle.event_core.specs.Enabled.{ending_in_range, is_this, may_end_so}
-use Rattle.event_core.specs.Outlines.{module_outline}
+use Rattle.module_scripts.specs.declared.script_place.ScriptPlace.TheVariants as place
+use Rattle.module_progress.specs.HowFar.{is_this}
+use Rattle.event_core.specs.Enabled.{ending_in_range, may_end_so}
+use Rattle.module_scripts.specs.Outlines.{module_outline}
 use Rattle.event_core.specs.Runs.{standing_of_run}
-use Rattle.event_core.specs.ScriptPlaces.{rest_of}
-use Rattle.event_core.specs.Scripts.{read_script, fetches, wanted}
+use Rattle.module_scripts.specs.ScriptPlaces.{rest_of}
+use Rattle.module_scripts.specs.Scripts.{read_script, fetches, wanted}
 use Rattle.event_core.specs.Standing.{Course, course_of, held_by, module_of, off_course, on_course}
 use Rattle.event_core.specs.SoundPlans.{IsSoundPlan}
 use Rattle.event_core.specs.Worlds.{FitsEnd, HandTold}
-use Rattle.event_core.proofs.ScriptPlaces.{steps_at}
+use Rattle.module_scripts.proofs.ScriptPlaces.{steps_at}
 use Rattle.run_law.proofs.Ready.{all_listed}
 use Rattle.run_law.proofs.Sounds.{fetch_low}
 use Rattle.run_law.proofs.Stored.{get_map}

@@ -3,7 +3,7 @@
 ghost use Rattle.std.specs.Prelude.{◌≡◌, ◌<◌, None, false, is_some, Option, IfErr, IfOk, IfSome};
 ghost use Rattle.name_locks.specs.declared.mode.Mode.TheVariants.{Exclusive, Shared};
 ghost use Rattle.build_core.specs.declared.ending.Device.TheVariants as device;
-ghost use Rattle.event_core.specs.Standing.{is_empty};
+ghost use Rattle.module_scripts.specs.Outlines.{is_empty};
 ghost use Rattle.crew_stages.specs.Endings.{fails_by, stops_by};
 ghost use Rattle.crew_turns.specs.Seen.{Follows, IsOf, KeepsFit, names_by};
 ghost use Rattle.crew_turns.specs.Tasks.{HasBegun};

@@ -15,12 +15,12 @@ use Rattle.build_core.specs.declared.plan.PlanModule.{PlanModule}
 use Rattle.event_core.specs.declared.entry.Carried.{Carried}
 use Rattle.event_core.specs.declared.entry.Carried.TheVariants as carried
 use Rattle.event_core.specs.declared.entry.RunEntry.{RunEntry}
-use Rattle.event_core.specs.declared.script_place.ScriptPlace.TheVariants as place
+use Rattle.module_scripts.specs.declared.script_place.ScriptPlace.TheVariants as place
 use Rattle.event_core.specs.Enabled.{Enabled}
-use Rattle.event_core.specs.Outlines.{module_outline, outline_of}
+use Rattle.module_scripts.specs.Outlines.{module_outline, outline_of}
 use Rattle.event_core.specs.Runs.{IsRunOf, answers_in, contents, events_of, goals_in, module_by, outputs_in, standing_of_run}
-use Rattle.event_core.specs.ScriptPlaces.{rest_of}
-use Rattle.event_core.specs.Scripts.{settled}
+use Rattle.module_scripts.specs.ScriptPlaces.{rest_of}
+use Rattle.module_scripts.specs.Scripts.{settled}
 use Rattle.event_core.specs.SoundPlans.{IsSoundPlan}
 use Rattle.event_core.specs.Standing.{course_of, held_by, module_of, on_course}
 use Rattle.event_core.specs.Worlds.{IsGates, IsWithin, stood}

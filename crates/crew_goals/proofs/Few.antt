@@ -3,7 +3,7 @@ use Rattle.std.proofs.Common.{◌≡◌, ℕ, zero, suc, ◌+◌, ◌*◌, ◌�
 use Rattle.std.proofs.lemmas.Bool.{false≢true}
 use Rattle.build_core.specs.declared.plan.Plan.{Plan}
 use Rattle.build_core.specs.declared.plan.PlanModule.{PlanModule}
-use Rattle.event_core.specs.Bounds.{total}
+use Rattle.module_scripts.specs.Bounds.{total}
 use Rattle.event_core.specs.SoundPlans.{IsSoundPlan, greatest_events}
 
 -- what one item counts is within what all count

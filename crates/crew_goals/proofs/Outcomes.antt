@@ -12,7 +12,7 @@ use Rattle.build_core.specs.declared.ending.Device.TheVariants as device
 use Rattle.build_core.specs.declared.ending.Ending.{Ending}
 use Rattle.build_core.specs.declared.ending.Ending.TheVariants as ending
 use Rattle.event_core.specs.Worlds.{has_failed_at, is_too_large_at}
-use Rattle.event_core.proofs.Climbs.{both}
+use Rattle.module_scripts.proofs.Climbs.{both}
 use Rattle.event_core.proofs.Weights.{nothing_is}
 use Rattle.board.specs.Builds.{answer_kept}
 use Rattle.board.specs.declared.next.AnswerKept.{AnswerKept}

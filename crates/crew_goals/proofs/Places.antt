@@ -5,14 +5,15 @@ use Rattle.std.proofs.lemmas.List.{get_or-set_same}
 use Rattle.name_locks.specs.Locks.{below}
 use Rattle.name_locks.specs.declared.mode.Mode.TheVariants.{Exclusive}
 use Rattle.build_core.specs.declared.event.Event.TheVariants as event
-use Rattle.event_core.specs.declared.deed.Deed.TheVariants as deed
-use Rattle.event_core.specs.declared.outline.ModuleOutline.{ModuleOutline}
-use Rattle.event_core.specs.declared.outline.Outline.{Outline}
-use Rattle.event_core.specs.declared.script_place.ScriptPlace.TheVariants as place
-use Rattle.event_core.specs.ScriptPlaces.{rest_of}
-use Rattle.event_core.specs.Scripts.{Script, answers, answers_left, done, install_script, own_script, settled, stage_of, step, steps, takes, whole}
-use Rattle.event_core.specs.Standing.{Course, Standing, after, after_deed, course_of, held_by, idle, is_empty, on_course}
-use Rattle.event_core.proofs.Dues.{answer_yes}
+use Rattle.module_scripts.specs.declared.deed.Deed.TheVariants as deed
+use Rattle.module_scripts.specs.declared.outline.ModuleOutline.{ModuleOutline}
+use Rattle.module_scripts.specs.declared.outline.Outline.{Outline}
+use Rattle.module_scripts.specs.declared.script_place.ScriptPlace.TheVariants as place
+use Rattle.module_scripts.specs.ScriptPlaces.{rest_of}
+use Rattle.module_scripts.specs.Scripts.{Script, answers, answers_left, done, install_script, own_script, settled, stage_of, step, steps, takes, whole}
+use Rattle.event_core.specs.Standing.{Course, Standing, after, after_deed, course_of, held_by, idle, on_course}
+use Rattle.module_scripts.specs.Outlines.{is_empty}
+use Rattle.module_scripts.proofs.Dues.{answer_yes}
 use Rattle.crew_laws.proofs.Orders.{read_left}
 use Rattle.crew_laws.proofs.Settling.{late}
 use Rattle.crew_goals.proofs.Outcomes.{itself}

@@ -21,14 +21,14 @@ use Rattle.build_core.specs.declared.plan.PlanModule.{PlanModule}
 use Rattle.event_core.specs.declared.entry.Carried.{Carried}
 use Rattle.event_core.specs.declared.entry.Carried.TheVariants as carried
 use Rattle.event_core.specs.declared.entry.RunEntry.{RunEntry}
-use Rattle.event_core.specs.declared.outline.ModuleOutline.{ModuleOutline}
-use Rattle.event_core.specs.declared.script_place.ScriptPlace.TheVariants as place
+use Rattle.module_scripts.specs.declared.outline.ModuleOutline.{ModuleOutline}
+use Rattle.module_scripts.specs.declared.script_place.ScriptPlace.TheVariants as place
 use Rattle.event_core.specs.Enabled.{ending_in_range, may_end_so}
-use Rattle.event_core.specs.Outlines.{module_outline}
+use Rattle.module_scripts.specs.Outlines.{module_outline}
 use Rattle.event_core.specs.Runs.{IsRunOf, standing_of_run}
-use Rattle.event_core.specs.ScriptPlaces.{rest_of}
-use Rattle.event_core.specs.Scripts.{Script}
-use Rattle.event_core.specs.Scripts as scripts
+use Rattle.module_scripts.specs.ScriptPlaces.{rest_of}
+use Rattle.module_scripts.specs.Scripts.{Script}
+use Rattle.module_scripts.specs.Scripts as scripts
 use Rattle.event_core.specs.SoundPlans.{is_call}
 use Rattle.event_core.specs.Standing.{Course, course_of, goals_of, held_by, module_of, on_course}
 use Rattle.event_core.specs.Worlds.{FitsAnswer, FitsEnd, HandTold, IsWithin, is_good, stood}

@@ -11,15 +11,16 @@ use Rattle.build_core.specs.Slots.{kept_of}
 use Rattle.build_core.specs.declared.event.Event.TheVariants as event
 use Rattle.build_core.specs.declared.plan.Plan.{Plan}
 use Rattle.build_core.specs.declared.plan.PlanModule.{PlanModule}
-use Rattle.event_core.specs.declared.deed.Deed.{Deed}
-use Rattle.event_core.specs.declared.deed.Deed.TheVariants as deed
+use Rattle.module_scripts.specs.declared.deed.Deed.{Deed}
+use Rattle.module_scripts.specs.declared.deed.Deed.TheVariants as deed
 use Rattle.event_core.specs.declared.entry.Carried.{Carried}
 use Rattle.event_core.specs.declared.entry.RunEntry.{RunEntry}
-use Rattle.event_core.specs.declared.outline.Outline.{Outline}
+use Rattle.module_scripts.specs.declared.outline.Outline.{Outline}
 use Rattle.event_core.specs.Runs.{answers_in, contents, goals_in, outputs_from, outputs_in, put_carried}
-use Rattle.event_core.specs.Scripts.{Script, done, settled}
+use Rattle.module_scripts.specs.Scripts.{Script, done, settled}
 use Rattle.event_core.specs.SoundPlans.{IsSoundPlan, is_own}
-use Rattle.event_core.specs.Standing.{Standing, after, after_deed, course_of, held_by, idle, is_empty, on_course}
+use Rattle.event_core.specs.Standing.{Standing, after, after_deed, course_of, held_by, idle, on_course}
+use Rattle.module_scripts.specs.Outlines.{is_empty}
 use Rattle.event_core.specs.Worlds.{IsInstallable, IsWithin, is_good, publishes, stood, was_published}
 use Rattle.event_core.proofs.Fits.{fold_more}
 use Rattle.run_law.proofs.Basics.{or_right}

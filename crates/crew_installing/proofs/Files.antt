@@ -82,7 +82,7 @@ none_put contents faults pieces t lock own pass area of at = record {
 
 -- one more in order
 less_or_last : (i count : ℕ) → i < count + 1 → (i < count) ⊎ (i ≡ count)
-less_or_last i count low = by (Rattle.event_core.proofs.Dues.below_or_not i count)
+less_or_last i count low = by (Rattle.module_scripts.proofs.Dues.below_or_not i count)
   where
     by : (i < count) ⊎ (count ≤ i) → (i < count) ⊎ (i ≡ count)
     by (inl less) = inl less

@@ -16,9 +16,9 @@ use Rattle.build_core.specs.declared.ending.Ending.{Ending}
 use Rattle.build_core.specs.declared.plan.OwnFile.{OwnFile}
 use Rattle.event_core.specs.declared.entry.Carried.{Carried}
 use Rattle.event_core.specs.declared.entry.Carried.TheVariants as carried
-use Rattle.event_core.specs.Outlines.{is_listed}
+use Rattle.module_scripts.specs.Outlines.{is_listed}
 use Rattle.event_core.specs.Worlds.{FitsBytes, HandTold, IsInstallable, TellsBytes, own_of}
-use Rattle.event_core.proofs.Climbs.{both}
+use Rattle.module_scripts.proofs.Climbs.{both}
 use Rattle.atomic_table.specs.Seated.{TableId}
 use Rattle.crew_turns.specs.Ends.{ends_as}
 use Rattle.crew_turns.specs.Seen.{IsOf, KeepsFit, Told}

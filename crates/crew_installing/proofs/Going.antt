@@ -8,20 +8,20 @@ use Rattle.build_core.specs.Slots.{kept_of}
 use Rattle.build_core.specs.declared.event.Event.{Event}
 use Rattle.build_core.specs.declared.event.Event.TheVariants as event
 use Rattle.build_core.specs.declared.plan.OwnFile.{OwnFile}
-use Rattle.event_core.specs.declared.deed.Deed.TheVariants as deed
+use Rattle.module_scripts.specs.declared.deed.Deed.TheVariants as deed
 use Rattle.event_core.specs.declared.entry.RunEntry.{RunEntry}
-use Rattle.event_core.specs.declared.outline.ModuleOutline.{ModuleOutline}
-use Rattle.event_core.specs.declared.script_place.ScriptPlace.TheVariants as place
+use Rattle.module_scripts.specs.declared.outline.ModuleOutline.{ModuleOutline}
+use Rattle.module_scripts.specs.declared.script_place.ScriptPlace.TheVariants as place
 use Rattle.event_core.specs.Causes.{stage_at}
 use Rattle.event_core.specs.Enabled.{Enabled, IsRun, is_due}
-use Rattle.event_core.specs.Outlines.{outline_of}
+use Rattle.module_scripts.specs.Outlines.{outline_of}
 use Rattle.event_core.specs.Runs.{IsRunOf, answers_in, events_of, goals_in, standing_of_run}
-use Rattle.event_core.specs.ScriptPlaces.{rest_of}
-use Rattle.event_core.specs.Scripts.{Script, done, frees, may_publish, own_script, stage_of, step, steps, takes, whole}
+use Rattle.module_scripts.specs.ScriptPlaces.{rest_of}
+use Rattle.module_scripts.specs.Scripts.{Script, done, frees, may_publish, own_script, stage_of, step, steps, takes, whole}
 use Rattle.event_core.specs.SoundPlans.{IsSoundPlanModule}
 use Rattle.event_core.specs.Standing.{after, course_of, held_by, module_of, on_course}
 use Rattle.event_core.specs.Worlds.{FitsTake, IsInstallable, stood, was_published}
-use Rattle.event_core.proofs.ScriptPlaces.{install_held}
+use Rattle.module_scripts.proofs.ScriptPlaces.{install_held}
 use Rattle.run_law.proofs.Complete.{IsStanding, standing}
 use Rattle.run_law.proofs.LaterMoments.{front, next_is, put_stays}
 use Rattle.run_law.proofs.Stored.{length_map}
@@ -45,7 +45,7 @@ steps_six : (xs : List ℕ) → stage_of (steps 6 may_publish xs (step 6 frees w
 steps_six [] = refl
 steps_six (x ∷ xs) = refl
 
-own_six : (i : ℕ) (own : List ℕ) → stage_of (Rattle.event_core.specs.ScriptPlaces.own_from i own) ≡ 6
+own_six : (i : ℕ) (own : List ℕ) → stage_of (Rattle.module_scripts.specs.ScriptPlaces.own_from i own) ≡ 6
 own_six zero [] = refl
 own_six zero (x ∷ own) = refl
 own_six (suc i) own = steps_six (drop (suc i) own)

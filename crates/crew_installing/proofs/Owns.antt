@@ -11,7 +11,7 @@ use Rattle.build_core.specs.OneThread.{own_bytes}
 use Rattle.build_core.specs.Slots.{slot_number}
 use Rattle.build_core.specs.declared.plan.OwnFile.{OwnFile}
 use Rattle.build_core.specs.declared.plan.PlanModule.{PlanModule}
-use Rattle.event_core.specs.Outlines.{is_listed}
+use Rattle.module_scripts.specs.Outlines.{is_listed}
 use Rattle.event_core.specs.SoundPlans.{pom_first}
 use Rattle.event_core.proofs.Weights.{nothing_is}
 use Rattle.run_law.proofs.Basics.{and_is, or_right}

@@ -4,13 +4,13 @@ use Rattle.std.specs.List.{AllByRecursion, IsDistinct}
 use Rattle.std.proofs.lemmas.Bool.Decides.{nat_tests}
 use Rattle.std.proofs.lemmas.Map.Keys.{IsDistinct-head, IsDistinct-tail}
 use Rattle.name_locks.specs.declared.mode.Mode.TheVariants.{Exclusive}
-use Rattle.event_core.specs.declared.outline.ModuleOutline.{ModuleOutline}
-use Rattle.event_core.specs.declared.deed.Deed.TheVariants as deed
-use Rattle.event_core.specs.declared.script_place.ScriptPlace.TheVariants as place
-use Rattle.event_core.specs.Scripts.{done, frees, may_publish, own_script, settled, step, steps, takes, whole}
-use Rattle.event_core.specs.ScriptPlaces.{rest_of}
-use Rattle.event_core.proofs.Dues.{found_own, own_freed_yes, own_yes, pass_own, pom_yes, stop_own}
-use Rattle.event_core.proofs.ScriptPlaces.{answering_end, own_end, securing_stays}
+use Rattle.module_scripts.specs.declared.outline.ModuleOutline.{ModuleOutline}
+use Rattle.module_scripts.specs.declared.deed.Deed.TheVariants as deed
+use Rattle.module_scripts.specs.declared.script_place.ScriptPlace.TheVariants as place
+use Rattle.module_scripts.specs.Scripts.{done, frees, may_publish, own_script, settled, step, steps, takes, whole}
+use Rattle.module_scripts.specs.ScriptPlaces.{rest_of}
+use Rattle.module_scripts.proofs.Dues.{found_own, own_freed_yes, own_yes, pass_own, pom_yes, stop_own}
+use Rattle.module_scripts.proofs.ScriptPlaces.{answering_end, own_end, securing_stays}
 
 itself : (n : ℕ) → nat_eq n n ≡ true
 itself n = grind (arith, nat_tests)

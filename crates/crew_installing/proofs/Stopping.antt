@@ -8,18 +8,18 @@ use Rattle.build_core.specs.Slots.{kept_of}
 use Rattle.build_core.specs.declared.ending.Device.TheVariants as device
 use Rattle.build_core.specs.declared.ending.Ending.{Ending}
 use Rattle.build_core.specs.declared.ending.Ending.TheVariants as ending
-use Rattle.event_core.specs.declared.deed.Deed.TheVariants as deed
-use Rattle.event_core.specs.declared.outline.ModuleOutline.{ModuleOutline}
-use Rattle.event_core.specs.declared.outline.Outline.{Outline}
-use Rattle.event_core.specs.declared.script_place.ScriptPlace.TheVariants as place
+use Rattle.module_scripts.specs.declared.deed.Deed.TheVariants as deed
+use Rattle.module_scripts.specs.declared.outline.ModuleOutline.{ModuleOutline}
+use Rattle.module_scripts.specs.declared.outline.Outline.{Outline}
+use Rattle.module_scripts.specs.declared.script_place.ScriptPlace.TheVariants as place
 use Rattle.event_core.specs.Enabled.{ending_in_range, may_end_so, needs_artifact}
-use Rattle.event_core.specs.Outlines.{module_outline}
+use Rattle.module_scripts.specs.Outlines.{module_outline}
 use Rattle.event_core.specs.Runs.{IsRunOf, module_by}
-use Rattle.event_core.specs.ScriptPlaces.{rest_of}
-use Rattle.event_core.specs.Scripts.{Script, done, is_gathered, own_script, settled, step, takes, wanted, whole}
+use Rattle.module_scripts.specs.ScriptPlaces.{rest_of}
+use Rattle.module_scripts.specs.Scripts.{Script, done, is_gathered, own_script, settled, step, takes, wanted, whole}
 use Rattle.event_core.specs.Standing.{Course, after_free, goals_of, module_of, off_course, on_course}
 use Rattle.event_core.specs.Worlds.{FitsEnd, HandTold, is_installed}
-use Rattle.event_core.proofs.Climbs.{both}
+use Rattle.module_scripts.proofs.Climbs.{both}
 use Rattle.run_law.proofs.Basics.{or_right}
 use Rattle.run_law.proofs.Stored.{get_map}
 use Rattle.atomic_table.specs.Seated.{TableId}

@@ -17,21 +17,22 @@ use Rattle.build_core.specs.declared.event.Event.{Event}
 use Rattle.build_core.specs.declared.event.Event.TheVariants as event
 use Rattle.build_core.specs.declared.plan.Plan.{Plan}
 use Rattle.build_core.specs.declared.plan.PlanModule.{PlanModule}
-use Rattle.event_core.specs.declared.deed.Deed.{Deed}
-use Rattle.event_core.specs.declared.deed.Deed.TheVariants as deed
+use Rattle.module_scripts.specs.declared.deed.Deed.{Deed}
+use Rattle.module_scripts.specs.declared.deed.Deed.TheVariants as deed
 use Rattle.event_core.specs.declared.entry.Carried.{Carried}
 use Rattle.event_core.specs.declared.entry.Carried.TheVariants as carried
 use Rattle.event_core.specs.declared.entry.RunEntry.{RunEntry}
-use Rattle.event_core.specs.declared.outline.ModuleOutline.{ModuleOutline}
-use Rattle.event_core.specs.declared.outline.Outline.{Outline}
-use Rattle.event_core.specs.declared.progress.Progress.{Progress}
-use Rattle.event_core.specs.declared.progress.Progress.TheVariants.{Ended, Running, Skipped}
-use Rattle.event_core.specs.Climbing.{but}
+use Rattle.module_scripts.specs.declared.outline.ModuleOutline.{ModuleOutline}
+use Rattle.module_scripts.specs.declared.outline.Outline.{Outline}
+use Rattle.module_progress.specs.declared.progress.Progress.{Progress}
+use Rattle.module_progress.specs.declared.progress.Progress.TheVariants.{Ended, Running, Skipped}
+use Rattle.module_scripts.specs.Climbing.{but}
 use Rattle.event_core.specs.Enabled.{Enabled, IsEnabled, IsRun}
-use Rattle.event_core.specs.Outlines.{module_outline, outline_of}
+use Rattle.module_scripts.specs.Outlines.{is_empty, module_outline, outline_of}
 use Rattle.event_core.specs.Runs.{IsRunOf, answers_in, events_of, goals_in, kept_by, standing_of_run}
-use Rattle.event_core.specs.Scripts.{Script, answers_left, done, script_of, settled, whole}
-use Rattle.event_core.specs.Standing.{Course, Standing, after, after_deed, after_free, course_of, ended, goals_of, held_by, idle, is_empty, is_waiting, module_of, off_course, on_course, progress_of, start_of}
+use Rattle.module_scripts.specs.Scripts.{Script, answers_left, done, script_of, settled, whole}
+use Rattle.module_progress.specs.HowFar.{is_waiting, progress_of}
+use Rattle.event_core.specs.Standing.{Course, Standing, after, after_deed, after_free, course_of, ended, goals_of, held_by, idle, module_of, off_course, on_course, start_of}
 use Rattle.event_core.proofs.Fits.{same_or_not}
 use Rattle.event_core.proofs.Ties.{any_idle}
 use Rattle.event_core.proofs.Weights.{nothing_is}
@@ -225,7 +226,7 @@ module _ (o : Outline) where
     free_numbered (off_course number file gathered) is = tt
     free_numbered (on_course number script last) is = by (done script deed.Free) refl
       where
-        by : (found : Option Script) → done script deed.Free ≡ found → IsNumbered kept (option_map_or (λ rest. on_course number (settled there (is_empty held) rest) None) found (off_course number (Rattle.event_core.specs.Scripts.wanted script) (Rattle.event_core.specs.Scripts.is_gathered (goals_of o number) script)))
+        by : (found : Option Script) → done script deed.Free ≡ found → IsNumbered kept (option_map_or (λ rest. on_course number (settled there (is_empty held) rest) None) found (off_course number (Rattle.module_scripts.specs.Scripts.wanted script) (Rattle.module_scripts.specs.Scripts.is_gathered (goals_of o number) script)))
         by None e = tt
         by (Some rest) e = left_numbered number script rest last None deed.Free e is
 

@@ -16,11 +16,11 @@ use Rattle.build_core.specs.declared.plan.PlanModule.{PlanModule}
 use Rattle.event_core.specs.declared.entry.Carried.{Carried}
 use Rattle.event_core.specs.declared.entry.Carried.TheVariants as carried
 use Rattle.event_core.specs.declared.entry.RunEntry.{RunEntry}
-use Rattle.event_core.specs.Outlines.{is_listed}
+use Rattle.module_scripts.specs.Outlines.{is_listed}
 use Rattle.event_core.specs.Runs.{IsRunOf, answers_in, contents, goals_in, kept_by, module_by, outputs_in, put_carried}
 use Rattle.event_core.specs.SoundPlans.{IsSoundPlan, is_own}
 use Rattle.event_core.specs.Worlds.{FitsEnd, HandTold, IsBeyond, IsInstallable, IsWithin, is_good, is_installed, is_lacking, stood, was_published}
-use Rattle.event_core.proofs.Climbs.{both}
+use Rattle.module_scripts.proofs.Climbs.{both}
 use Rattle.event_core.proofs.Fits.{fold_more}
 use Rattle.run_law.proofs.Basics.{and_is}
 use Rattle.run_law.proofs.Carried.{at_insert}

@@ -2,14 +2,15 @@
 use Rattle.std.proofs.Common.{◌≡◌, ℕ, ◌+◌, ◌<◌, Bool, true, false, nat_eq, List, [], length, drop, get_or, slice_get, Option, Some, None, unwrap_or, refl, arith, sym, ap, subst, ◌∙◌, if◌then◌else◌}
 use Rattle.std.specs.Option.{option_map_or}
 use Rattle.std.proofs.lemmas.Bool.Decides.{nat_tests}
-use Rattle.event_core.specs.declared.deed.Deed.TheVariants as deed
-use Rattle.event_core.specs.declared.outline.ModuleOutline.{ModuleOutline}
-use Rattle.event_core.specs.declared.outline.Outline.{Outline}
-use Rattle.event_core.specs.declared.script_place.ScriptPlace.TheVariants as place
-use Rattle.event_core.specs.ScriptPlaces.{rest_of}
-use Rattle.event_core.specs.Scripts.{Script, absent, answers, answers_left, done, fetches, frees, is_gathered, may_publish, publishes, read_script, reads, release_script, settled, step, steps, takes, wanted, whole}
-use Rattle.event_core.specs.Standing.{Course, after_free, goals_of, idle, is_empty, off_course, on_course}
-use Rattle.event_core.proofs.ScriptPlaces.{steps_at}
+use Rattle.module_scripts.specs.declared.deed.Deed.TheVariants as deed
+use Rattle.module_scripts.specs.declared.outline.ModuleOutline.{ModuleOutline}
+use Rattle.module_scripts.specs.declared.outline.Outline.{Outline}
+use Rattle.module_scripts.specs.declared.script_place.ScriptPlace.TheVariants as place
+use Rattle.module_scripts.specs.ScriptPlaces.{rest_of}
+use Rattle.module_scripts.specs.Scripts.{Script, absent, answers, answers_left, done, fetches, frees, is_gathered, may_publish, publishes, read_script, reads, release_script, settled, step, steps, takes, wanted, whole}
+use Rattle.event_core.specs.Standing.{Course, after_free, goals_of, idle, off_course, on_course}
+use Rattle.module_scripts.specs.Outlines.{is_empty}
+use Rattle.module_scripts.proofs.ScriptPlaces.{steps_at}
 use Rattle.event_core.proofs.Weights.{nothing_is}
 use Rattle.crew_laws.proofs.Orders.{read_left}
 

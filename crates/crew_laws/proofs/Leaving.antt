@@ -6,9 +6,9 @@ use Rattle.build_core.specs.declared.event.Event.TheVariants as event
 use Rattle.build_core.specs.declared.plan.Plan.{Plan}
 use Rattle.build_core.specs.declared.plan.PlanModule.{PlanModule}
 use Rattle.event_core.specs.declared.entry.RunEntry.{RunEntry}
-use Rattle.event_core.specs.declared.outline.Outline.{Outline}
+use Rattle.module_scripts.specs.declared.outline.Outline.{Outline}
 use Rattle.event_core.specs.Enabled.{IsRun}
-use Rattle.event_core.specs.Outlines.{module_outline, outline_of}
+use Rattle.module_scripts.specs.Outlines.{module_outline, outline_of}
 use Rattle.event_core.specs.Runs.{IsRunOf, events_of, standing_of_run}
 use Rattle.event_core.specs.Standing.{Standing, after, course_of, off_course, standing_of}
 use Rattle.run_law.proofs.Complete.{by_events}

@@ -4,10 +4,10 @@ use Rattle.std.specs.List.{list_all}
 use Rattle.std.proofs.lemmas.Bool.{eqb-true, false≢true}
 use Rattle.name_locks.specs.Locks.{below}
 use Rattle.name_locks.specs.declared.mode.Mode.TheVariants.{Shared, Exclusive}
-use Rattle.event_core.specs.declared.deed.Deed.{Deed}
-use Rattle.event_core.specs.declared.deed.Deed.TheVariants as deed
-use Rattle.event_core.specs.declared.outline.ModuleOutline.{ModuleOutline}
-use Rattle.event_core.specs.Scripts.{Script, Step, absent, answers, answers_left, choice_script, done, fetches, frees, install_script, is_there, is_wanted, lock_script, may_publish, own_script, publishes, read_script, reads, release_script, script_of, settled, step, steps, takes, whole}
+use Rattle.module_scripts.specs.declared.deed.Deed.{Deed}
+use Rattle.module_scripts.specs.declared.deed.Deed.TheVariants as deed
+use Rattle.module_scripts.specs.declared.outline.ModuleOutline.{ModuleOutline}
+use Rattle.module_scripts.specs.Scripts.{Script, Step, absent, answers, answers_left, choice_script, done, fetches, frees, install_script, is_there, is_wanted, lock_script, may_publish, own_script, publishes, read_script, reads, release_script, script_of, settled, step, steps, takes, whole}
 use Rattle.event_core.proofs.Weights.{nothing_is}
 use Rattle.run_law.proofs.Basics.{chosen}
 

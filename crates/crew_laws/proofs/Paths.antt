@@ -15,9 +15,9 @@ use Rattle.build_core.specs.declared.plan.PlanModule.{PlanModule}
 use Rattle.event_core.specs.declared.entry.Carried.{Carried}
 use Rattle.event_core.specs.declared.entry.Carried.TheVariants as carried
 use Rattle.event_core.specs.declared.entry.RunEntry.{RunEntry}
-use Rattle.event_core.specs.Outlines.{file_of, files_of, files_read, is_listed, once_more}
+use Rattle.module_scripts.specs.Outlines.{file_of, files_of, files_read, is_listed, once_more}
 use Rattle.event_core.specs.Worlds.{is_told, worker_of}
-use Rattle.event_core.proofs.Climbs.{both}
+use Rattle.module_scripts.proofs.Climbs.{both}
 use Rattle.event_core.proofs.Weights.{nothing_is}
 use Rattle.run_law.proofs.Fold.{at_middle}
 use Rattle.worker_law.specs.Hands.{AreBare}

@@ -4,12 +4,12 @@ use Rattle.std.specs.List.{list_all}
 use Rattle.std.specs.Option.{option_map_or}
 use Rattle.name_locks.specs.Locks.{below}
 use Rattle.name_locks.specs.declared.mode.Mode.TheVariants.{Exclusive}
-use Rattle.event_core.specs.declared.outline.ModuleOutline.{ModuleOutline}
-use Rattle.event_core.specs.declared.script_place.ScriptPlace.{ScriptPlace}
-use Rattle.event_core.specs.declared.script_place.ScriptPlace.TheVariants as place
-use Rattle.event_core.specs.ScriptPlaces.{own_from, rest_of, stage_at}
-use Rattle.event_core.specs.Scripts.{Script, answers, choice_script, fetches, frees, install_script, is_there, lock_script, may_publish, own_script, read_script, reads, release_script, settled, step, steps, takes, whole}
-use Rattle.event_core.proofs.Climbs.{both}
+use Rattle.module_scripts.specs.declared.outline.ModuleOutline.{ModuleOutline}
+use Rattle.module_scripts.specs.declared.script_place.ScriptPlace.{ScriptPlace}
+use Rattle.module_scripts.specs.declared.script_place.ScriptPlace.TheVariants as place
+use Rattle.module_scripts.specs.ScriptPlaces.{own_from, rest_of, stage_at}
+use Rattle.module_scripts.specs.Scripts.{Script, answers, choice_script, fetches, frees, install_script, is_there, lock_script, may_publish, own_script, read_script, reads, release_script, settled, step, steps, takes, whole}
+use Rattle.module_scripts.proofs.Climbs.{both}
 use Rattle.crew_laws.specs.Absent.{IsFirstAbsent}
 
 module _ (there : List Bool) (empty : Bool) (rest : Script) where

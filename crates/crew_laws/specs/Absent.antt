@@ -1,7 +1,7 @@
 -- Which file of a list is the first that isn't there. Project rule.
 use Rattle.std.specs.Prelude.{◌≡◌, ℕ, ◌-◌, ◌<◌, ◌≤◌, Bool, true, false, List, drop, length, take, Option, Some, None}
 use Rattle.std.specs.List.{list_all, slice_index_or}
-use Rattle.event_core.specs.Scripts.{is_there}
+use Rattle.module_scripts.specs.Scripts.{is_there}
 
 -- the first of these files, from a place on, that isn't there: none, if all are
 abbrev pub IsFirstAbsent : (there : List Bool) → List ℕ → (from : ℕ) → Option ℕ → Type 0

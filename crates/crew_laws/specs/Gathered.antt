@@ -5,7 +5,7 @@ use Rattle.goal_types.specs.declared.goal.PathEntry.{PathEntry}
 use Rattle.build_core.specs.OneThread.{is_needed}
 use Rattle.build_core.specs.declared.plan.Entry.{Entry}
 use Rattle.build_core.specs.declared.plan.PlanModule.{PlanModule}
-use Rattle.event_core.specs.Outlines.{files_of, once_more}
+use Rattle.module_scripts.specs.Outlines.{files_of, once_more}
 
 -- the files that the first so many entries of a module come from, each once
 abbrev pub files_before : PlanModule → (count : ℕ) → List ℕ

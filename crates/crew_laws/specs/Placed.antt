@@ -4,7 +4,7 @@ use Rattle.build_core.specs.declared.plan.Plan.{Plan}
 use Rattle.build_core.specs.declared.plan.PlanModule.{PlanModule}
 use Rattle.event_core.specs.declared.entry.RunEntry.{RunEntry}
 use Rattle.event_core.specs.Runs.{IsRunOf, standing_of_run}
-use Rattle.event_core.specs.Scripts.{Script}
+use Rattle.module_scripts.specs.Scripts.{Script}
 use Rattle.event_core.specs.Standing.{course_of, on_course}
 
 -- behind this run the worker builds this module of the plan, and has this left of its script

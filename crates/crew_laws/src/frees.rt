@@ -1,11 +1,12 @@
 // What a worker is at when it has freed all that it held.
 ghost use Rattle.std.specs.Prelude.{◌≡◌, ◌<◌, ℕ, Bool, true, false, List, [], length, slice_get, Option, Some, None};
 ghost use Rattle.std.specs.List.{slice_index_or};
-ghost use Rattle.event_core.specs.declared.outline.ModuleOutline.{ModuleOutline};
-ghost use Rattle.event_core.specs.declared.outline.Outline.{Outline};
-ghost use Rattle.event_core.specs.declared.script_place.ScriptPlace.TheVariants.{Fetching, Reading};
-ghost use Rattle.event_core.specs.ScriptPlaces.{rest_of};
-ghost use Rattle.event_core.specs.Standing.{Course, after_free, is_empty, off_course, on_course};
+ghost use Rattle.module_scripts.specs.declared.outline.ModuleOutline.{ModuleOutline};
+ghost use Rattle.module_scripts.specs.declared.outline.Outline.{Outline};
+ghost use Rattle.module_scripts.specs.declared.script_place.ScriptPlace.TheVariants.{Fetching, Reading};
+ghost use Rattle.module_scripts.specs.ScriptPlaces.{rest_of};
+ghost use Rattle.event_core.specs.Standing.{Course, after_free, off_course, on_course};
+ghost use Rattle.module_scripts.specs.Outlines.{is_empty};
 
 /// A law: a worker that frees all its names, in whatever order, is at what the last free alone would have led to. Freed while a file is
 /// to be fetched, the module may end for that file; freed while files are read, it may end for its classpath. Does nothing. Project rule.

@@ -10,7 +10,7 @@ ghost use Rattle.build_core.specs.declared.plan.Entry.{Entry};
 ghost use Rattle.build_core.specs.declared.plan.Plan.{Plan};
 ghost use Rattle.build_core.specs.declared.plan.PlanModule.{PlanModule};
 ghost use Rattle.event_core.specs.declared.entry.RunEntry.{RunEntry};
-ghost use Rattle.event_core.specs.Outlines.{file_of, files_read, is_listed};
+ghost use Rattle.module_scripts.specs.Outlines.{file_of, files_read, is_listed};
 ghost use Rattle.event_core.specs.Worlds.{is_told};
 ghost use Rattle.worker_law.specs.Hands.{AreBare};
 ghost use Rattle.crew_laws.specs.Gathered.{files_before, needed_of, with_file};

@@ -11,7 +11,7 @@ ghost use Rattle.build_core.specs.declared.plan.PlanModule.{PlanModule};
 ghost use Rattle.event_core.specs.declared.entry.Carried.TheVariants as carried;
 ghost use Rattle.event_core.specs.declared.entry.RunEntry.{RunEntry};
 ghost use Rattle.event_core.specs.Runs.{IsRunOf, answers_in, goals_in};
-ghost use Rattle.event_core.specs.Scripts.{Script, answers_left};
+ghost use Rattle.module_scripts.specs.Scripts.{Script, answers_left};
 ghost use Rattle.run_law.specs.Given.{is_kept};
 ghost use Rattle.crew_laws.specs.Placed.{IsPlacedAt};
 ghost use Rattle.crew_laws.specs.Twice.{same_goal};

@@ -1,11 +1,11 @@
 // What of a module's script is passed over, by the files that are there.
 ghost use Rattle.std.specs.Prelude.{◌≡◌, ◌≤◌, ℕ, Bool, List, [], Option};
 ghost use Rattle.std.specs.Option.{option_map_or};
-ghost use Rattle.event_core.specs.declared.outline.ModuleOutline.{ModuleOutline};
-ghost use Rattle.event_core.specs.declared.script_place.ScriptPlace.{ScriptPlace};
-ghost use Rattle.event_core.specs.declared.script_place.ScriptPlace.TheVariants.{Fetching, Reading, Unsharing};
-ghost use Rattle.event_core.specs.ScriptPlaces.{rest_of, stage_at};
-ghost use Rattle.event_core.specs.Scripts.{choice_script, settled};
+ghost use Rattle.module_scripts.specs.declared.outline.ModuleOutline.{ModuleOutline};
+ghost use Rattle.module_scripts.specs.declared.script_place.ScriptPlace.{ScriptPlace};
+ghost use Rattle.module_scripts.specs.declared.script_place.ScriptPlace.TheVariants.{Fetching, Reading, Unsharing};
+ghost use Rattle.module_scripts.specs.ScriptPlaces.{rest_of, stage_at};
+ghost use Rattle.module_scripts.specs.Scripts.{choice_script, settled};
 ghost use Rattle.crew_laws.specs.Absent.{IsFirstAbsent};
 
 /// A law: the first file of a fetch list that isn't there decides how a script goes on. Behind the batch's shared locks the batch is

@@ -11,16 +11,16 @@ use Rattle.name_locks.specs.Locks.{below}
 use Rattle.name_locks.specs.declared.mode.Mode.TheVariants.{Exclusive}
 use Rattle.build_core.specs.OneThread.{path_entry}
 use Rattle.event_core.specs.declared.entry.RunEntry.{RunEntry}
-use Rattle.event_core.specs.declared.outline.ModuleOutline.{ModuleOutline}
-use Rattle.event_core.specs.declared.outline.Outline.{Outline}
-use Rattle.event_core.specs.declared.script_place.ScriptPlace.TheVariants as place
-use Rattle.event_core.specs.Outlines.{files_read}
+use Rattle.module_scripts.specs.declared.outline.ModuleOutline.{ModuleOutline}
+use Rattle.module_scripts.specs.declared.outline.Outline.{Outline}
+use Rattle.module_scripts.specs.declared.script_place.ScriptPlace.TheVariants as place
+use Rattle.module_scripts.specs.Outlines.{files_read, is_empty}
 use Rattle.event_core.specs.Runs.{IsRunOf, contents, module_by, outputs_in, standing_of_run}
-use Rattle.event_core.specs.ScriptPlaces.{rest_of}
-use Rattle.event_core.specs.Scripts.{answer_script, answers, answers_left, frees, install_script, is_there, reads, release_script, settled, step, steps, takes, own_script, whole}
-use Rattle.event_core.specs.Standing.{after_free, is_empty, module_of, on_course}
+use Rattle.module_scripts.specs.ScriptPlaces.{rest_of}
+use Rattle.module_scripts.specs.Scripts.{answer_script, answers, answers_left, frees, install_script, is_there, reads, release_script, settled, step, steps, takes, own_script, whole}
+use Rattle.event_core.specs.Standing.{after_free, module_of, on_course}
 use Rattle.event_core.specs.Worlds.{IsWithin, is_good, stood}
-use Rattle.event_core.proofs.Climbs.{both}
+use Rattle.module_scripts.proofs.Climbs.{both}
 use Rattle.run_law.proofs.Basics.{and_is}
 use Rattle.worker_law.proofs.Staying.{entries_stay, file_stays}
 use Rattle.worker_law.specs.Others.{HasAll}

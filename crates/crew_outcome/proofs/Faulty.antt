@@ -18,11 +18,11 @@ use Rattle.build_core.specs.declared.event.Event.{Event}
 use Rattle.build_core.specs.declared.event.Event.TheVariants as event
 use Rattle.build_core.specs.declared.plan.Plan.{Plan}
 use Rattle.build_report.specs.declared.details.Details.{Details}
-use Rattle.event_core.specs.Bounds.{total}
+use Rattle.module_scripts.specs.Bounds.{total}
 use Rattle.event_core.specs.Runs.{IsQuiet, is_quiet_event}
 use Rattle.event_core.specs.declared.entry.Carried.{Carried}
 use Rattle.event_core.specs.declared.entry.RunEntry.{RunEntry}
-use Rattle.event_core.proofs.Climbs.{both}
+use Rattle.module_scripts.proofs.Climbs.{both}
 use Rattle.event_core.proofs.Weights.{nothing_is}
 use Rattle.board.specs.Logs.{shelf_endings}
 use Rattle.run_law.specs.Given.{is_fault, states_after}

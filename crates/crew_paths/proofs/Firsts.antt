@@ -14,8 +14,8 @@ use Rattle.build_core.specs.declared.plan.Origin.{Origin}
 use Rattle.build_core.specs.declared.plan.Origin.TheVariants as origin
 use Rattle.build_core.specs.declared.plan.Plan.{Plan}
 use Rattle.build_core.specs.declared.plan.PlanModule.{PlanModule}
-use Rattle.event_core.specs.Enabled.{is_this}
-use Rattle.event_core.specs.Outlines.{file_of, files_of, is_listed, once_more}
+use Rattle.module_progress.specs.HowFar.{is_this}
+use Rattle.module_scripts.specs.Outlines.{file_of, files_of, is_listed, once_more}
 use Rattle.event_core.proofs.Weights.{nothing_is}
 use Rattle.crew_laws.specs.Gathered.{files_before, with_file}
 use Rattle.crew_laws.proofs.Paths.{more}

@@ -11,8 +11,8 @@ use Rattle.build_core.specs.declared.ending.Ending.{Ending}
 use Rattle.build_core.specs.declared.ending.Ending.TheVariants as ending
 use Rattle.build_core.specs.declared.plan.Entry.{Entry}
 use Rattle.build_core.specs.declared.plan.Plan.{Plan}
-use Rattle.event_core.specs.Enabled.{is_this}
-use Rattle.event_core.specs.Outlines.{file_of}
+use Rattle.module_progress.specs.HowFar.{is_this}
+use Rattle.module_scripts.specs.Outlines.{file_of}
 
 -- these are the first so many entries with their bytes
 abbrev pub IsPart : Plan → Files → List (List OwnBytes) → List Entry → (count : ℕ) → List PathEntry → Type 0

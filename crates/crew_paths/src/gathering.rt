@@ -7,7 +7,7 @@ ghost use Rattle.build_core.specs.OneThread.{bytes_len, entries_len, name_of, or
 ghost use Rattle.build_core.specs.declared.plan.Entry.{Entry};
 ghost use Rattle.build_core.specs.declared.plan.Plan.{Plan};
 ghost use Rattle.build_core.specs.declared.plan.PlanModule.{PlanModule};
-ghost use Rattle.event_core.specs.Outlines.{is_listed};
+ghost use Rattle.module_scripts.specs.Outlines.{is_listed};
 ghost use Rattle.crew_laws.specs.Gathered.{files_before};
 ghost use Rattle.crew_paths.specs.Parts.{IsPart, place_before};
 

@@ -19,13 +19,13 @@ use Rattle.build_core.specs.declared.event.Event.TheVariants as event
 use Rattle.build_core.specs.declared.plan.Entry.{Entry}
 use Rattle.build_core.specs.declared.plan.Origin.{Origin}
 use Rattle.build_core.specs.declared.plan.Origin.TheVariants as origin
-use Rattle.event_core.specs.declared.deed.Deed.TheVariants as deed
+use Rattle.module_scripts.specs.declared.deed.Deed.TheVariants as deed
 use Rattle.event_core.specs.Enabled.{is_due}
-use Rattle.event_core.specs.Outlines.{file_of, files_of, files_read, once_more}
+use Rattle.module_scripts.specs.Outlines.{file_of, files_of, files_read, once_more}
 use Rattle.event_core.specs.Runs.{IsRunOf, contents, outputs_in}
 use Rattle.event_core.specs.SoundPlans.{IsSoundPlan, is_backed}
 use Rattle.event_core.specs.Worlds.{FitsEnd, HandTold, IsBeyond, IsWithin}
-use Rattle.event_core.proofs.Climbs.{both}
+use Rattle.module_scripts.proofs.Climbs.{both}
 use Rattle.event_core.proofs.Weights.{nothing_is}
 use Rattle.run_law.specs.Given.{outputs_after}
 use Rattle.run_law.proofs.Sounds.{fetch_low}

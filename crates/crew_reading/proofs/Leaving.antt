@@ -7,15 +7,16 @@ use Rattle.name_locks.specs.Locks.{below}
 use Rattle.name_locks.specs.declared.mode.Mode.TheVariants.{Exclusive}
 use Rattle.build_core.specs.declared.ending.Ending.{Ending}
 use Rattle.build_core.specs.declared.ending.Ending.TheVariants as ending
-use Rattle.event_core.specs.declared.outline.ModuleOutline.{ModuleOutline}
-use Rattle.event_core.specs.declared.outline.Outline.{Outline}
-use Rattle.event_core.specs.declared.script_place.ScriptPlace.TheVariants as place
+use Rattle.module_scripts.specs.declared.outline.ModuleOutline.{ModuleOutline}
+use Rattle.module_scripts.specs.declared.outline.Outline.{Outline}
+use Rattle.module_scripts.specs.declared.script_place.ScriptPlace.TheVariants as place
 use Rattle.event_core.specs.Enabled.{ending_in_range, may_end_so}
-use Rattle.event_core.specs.ScriptPlaces.{rest_of}
-use Rattle.event_core.specs.Scripts.{Script, answers, answers_left, install_script, is_gathered, own_script, reads, release_script, settled, stage_of, step, steps, takes, whole}
-use Rattle.event_core.specs.Standing.{Course, after_free, goals_of, is_empty, off_course, on_course}
-use Rattle.event_core.proofs.Dues.{below_or_not}
-use Rattle.event_core.proofs.ScriptPlaces.{read_end, read_more, release_empty, release_held, steps_at}
+use Rattle.module_scripts.specs.ScriptPlaces.{rest_of}
+use Rattle.module_scripts.specs.Scripts.{Script, answers, answers_left, install_script, is_gathered, own_script, reads, release_script, settled, stage_of, step, steps, takes, whole}
+use Rattle.event_core.specs.Standing.{Course, after_free, goals_of, off_course, on_course}
+use Rattle.module_scripts.specs.Outlines.{is_empty}
+use Rattle.module_scripts.proofs.Dues.{below_or_not}
+use Rattle.module_scripts.proofs.ScriptPlaces.{read_end, read_more, release_empty, release_held, steps_at}
 use Rattle.run_law.proofs.Basics.{and_is}
 use Rattle.crew_laws.proofs.Freeing.{reading}
 use Rattle.crew_laws.proofs.Orders.{read_left}

@@ -6,9 +6,9 @@ use Rattle.std.proofs.lemmas.List.Folds.{find-append, list_any-append}
 use Rattle.name_locks.specs.Locks.{below}
 use Rattle.build_core.specs.declared.plan.Entry.{Entry}
 use Rattle.build_core.specs.declared.plan.PlanModule.{PlanModule}
-use Rattle.event_core.specs.Enabled.{is_this}
-use Rattle.event_core.specs.Outlines.{file_of, files_of, is_listed, once_more}
-use Rattle.event_core.proofs.Dues.{below_or_not}
+use Rattle.module_progress.specs.HowFar.{is_this}
+use Rattle.module_scripts.specs.Outlines.{file_of, files_of, is_listed, once_more}
+use Rattle.module_scripts.proofs.Dues.{below_or_not}
 use Rattle.event_core.proofs.Weights.{nothing_is}
 use Rattle.crew_laws.specs.Gathered.{files_before, with_file}
 use Rattle.crew_laws.proofs.Paths.{more}

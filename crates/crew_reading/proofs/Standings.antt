@@ -9,20 +9,20 @@ use Rattle.build_core.specs.declared.ending.Ending.{Ending}
 use Rattle.build_core.specs.declared.event.Event.TheVariants as event
 use Rattle.build_core.specs.declared.plan.Plan.{Plan}
 use Rattle.build_core.specs.declared.plan.PlanModule.{PlanModule}
-use Rattle.event_core.specs.declared.deed.Deed.TheVariants as deed
+use Rattle.module_scripts.specs.declared.deed.Deed.TheVariants as deed
 use Rattle.event_core.specs.declared.entry.RunEntry.{RunEntry}
-use Rattle.event_core.specs.declared.outline.ModuleOutline.{ModuleOutline}
-use Rattle.event_core.specs.declared.script_place.ScriptPlace.TheVariants as place
+use Rattle.module_scripts.specs.declared.outline.ModuleOutline.{ModuleOutline}
+use Rattle.module_scripts.specs.declared.script_place.ScriptPlace.TheVariants as place
 use Rattle.event_core.specs.Enabled.{Enabled, is_due, may_end_so}
-use Rattle.event_core.specs.Outlines.{files_read, module_outline, outline_of}
+use Rattle.module_scripts.specs.Outlines.{files_read, is_empty, module_outline, outline_of}
 use Rattle.event_core.specs.Runs.{IsRunOf, events_of, module_by, standing_of_run}
-use Rattle.event_core.specs.ScriptPlaces.{rest_of}
-use Rattle.event_core.specs.Scripts.{done, is_there, settled}
-use Rattle.event_core.specs.Standing.{after, after_deed, course_of, held_by, idle, is_empty, module_of, on_course}
+use Rattle.module_scripts.specs.ScriptPlaces.{rest_of}
+use Rattle.module_scripts.specs.Scripts.{done, is_there, settled}
+use Rattle.event_core.specs.Standing.{after, after_deed, course_of, held_by, idle, module_of, on_course}
 use Rattle.event_core.specs.Worlds.{FitsEnd, HandTold}
-use Rattle.event_core.proofs.Climbs.{both}
-use Rattle.event_core.proofs.Dues.{read_yes}
-use Rattle.event_core.proofs.ScriptPlaces as places
+use Rattle.module_scripts.proofs.Climbs.{both}
+use Rattle.module_scripts.proofs.Dues.{read_yes}
+use Rattle.module_scripts.proofs.ScriptPlaces as places
 use Rattle.run_law.proofs.Basics.{and_is}
 use Rattle.run_law.proofs.Complete.{standing}
 use Rattle.run_law.proofs.LaterMoments.{front, next_is}

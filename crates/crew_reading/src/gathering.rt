@@ -4,7 +4,7 @@ ghost use Rattle.std.specs.Prelude.{◌≡◌, ◌<◌, ◌≤◌, true, None, S
 ghost use Rattle.build_core.specs.OneThread.{entries_len, most_classpath};
 ghost use Rattle.build_core.specs.declared.ending.Ending.TheVariants.{Memory};
 ghost use Rattle.build_core.specs.declared.plan.Origin.TheVariants as origin;
-ghost use Rattle.event_core.specs.Outlines.{files_read};
+ghost use Rattle.module_scripts.specs.Outlines.{files_read};
 ghost use Rattle.event_core.specs.Worlds.{IsWithin};
 ghost use Rattle.crew_laws.specs.Gathered.{files_before};
 ghost use Rattle.crew_paths.specs.Parts.{place_before};

@@ -8,7 +8,7 @@ use Rattle.mvn_shared.specs.Cause.{RoseBy}
 use Rattle.build_core.specs.declared.ending.Device.{Device}
 use Rattle.build_core.specs.declared.ending.Device.TheVariants as device
 use Rattle.build_core.specs.declared.ending.Ending.{Ending}
-use Rattle.event_core.proofs.Climbs.{both}
+use Rattle.module_scripts.proofs.Climbs.{both}
 use Rattle.run_law.proofs.Basics.{and_is}
 use Rattle.event_core.specs.declared.entry.RunEntry.{RunEntry}
 use Rattle.crew_stages.specs.Endings.{ending_of, endings_of, endings_since, faults_of, is_fault_of, is_quiet_end}

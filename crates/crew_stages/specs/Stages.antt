@@ -5,12 +5,12 @@ use Rattle.name_locks.specs.declared.mode.Mode.{Mode}
 use Rattle.name_locks.specs.declared.mode.Mode.TheVariants.{Shared, Exclusive}
 use Rattle.build_core.specs.OneThread.{own_bytes}
 use Rattle.build_core.specs.declared.plan.OwnFile.{OwnFile}
-use Rattle.event_core.specs.ScriptPlaces.{rest_of}
-use Rattle.event_core.specs.Scripts.{settled}
-use Rattle.event_core.specs.Standing.{is_empty}
+use Rattle.module_scripts.specs.ScriptPlaces.{rest_of}
+use Rattle.module_scripts.specs.Scripts.{settled}
+use Rattle.module_scripts.specs.Outlines.{is_empty}
 use Rattle.event_core.specs.Worlds.{IsInstallable, IsWithin, is_good, was_published}
-use Rattle.event_core.specs.declared.script_place.ScriptPlace.{ScriptPlace}
-use Rattle.event_core.specs.declared.script_place.ScriptPlace.TheVariants as place
+use Rattle.module_scripts.specs.declared.script_place.ScriptPlace.{ScriptPlace}
+use Rattle.module_scripts.specs.declared.script_place.ScriptPlace.TheVariants as place
 use Rattle.worker_law.specs.Others.{HasAll}
 use Rattle.crew_turns.specs.Seen.{Told, seen_by, there_by}
 use Rattle.crew_turns.specs.Tasks.{ModuleTask, StandsAt, stood_by, unit_outline}

@@ -5,7 +5,7 @@ use Rattle.event_core.specs.Enabled.{ending_in_range, may_end_so}
 use Rattle.event_core.specs.Runs.{module_by}
 use Rattle.event_core.specs.Standing.{Course, after_free}
 use Rattle.event_core.specs.Worlds.{FitsEnd, HandTold}
-use Rattle.event_core.specs.declared.outline.Outline.{Outline}
+use Rattle.module_scripts.specs.declared.outline.Outline.{Outline}
 use Rattle.atomic_table.specs.Seated.{TableId}
 use Rattle.crew_turns.specs.Seen.{Follows, IsOf, Told, course_by, names_by, seen_by}
 use Rattle.crew_turns.specs.Tasks.{ModuleTask, plan_outline, stood_by}

@@ -11,15 +11,15 @@ use Rattle.build_core.specs.declared.plan.Plan.{Plan}
 use Rattle.build_core.specs.declared.plan.PlanModule.{PlanModule}
 use Rattle.event_core.specs.declared.entry.Carried.TheVariants as carried
 use Rattle.event_core.specs.declared.entry.RunEntry.{RunEntry}
-use Rattle.event_core.specs.declared.outline.Outline.{Outline}
+use Rattle.module_scripts.specs.declared.outline.Outline.{Outline}
 use Rattle.event_core.specs.Enabled.{Enabled, IsEnabled, ending_in_range, may_end_so, needs_artifact}
-use Rattle.event_core.specs.Outlines.{outline_of}
+use Rattle.module_scripts.specs.Outlines.{outline_of}
 use Rattle.event_core.specs.Runs.{IsRunOf, is_quiet_event, module_by, standing_of_run}
-use Rattle.event_core.specs.Scripts.{Script, absent, answers, answers_left, fetches, frees, is_to_install, may_publish, publishes, reads, stage_of, step, takes, whole}
+use Rattle.module_scripts.specs.Scripts.{Script, absent, answers, answers_left, fetches, frees, is_to_install, may_publish, publishes, reads, stage_of, step, takes, whole}
 use Rattle.event_core.specs.SoundPlans.{IsSoundPlan}
 use Rattle.event_core.specs.Standing.{Course, course_of, goals_of, held_by, idle, module_of, off_course, on_course}
 use Rattle.event_core.specs.Worlds.{Fits, FitsEnd, HandTold, has_failed_at, is_told, is_told_by, is_too_large_at, stood}
-use Rattle.event_core.proofs.Climbs.{both}
+use Rattle.module_scripts.proofs.Climbs.{both}
 use Rattle.event_core.proofs.Ties.{some_same}
 use Rattle.run_law.proofs.LaterMoments.{front}
 use Rattle.worker_law.specs.Others.{AreOthers, HasAll}

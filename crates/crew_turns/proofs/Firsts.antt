@@ -1,7 +1,7 @@
 -- The first of some files that isn't there, one place after another.
 use Rattle.std.proofs.Common.{◌≡◌, ℕ, zero, suc, ◌-◌, ◌<◌, ◌≤◌, Bool, true, false, List, [], ◌∷◌, length, drop, take, Option, Some, None, refl, arith, sym, subst}
 use Rattle.std.specs.List.{list_all, slice_index_or}
-use Rattle.event_core.specs.Scripts.{is_there}
+use Rattle.module_scripts.specs.Scripts.{is_there}
 use Rattle.run_law.proofs.Basics.{and_is}
 use Rattle.crew_laws.specs.Absent.{IsFirstAbsent}
 

@@ -11,12 +11,13 @@ use Rattle.build_core.specs.declared.event.Event.TheVariants as event
 use Rattle.build_core.specs.declared.plan.Plan.{Plan}
 use Rattle.event_core.specs.declared.entry.Carried.TheVariants as carried
 use Rattle.event_core.specs.declared.entry.RunEntry.{RunEntry}
-use Rattle.event_core.specs.declared.outline.Outline.{Outline}
+use Rattle.module_scripts.specs.declared.outline.Outline.{Outline}
 use Rattle.event_core.specs.Enabled.{Enabled}
-use Rattle.event_core.specs.Outlines.{module_outline, outline_of}
+use Rattle.module_scripts.specs.Outlines.{is_empty, module_outline, outline_of}
 use Rattle.event_core.specs.Runs.{IsComplete, IsRunOf, events_of, module_by, standing_of_run}
-use Rattle.event_core.specs.Scripts.{script_of, settled, whole}
-use Rattle.event_core.specs.Standing.{Course, Standing, after, course_of, held_by, idle, is_complete, is_empty, is_ready, is_skippable, module_of, on_course, start_of}
+use Rattle.module_scripts.specs.Scripts.{script_of, settled, whole}
+use Rattle.module_progress.specs.HowFar.{is_ready, is_skippable}
+use Rattle.event_core.specs.Standing.{Course, Standing, after, course_of, held_by, idle, is_complete, module_of, on_course, start_of}
 use Rattle.event_core.specs.Worlds.{Fits, HandTold, is_told, is_told_by}
 use Rattle.run_law.proofs.Basics.{and_is}
 use Rattle.run_law.proofs.Complete.{IsStanding, standing}

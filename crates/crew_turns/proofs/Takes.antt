@@ -8,13 +8,13 @@ use Rattle.name_locks.specs.declared.table.Tried.TheVariants as tried
 use Rattle.build_core.specs.declared.event.Event.TheVariants as event
 use Rattle.build_core.specs.declared.plan.Plan.{Plan}
 use Rattle.build_core.specs.declared.plan.PlanModule.{PlanModule}
-use Rattle.event_core.specs.declared.deed.Deed.{Deed}
+use Rattle.module_scripts.specs.declared.deed.Deed.{Deed}
 use Rattle.event_core.specs.declared.entry.Carried.TheVariants as carried
 use Rattle.event_core.specs.declared.entry.RunEntry.{RunEntry}
 use Rattle.event_core.specs.Causes.{stage_at}
 use Rattle.event_core.specs.Enabled.{is_due}
 use Rattle.event_core.specs.Runs.{IsRunOf, module_by, standing_of_run}
-use Rattle.event_core.specs.Scripts.{stage_of}
+use Rattle.module_scripts.specs.Scripts.{stage_of}
 use Rattle.event_core.specs.Standing.{Course, course_of, idle, module_of, off_course, on_course}
 use Rattle.event_core.specs.Worlds.{Fits, FitsTake, HandTold, is_told, is_told_by, stood}
 use Rattle.worker_law.proofs.Staying.{course_stays}

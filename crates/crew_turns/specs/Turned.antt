@@ -5,9 +5,9 @@ use Rattle.name_locks.specs.declared.table.Tried.{Tried}
 use Rattle.name_locks.specs.declared.table.Tried.TheVariants.{Taken, Busy}
 use Rattle.build_core.specs.declared.event.Event.TheVariants as event
 use Rattle.build_core.specs.declared.plan.Plan.{Plan}
-use Rattle.event_core.specs.Outlines.{outline_of}
+use Rattle.module_scripts.specs.Outlines.{outline_of}
 use Rattle.event_core.specs.Runs.{IsComplete}
-use Rattle.event_core.specs.Scripts.{settled}
+use Rattle.module_scripts.specs.Scripts.{settled}
 use Rattle.event_core.specs.Standing.{on_course, start_of}
 use Rattle.atomic_table.specs.Seated.{TableId}
 use Rattle.board.specs.declared.next.Next.{Next}

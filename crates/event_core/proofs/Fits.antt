@@ -11,20 +11,22 @@ use Rattle.name_locks.specs.Locks.{hold, hold_in, with_hold}
 use Rattle.build_core.specs.declared.ending.Ending.{Ending}
 use Rattle.build_core.specs.declared.event.Event.{Event}
 use Rattle.build_core.specs.declared.event.Event.TheVariants as event
-use Rattle.event_core.specs.declared.outline.Outline.{Outline}
-use Rattle.event_core.specs.declared.outline.ModuleOutline.{ModuleOutline}
-use Rattle.event_core.specs.declared.progress.Progress.{Progress}
-use Rattle.event_core.specs.declared.progress.Progress.TheVariants.{Waiting, Running, Skipped, Ended}
-use Rattle.event_core.specs.declared.deed.Deed.{Deed}
-use Rattle.event_core.specs.declared.deed.Deed.TheVariants as deed
-use Rattle.event_core.specs.Bounds.{course_events, events_left, module_events, script_events, total, waiting_events}
-use Rattle.event_core.specs.Climbing.{Climbs, but}
+use Rattle.module_scripts.specs.declared.outline.Outline.{Outline}
+use Rattle.module_scripts.specs.declared.outline.ModuleOutline.{ModuleOutline}
+use Rattle.module_progress.specs.declared.progress.Progress.{Progress}
+use Rattle.module_progress.specs.declared.progress.Progress.TheVariants.{Waiting, Running, Skipped, Ended}
+use Rattle.module_scripts.specs.declared.deed.Deed.{Deed}
+use Rattle.module_scripts.specs.declared.deed.Deed.TheVariants as deed
+use Rattle.event_core.specs.EventsLeft.{course_events, events_left, waiting_events}
+use Rattle.module_scripts.specs.Bounds.{module_events, script_events, total}
+use Rattle.module_scripts.specs.Climbing.{Climbs, but}
 use Rattle.event_core.specs.Enabled.{IsEnabled, is_due, may_end_so}
 use Rattle.event_core.specs.Fitting.{IsFit}
-use Rattle.event_core.specs.Outlines.{is_listed}
-use Rattle.event_core.specs.Scripts.{settled, script_of, whole}
-use Rattle.event_core.specs.Standing.{Course, Standing, after, after_deed, after_free, at_first, course_of, ended, held_by, idle, is_empty, is_waiting, module_of, off_course, on_course, progress_of, standing_of, start_of, turned_to}
-use Rattle.event_core.proofs.Climbs.{all_but, all_more, any_default, but_shorter, both, climbs_but, climbs_more, get_map, listed_but, listed_last, listed_more, none_beyond}
+use Rattle.module_scripts.specs.Outlines.{is_empty, is_listed}
+use Rattle.module_scripts.specs.Scripts.{settled, script_of, whole}
+use Rattle.module_progress.specs.HowFar.{is_waiting, progress_of}
+use Rattle.event_core.specs.Standing.{Course, Standing, after, after_deed, after_free, at_first, course_of, ended, held_by, idle, module_of, off_course, on_course, standing_of, start_of, turned_to}
+use Rattle.module_scripts.proofs.Climbs.{all_but, all_more, any_default, but_shorter, both, climbs_but, climbs_more, get_map, listed_but, listed_last, listed_more, none_beyond}
 use Rattle.event_core.proofs.LockRows.{free_holds, row_in, take_holds}
 use Rattle.event_core.proofs.Weights.{cost, due_lighter, free_lighter, nothing_is, set_total, settled_lighter, waiting_gone, waiting_set}
 

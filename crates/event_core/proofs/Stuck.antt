@@ -1,10 +1,10 @@
 -- A core's build never comes to a stand.
 use Rattle.std.proofs.Common.{◌≡◌, ℕ, List, map, sym, ap, subst}
 use Rattle.build_core.specs.declared.event.Event.{Event}
-use Rattle.event_core.specs.declared.outline.Outline.{Outline}
+use Rattle.module_scripts.specs.declared.outline.Outline.{Outline}
 use Rattle.event_core.specs.declared.standing.Standing.{Standing as KeptStanding}
 use Rattle.event_core.specs.Going.{NamesAscend, NeverLocked, NeverWaits}
-use Rattle.event_core.specs.HeldAt.{AllHold}
+use Rattle.event_core.specs.Holders.{AllHold}
 use Rattle.event_core.specs.Kept.{IsCore, course_at}
 use Rattle.event_core.specs.Standing.{standing_of}
 use Rattle.event_core.proofs.Going.{due_above, due_low, lock_on, wait_on}

@@ -9,18 +9,19 @@ use Rattle.name_locks.specs.Locks.{hold, hold_in, with_hold}
 use Rattle.build_core.specs.declared.ending.Ending.{Ending}
 use Rattle.build_core.specs.declared.event.Event.{Event}
 use Rattle.build_core.specs.declared.event.Event.TheVariants as event
-use Rattle.event_core.specs.declared.outline.Outline.{Outline}
-use Rattle.event_core.specs.declared.progress.Progress.{Progress}
-use Rattle.event_core.specs.declared.progress.Progress.TheVariants.{Waiting, Running, Skipped, Ended}
-use Rattle.event_core.specs.declared.deed.Deed.{Deed}
-use Rattle.event_core.specs.declared.deed.Deed.TheVariants as deed
-use Rattle.event_core.specs.Climbing.{but}
+use Rattle.module_scripts.specs.declared.outline.Outline.{Outline}
+use Rattle.module_progress.specs.declared.progress.Progress.{Progress}
+use Rattle.module_progress.specs.declared.progress.Progress.TheVariants.{Waiting, Running, Skipped, Ended}
+use Rattle.module_scripts.specs.declared.deed.Deed.{Deed}
+use Rattle.module_scripts.specs.declared.deed.Deed.TheVariants as deed
+use Rattle.module_scripts.specs.Climbing.{but}
 use Rattle.event_core.specs.Enabled.{IsEnabled}
 use Rattle.event_core.specs.Fitting.{IsFit, IsTied}
-use Rattle.event_core.specs.Outlines.{is_listed}
-use Rattle.event_core.specs.Scripts.{Script, done, is_gathered, settled, wanted}
-use Rattle.event_core.specs.Standing.{Course, Standing, after, after_deed, after_free, at_first, course_of, ended, goals_of, held_by, idle, is_empty, is_over, is_waiting, module_of, off_course, on_course, progress_of, start_of}
-use Rattle.event_core.proofs.Dues.{below_or_not}
+use Rattle.module_scripts.specs.Outlines.{is_empty, is_listed}
+use Rattle.module_scripts.specs.Scripts.{Script, done, is_gathered, settled, wanted}
+use Rattle.module_progress.specs.HowFar.{is_over, is_waiting, progress_of}
+use Rattle.event_core.specs.Standing.{Course, Standing, after, after_deed, after_free, at_first, course_of, ended, goals_of, held_by, idle, module_of, off_course, on_course, start_of}
+use Rattle.module_scripts.proofs.Dues.{below_or_not}
 use Rattle.event_core.proofs.Fits.{same_or_not}
 use Rattle.event_core.proofs.LockRows.{row_in}
 use Rattle.event_core.proofs.Weights.{nothing_is}

@@ -8,12 +8,13 @@ use Rattle.build_core.specs.declared.ending.Ending.{Ending}
 use Rattle.build_core.specs.declared.ending.Ending.TheVariants as ending
 use Rattle.build_core.specs.declared.event.Event.{Event}
 use Rattle.build_core.specs.declared.event.Event.TheVariants as event
-use Rattle.event_core.specs.declared.deed.Deed.{Deed}
-use Rattle.event_core.specs.declared.deed.Deed.TheVariants as deed
-use Rattle.event_core.specs.declared.outline.Outline.{Outline}
-use Rattle.event_core.specs.declared.outline.ModuleOutline.{ModuleOutline}
-use Rattle.event_core.specs.Scripts.{Script, done, is_gathered, is_to_install, may_end, wanted}
-use Rattle.event_core.specs.Standing.{CanSkip, CanStart, Course, Standing, course_of, fail_at_end, goals_of, held_by, idle, is_waiting, module_of, off_course, on_course, progress_of, standing_of}
+use Rattle.module_scripts.specs.declared.deed.Deed.{Deed}
+use Rattle.module_scripts.specs.declared.deed.Deed.TheVariants as deed
+use Rattle.module_scripts.specs.declared.outline.Outline.{Outline}
+use Rattle.module_scripts.specs.declared.outline.ModuleOutline.{ModuleOutline}
+use Rattle.module_scripts.specs.Scripts.{Script, done, is_gathered, is_to_install, may_end, wanted}
+use Rattle.module_progress.specs.HowFar.{CanSkip, CanStart, fail_at_end, is_this, is_waiting, progress_of}
+use Rattle.event_core.specs.Standing.{Course, Standing, course_of, goals_of, held_by, idle, module_of, off_course, on_course, standing_of}
 
 -- whether a deed is the next one of a worker's script
 abbrev pub is_due : Course → Deed → Bool
@@ -22,9 +23,6 @@ is_due other d = false
 
 abbrev pub needs_artifact : Outline → ℕ → Bool
 needs_artifact o m = option_map_or (λ (x : ModuleOutline). x.needs_artifact) (slice_get o.modules m) false
-
-abbrev pub is_this : Option ℕ → ℕ → Bool
-is_this found n = option_map_or (λ x. nat_eq x n) found false
 
 -- whether a module on its script may end so, and one that left it
 abbrev pub on_ends : Outline → ℕ → Script → Option ℕ → Ending → Bool

@@ -2,11 +2,12 @@
 use Rattle.std.specs.Prelude.{◌≡◌, ℕ, ◌<◌, true, nat_lt, All, length, Some, is_some}
 use Rattle.std.specs.List.{list_all}
 use Rattle.name_locks.specs.Locks.{hold, names_of, workers_of}
-use Rattle.event_core.specs.declared.outline.Outline.{Outline}
-use Rattle.event_core.specs.Climbing.{Climbs}
-use Rattle.event_core.specs.Outlines.{is_listed}
-use Rattle.event_core.specs.declared.progress.Progress.TheVariants.{Running}
-use Rattle.event_core.specs.Standing.{Standing, course_of, held_by, module_of, progress_of}
+use Rattle.module_scripts.specs.declared.outline.Outline.{Outline}
+use Rattle.module_scripts.specs.Climbing.{Climbs}
+use Rattle.module_scripts.specs.Outlines.{is_listed}
+use Rattle.module_progress.specs.declared.progress.Progress.TheVariants.{Running}
+use Rattle.module_progress.specs.HowFar.{progress_of}
+use Rattle.event_core.specs.Standing.{Standing, course_of, held_by, module_of}
 
 pub record IsFit (o : Outline) (now : Standing) : Type 0 where
   pub names : names_of now.locks ≡ o.names

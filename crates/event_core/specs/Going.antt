@@ -6,11 +6,12 @@ use Rattle.name_locks.specs.Locks.{below, blocker}
 use Rattle.build_core.specs.declared.ending.Ending.TheVariants.{Built}
 use Rattle.build_core.specs.declared.event.Event.{Event}
 use Rattle.build_core.specs.declared.event.Event.TheVariants as event
-use Rattle.event_core.specs.declared.outline.Outline.{Outline}
-use Rattle.event_core.specs.declared.deed.Deed.TheVariants as deed
+use Rattle.module_scripts.specs.declared.outline.Outline.{Outline}
+use Rattle.module_scripts.specs.declared.deed.Deed.TheVariants as deed
 use Rattle.event_core.specs.Enabled.{IsEnabled, is_due, may_end_so}
 use Rattle.event_core.specs.Sound.{IsSound}
-use Rattle.event_core.specs.Standing.{Course, Standing, course_of, held_by, idle, is_complete, is_ready, is_skippable, off_course, on_course}
+use Rattle.module_progress.specs.HowFar.{is_ready, is_skippable}
+use Rattle.event_core.specs.Standing.{Course, Standing, course_of, held_by, idle, is_complete, off_course, on_course}
 
 -- an event of a worker that its script wants next; a free of any name where frees are due, and the good end
 abbrev pub IsDue : Outline → Standing → ℕ → Event → Type 0

@@ -1,25 +1,18 @@
 -- The program's own words: where a build stands, by what a core keeps of it. `Course` and `Standing` are the definition's, with what is
 -- left of a script; `KeptCourse` and `KeptStanding` are the program's, with a place in it.
-use Rattle.std.specs.Prelude.{◌≡◌, ℕ, ◌+◌, ◌<◌, ◌≤◌, ◌^◌, List, [], length, map, slice_get}
-use Rattle.std.specs.Option.{option_map_or}
+use Rattle.std.specs.Prelude.{◌≡◌, ℕ, ◌+◌, ◌<◌, ◌≤◌, ◌^◌, List, [], length, map}
 use Rattle.build_core.specs.declared.event.Event.{Event}
-use Rattle.event_core.specs.declared.outline.Outline.{Outline}
+use Rattle.module_scripts.specs.declared.outline.Outline.{Outline}
 use Rattle.event_core.specs.declared.course.Course.{Course as KeptCourse}
 use Rattle.event_core.specs.declared.course.Course.TheVariants.{Idle, Off, On}
-use Rattle.event_core.specs.declared.script_place.ScriptPlace.{ScriptPlace}
 use Rattle.event_core.specs.declared.standing.Standing.{Standing as KeptStanding}
-use Rattle.event_core.specs.Bounds.{events_left}
+use Rattle.event_core.specs.EventsLeft.{events_left}
 use Rattle.event_core.specs.Enabled.{IsRun}
 use Rattle.event_core.specs.Fitting.{IsFit, IsTied}
-use Rattle.event_core.specs.Fronts.{upstreams}
-use Rattle.event_core.specs.HeldAt.{AllHold}
-use Rattle.event_core.specs.ScriptPlaces.{rest_of}
-use Rattle.event_core.specs.Scripts.{Script, whole}
+use Rattle.module_progress.specs.Fronts.{upstreams}
+use Rattle.event_core.specs.Holders.{AllHold}
+use Rattle.module_scripts.specs.Rests.{script_at}
 use Rattle.event_core.specs.Standing.{Course, Standing, idle, off_course, on_course, standing_of}
-
--- what is left of the script of a module with this number: nothing where there is no such module
-abbrev pub script_at : Outline → ℕ → ScriptPlace → Script
-script_at o number p = option_map_or (λ m. rest_of m p) (slice_get o.modules number) whole
 
 abbrev pub course_at : Outline → KeptCourse → Course
 course_at o Idle = idle

@@ -1,23 +1,22 @@
 -- Where a build stands after some events. Own.
-use Rattle.std.specs.Prelude.{◌≡◌, ℕ, Bool, true, false, not, ◌&&◌, List, [], ◌∷◌, ◌++◌, length, find, fold, replicate, slice_get, slice_set, Option, Some, None, is_none, is_some, unwrap_or}
+use Rattle.std.specs.Prelude.{◌≡◌, ℕ, Bool, true, ◌&&◌, List, [], ◌∷◌, ◌++◌, length, fold, replicate, slice_get, slice_set, Option, Some, None}
 use Rattle.std.specs.List.{list_all, slice_index_or}
 use Rattle.std.specs.Option.{option_map_or}
 use Rattle.name_locks.specs.declared.mode.Mode.{Mode}
 use Rattle.name_locks.specs.Locks.{Holds, none_held, with_hold}
 use Rattle.build_core.specs.declared.ending.Ending.{Ending}
-use Rattle.build_core.specs.declared.ending.Ending.TheVariants as ending
-use Rattle.event_core.specs.declared.progress.Progress.{Progress}
-use Rattle.event_core.specs.declared.progress.Progress.TheVariants.{Waiting, Running, Skipped, Ended}
-use Rattle.build_core.specs.declared.ending.State.{State}
-use Rattle.build_core.specs.declared.ending.State.TheVariants as state
+use Rattle.module_progress.specs.declared.progress.Progress.{Progress}
+use Rattle.module_progress.specs.declared.progress.Progress.TheVariants.{Waiting, Running, Skipped, Ended}
 use Rattle.build_core.specs.declared.event.Event.{Event}
 use Rattle.build_core.specs.declared.event.Event.TheVariants as event
-use Rattle.event_core.specs.declared.deed.Deed.{Deed}
-use Rattle.event_core.specs.declared.deed.Deed.TheVariants as deed
-use Rattle.event_core.specs.declared.outline.Outline.{Outline}
-use Rattle.event_core.specs.declared.outline.ModuleOutline.{ModuleOutline}
-use Rattle.event_core.specs.Climbing.{but}
-use Rattle.event_core.specs.Scripts.{Script, done, is_gathered, script_of, settled, wanted, whole}
+use Rattle.module_scripts.specs.declared.deed.Deed.{Deed}
+use Rattle.module_scripts.specs.declared.deed.Deed.TheVariants as deed
+use Rattle.module_scripts.specs.declared.outline.Outline.{Outline}
+use Rattle.module_scripts.specs.declared.outline.ModuleOutline.{ModuleOutline}
+use Rattle.module_progress.specs.HowFar.{is_over}
+use Rattle.module_scripts.specs.Climbing.{but}
+use Rattle.module_scripts.specs.Outlines.{is_empty}
+use Rattle.module_scripts.specs.Scripts.{Script, done, is_gathered, script_of, settled, wanted, whole}
 
 -- what a worker is at: nothing; a module, with what is left of its script and the goal that was answered last; or a module whose script
 -- it left, with the file that was wanted then, and whether all files were there and no goal was answered
@@ -35,17 +34,11 @@ pub record Standing : Type 0 where
   pub locks : Holds
   pub there : List Bool
 
-abbrev pub progress_of : List Progress → ℕ → Progress
-progress_of progress m = slice_index_or progress m Waiting
-
 abbrev pub course_of : Standing → ℕ → Course
 course_of now w = slice_index_or now.courses w idle
 
 abbrev pub held_by : Standing → ℕ → List ℕ
 held_by now w = slice_index_or now.held w []
-
-abbrev pub upstream_of : Outline → ℕ → List ℕ
-upstream_of o m = option_map_or (λ (x : ModuleOutline). x.upstream) (slice_get o.modules m) []
 
 abbrev pub start_of : Outline → ℕ → Script
 start_of o m = option_map_or script_of (slice_get o.modules m) whole
@@ -62,10 +55,6 @@ at_first o = record {
   locks = none_held o.names o.workers;
   there = o.present;
 }
-
-abbrev pub is_empty : List ℕ → Bool
-is_empty [] = true
-is_empty (x ∷ xs) = false
 
 -- ---- an event more
 
@@ -136,62 +125,6 @@ after o now (event.End w e) = after_end now w e
 abbrev pub standing_of : Outline → List Event → Standing
 standing_of o events = fold (after o) (at_first o) events
 
--- ---- how a module stands
-
--- skipped, or ended otherwise than built
-abbrev pub is_lost : Progress → Bool
-is_lost Skipped = true
-is_lost (Ended ending.Built) = false
-is_lost (Ended e) = true
-is_lost other = false
-
-abbrev pub is_done : Progress → Bool
-is_done (Ended ending.Built) = true
-is_done other = false
-
-abbrev pub is_waiting : Progress → Bool
-is_waiting Waiting = true
-is_waiting other = false
-
-abbrev pub is_over : Progress → Bool
-is_over Skipped = true
-is_over (Ended e) = true
-is_over other = false
-
--- the first upstream that is lost, and the first that isn't built
-abbrev pub first_lost : Outline → List Progress → ℕ → Option ℕ
-first_lost o progress m = find (λ u. is_lost (progress_of progress u)) (upstream_of o m)
-
-abbrev pub first_not_built : Outline → List Progress → ℕ → Option ℕ
-first_not_built o progress m = find (λ u. not (is_done (progress_of progress u))) (upstream_of o m)
-
--- what becomes of other modules where one fails: those that don't need it go on. Guide to Building Multiple Modules, "fail at end".
-pub data FailMode : Type 0 where
-  fail_at_end : FailMode
-
--- a module that waits may begin, and may be skipped
-abbrev pub CanStart : FailMode → Outline → List Progress → ℕ → Type 0
-CanStart fail_at_end o progress m = first_not_built o progress m ≡ None
-
-abbrev pub CanSkip : FailMode → Outline → List Progress → ℕ → Type 0
-CanSkip fail_at_end o progress m = is_some (first_lost o progress m) ≡ true
-
--- a module may begin where all its upstreams are built, and is skipped where one is lost
-abbrev pub is_ready : Outline → List Progress → ℕ → Bool
-is_ready o progress m = is_waiting (progress_of progress m) && is_none (first_not_built o progress m)
-
-abbrev pub is_skippable : Outline → List Progress → ℕ → Bool
-is_skippable o progress m = is_waiting (progress_of progress m) && is_some (first_lost o progress m)
-
--- a skipped module is skipped for its first upstream that is lost by now
-abbrev pub state_of : Outline → List Progress → ℕ → State
-state_of o progress m = by (progress_of progress m)
-  where
-    by : Progress → State
-    by Waiting = state.Waiting
-    by (Running w) = state.Running w
-    by Skipped = state.Skipped (unwrap_or (first_lost o progress m) 0)
-    by (Ended e) = state.Ended e
-
+-- each module has ended or was skipped
 abbrev pub is_complete : Standing → Bool
 is_complete now = list_all is_over now.progress

@@ -1,20 +1,22 @@
 // What a worker is at, and what may come next there.
 ghost use Rattle.std.specs.Prelude.{◌≡◌, nat_lt, ℕ, List, [], true, None};
-ghost use Rattle.event_core.specs.declared.outline.Outline.{Outline};
-ghost use Rattle.event_core.specs.Scripts.{settled};
-ghost use Rattle.event_core.specs.Standing.{after_deed, after_free, goals_of, is_empty, module_of, on_course, start_of};
-ghost use Rattle.event_core.specs.Enabled.{goal_in_range, is_due, is_this, may_end_so, off_ends, on_ends};
+ghost use Rattle.module_scripts.specs.declared.outline.Outline.{Outline};
+ghost use Rattle.module_scripts.specs.Scripts.{settled};
+ghost use Rattle.event_core.specs.Standing.{after_deed, after_free, goals_of, module_of, on_course, start_of};
+ghost use Rattle.module_scripts.specs.Outlines.{is_empty, is_listed};
+ghost use Rattle.module_progress.specs.HowFar.{is_this};
+ghost use Rattle.event_core.specs.Enabled.{goal_in_range, is_due, may_end_so, off_ends, on_ends};
 ghost use Rattle.event_core.specs.Causes.{missing_due, publish_due, read_due, stage_at};
-ghost use Rattle.event_core.specs.Climbing.{but};
-ghost use Rattle.event_core.specs.HeldAt.{CourseHolds, IsHeldThen};
-ghost use Rattle.event_core.specs.Outlines.{is_listed};
-ghost use Rattle.event_core.specs.Kept.{course_at, script_at};
+ghost use Rattle.module_scripts.specs.Climbing.{but};
+ghost use Rattle.event_core.specs.Holders.{CourseHolds, IsHeldThen};
+ghost use Rattle.event_core.specs.Kept.{course_at};
+ghost use Rattle.module_scripts.specs.Rests.{script_at};
 
-use crate::deed::Deed;
-use crate::outline::Outline;
-use crate::rest::Rest;
-use crate::script_place::ScriptPlace;
 use build_core::Ending;
+use module_scripts::deed::Deed;
+use module_scripts::outline::Outline;
+use module_scripts::rest::Rest;
+use module_scripts::script_place::ScriptPlace;
 
 /// What a worker is at, as a core keeps it; the definition's course has in a place's stead what is left of the script.
 #[derive(Clone, Copy)]

@@ -3,8 +3,8 @@ ghost use Rattle.std.specs.Prelude.{◌≡◌, ◌<◌, ◌≤◌, ℕ, true, fa
 ghost use Rattle.std.specs.List.{list_all};
 ghost use Rattle.name_locks.specs.Locks.{IsSeat, blocker, hold, none_held, with_hold};
 ghost use Rattle.event_core.specs.Causes.{last_of};
-ghost use Rattle.event_core.specs.Climbing.{Climbs, but};
-ghost use Rattle.event_core.specs.Standing.{is_empty};
+ghost use Rattle.module_scripts.specs.Climbing.{Climbs, but};
+ghost use Rattle.module_scripts.specs.Outlines.{is_empty};
 ghost use Rattle.event_core.specs.Taken.{ends_freed, is_held};
 
 use mvn_shared::Mem;

@@ -1,27 +1,17 @@
 //! The event core: which events of a build may come next, why another may not, and where the build stands.
 #![tactic(auto)]
 
-mod bound;
 mod causes;
 pub mod course;
-pub mod deed;
-pub mod edges;
 pub mod entry;
-mod follow;
 mod holdings;
-mod marks;
-mod modules;
 mod moves;
-pub mod outline;
-pub mod progress;
 pub mod refused;
-pub mod rest;
 mod run;
-pub mod script_place;
 mod standing;
 
 pub use entry::{Carried, RunEntry};
-pub use outline::{ModuleOutline, Outline};
-pub use progress::Progress;
+pub use module_progress::{Progress, edges, progress};
+pub use module_scripts::{ModuleOutline, Outline, deed, outline, rest, script_place};
 pub use refused::NotEnabled;
 pub use run::Core;

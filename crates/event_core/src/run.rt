@@ -1,19 +1,20 @@
 // A build, event by event.
 ghost use Rattle.std.specs.Prelude.{◌≡◌, ◌<◌, ◌≤◌, ◌^◌, vec_capacity, [], ◌∷◌, ◌++◌, ◌↔◌, None, Some, find, length, IfErr, IfOk, OnOk};
 ghost use Rattle.name_locks.specs.Locks.{below};
-ghost use Rattle.event_core.specs.Bounds.{most_events};
+ghost use Rattle.module_scripts.specs.Bounds.{most_events};
 ghost use Rattle.event_core.specs.Causes.{cause_now};
 ghost use Rattle.event_core.specs.Enabled.{Enabled, IsRun};
 ghost use Rattle.event_core.specs.Fitting.{IsFit};
 ghost use Rattle.event_core.specs.Going.{NamesAscend, NeverLocked, NeverWaits};
-ghost use Rattle.event_core.specs.Outlines.{outline_of};
-ghost use Rattle.event_core.specs.Scripts.{is_there};
-ghost use Rattle.event_core.specs.Standing.{course_of, is_complete, is_ready, is_skippable, module_of, standing_of, state_of};
+ghost use Rattle.module_scripts.specs.Outlines.{outline_of};
+ghost use Rattle.module_scripts.specs.Scripts.{is_there};
+ghost use Rattle.module_progress.specs.HowFar.{is_ready, is_skippable, state_of};
+ghost use Rattle.event_core.specs.Standing.{course_of, is_complete, module_of, standing_of};
 
-use crate::outline::Outline;
 use crate::refused::NotEnabled;
 use crate::standing::Standing;
 use build_core::{Event, Plan, State};
+use module_scripts::outline::Outline;
 use mvn_shared::{List, Mem};
 use std::alloc::Global;
 use std::marker::Model;
@@ -38,7 +39,7 @@ fn note(history: &mut Vec<Event>, event: Event)
 impl Model for Core {
     ghost use Rattle.std.specs.Prelude.{List, vec_capacity};
     ghost use Rattle.build_core.specs.declared.event.Event.{Event};
-    ghost use Rattle.event_core.specs.declared.outline.Outline.{Outline};
+    ghost use Rattle.module_scripts.specs.declared.outline.Outline.{Outline};
     ghost use Rattle.event_core.specs.Kept.{IsCore};
 
     ghost Value = { Outline × List Event };

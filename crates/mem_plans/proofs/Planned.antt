@@ -6,7 +6,7 @@ use Rattle.mvn_outside.specs.Shelf.{files_now}
 use Rattle.mvn_outside.specs.declared.shelf.ShelfTold.{ShelfTold}
 use Rattle.cli_words.specs.declared.command_line.CommandLine.{CommandLine}
 use Rattle.build_core.specs.declared.plan.Plan.{Plan}
-use Rattle.event_core.specs.Scripts.{is_there}
+use Rattle.module_scripts.specs.Scripts.{is_there}
 use Rattle.event_core.specs.SoundPlans.{IsSoundPlan}
 use Rattle.run_law.specs.Given.{IsPresent}
 use Rattle.plan_numbers.specs.Plans.{is_present, present_in}

@@ -8,7 +8,7 @@ use Rattle.mvn_outside.specs.declared.shelf.ShelfTold.{ShelfTold}
 use Rattle.cli_words.specs.declared.command_line.CommandLine.{CommandLine}
 use Rattle.pom_source.specs.declared.fault.BuildFault.TheVariants.{Refused, Absent, Source, Memory}
 use Rattle.build_core.specs.declared.plan.Plan.{Plan}
-use Rattle.event_core.specs.Scripts.{is_there}
+use Rattle.module_scripts.specs.Scripts.{is_there}
 use Rattle.run_law.specs.Given.{IsPresent}
 use Rattle.plan_numbers.specs.Plans.{is_present, plan_with, planned_with, present_in}
 use Rattle.plan_files.specs.declared.selected.Planned.{Planned}

@@ -3,7 +3,7 @@ use Rattle.std.proofs.Common.{◌≡◌, ℕ, List, [], ◌∷◌, ◌++◌, sym
 use Rattle.std.proofs.lemmas.List.{append-nil, append_assoc}
 use Rattle.build_core.specs.declared.plan.Plan.{Plan}
 use Rattle.event_core.specs.Enabled.{Enabled, IsEnabled, IsRun}
-use Rattle.event_core.specs.Outlines.{outline_of}
+use Rattle.module_scripts.specs.Outlines.{outline_of}
 use Rattle.event_core.specs.Runs.{IsRunOf, events_of, standing_of_run}
 use Rattle.event_core.specs.Standing.{after, standing_of}
 use Rattle.event_core.specs.declared.entry.RunEntry.{RunEntry}

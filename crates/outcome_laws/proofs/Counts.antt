@@ -15,15 +15,16 @@ use Rattle.build_core.specs.declared.event.Event.{Event}
 use Rattle.build_core.specs.declared.event.Event.TheVariants as event
 use Rattle.build_core.specs.declared.plan.Plan.{Plan}
 use Rattle.event_core.specs.Enabled.{IsEnabled, ending_in_range, may_end_so}
-use Rattle.event_core.specs.Outlines.{module_outline, outline_of}
+use Rattle.module_scripts.specs.Outlines.{module_outline, outline_of}
 use Rattle.event_core.specs.Runs.{IsQuiet, IsRunOf, events_of, is_quiet_event, standing_of_run}
 use Rattle.event_core.specs.SoundPlans.{IsSoundPlan}
-use Rattle.event_core.specs.Standing.{Course, Standing, after, course_of, ended, idle, is_waiting, module_of, off_course, on_course, progress_of, state_of}
+use Rattle.module_progress.specs.HowFar.{is_waiting, progress_of, state_of}
+use Rattle.event_core.specs.Standing.{Course, Standing, after, course_of, ended, idle, module_of, off_course, on_course}
 use Rattle.event_core.specs.declared.entry.RunEntry.{RunEntry}
-use Rattle.event_core.specs.declared.outline.Outline.{Outline}
-use Rattle.event_core.specs.declared.progress.Progress.{Progress}
-use Rattle.event_core.specs.declared.progress.Progress.TheVariants.{Waiting, Running, Skipped, Ended}
-use Rattle.event_core.proofs.Climbs.{both}
+use Rattle.module_scripts.specs.declared.outline.Outline.{Outline}
+use Rattle.module_progress.specs.declared.progress.Progress.{Progress}
+use Rattle.module_progress.specs.declared.progress.Progress.TheVariants.{Waiting, Running, Skipped, Ended}
+use Rattle.module_scripts.proofs.Climbs.{both}
 use Rattle.board.specs.Logs.{is_shelf_end, shelf_endings}
 use Rattle.run_law.proofs.Basics.{and_is}
 use Rattle.run_law.proofs.Complete.{IsStanding, standing}

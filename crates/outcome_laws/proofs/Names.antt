@@ -15,7 +15,7 @@ use Rattle.build_core.specs.declared.event.Event.{Event}
 use Rattle.build_core.specs.declared.event.Event.TheVariants as event
 use Rattle.build_core.specs.declared.plan.Plan.{Plan}
 use Rattle.event_core.specs.Enabled.{Enabled, IsEnabled}
-use Rattle.event_core.specs.Outlines.{outline_of}
+use Rattle.module_scripts.specs.Outlines.{outline_of}
 use Rattle.event_core.specs.Runs.{IsRunOf, contents, events_of, put_carried, put_under, standing_of_run, writes_of}
 use Rattle.event_core.specs.SoundPlans.{IsSoundPlan}
 use Rattle.event_core.specs.Worlds.{publishes, was_published}

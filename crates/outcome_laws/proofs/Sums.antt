@@ -9,14 +9,14 @@ use Rattle.build_core.specs.declared.ending.Ending.{Ending}
 use Rattle.build_core.specs.declared.event.Event.{Event}
 use Rattle.build_core.specs.declared.event.Event.TheVariants as event
 use Rattle.build_core.specs.declared.plan.Plan.{Plan}
-use Rattle.event_core.specs.Bounds.{total}
+use Rattle.module_scripts.specs.Bounds.{total}
 use Rattle.event_core.specs.Enabled.{IsEnabled}
-use Rattle.event_core.specs.Outlines.{outline_of}
+use Rattle.module_scripts.specs.Outlines.{outline_of}
 use Rattle.event_core.specs.Runs.{IsRunOf, standing_of_run}
 use Rattle.event_core.specs.Standing.{Standing}
 use Rattle.event_core.specs.declared.entry.Carried.{Carried}
 use Rattle.event_core.specs.declared.entry.RunEntry.{RunEntry}
-use Rattle.event_core.specs.declared.outline.Outline.{Outline}
+use Rattle.module_scripts.specs.declared.outline.Outline.{Outline}
 use Rattle.crew_stages.specs.Endings.{ending_of, endings_of}
 use Rattle.outcome_laws.specs.Counted.{count_by, count_by_all, ends_in, ends_so}
 use Rattle.outcome_laws.proofs.Behind.{behind}

@@ -6,7 +6,7 @@ use Rattle.build_core.specs.declared.ending.State.{State}
 use Rattle.build_core.specs.declared.ending.State.TheVariants.{Ended}
 use Rattle.build_core.specs.declared.event.Event.{Event}
 use Rattle.build_core.specs.declared.event.Event.TheVariants.{End}
-use Rattle.event_core.specs.Bounds.{total}
+use Rattle.module_scripts.specs.Bounds.{total}
 use Rattle.event_core.specs.declared.entry.RunEntry.{RunEntry}
 use Rattle.crew_stages.specs.Endings.{endings_of}
 

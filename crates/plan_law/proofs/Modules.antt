@@ -16,9 +16,8 @@ use Rattle.build_core.specs.declared.plan.Origin.{Origin}
 use Rattle.build_core.specs.declared.plan.Origin.TheVariants as origin
 use Rattle.build_core.specs.declared.plan.OwnFile.{OwnFile}
 use Rattle.build_core.specs.declared.plan.PlanModule.{PlanModule}
-use Rattle.event_core.specs.Climbing.{Climbs}
-use Rattle.event_core.specs.Outlines.{file_of, files_read, is_listed, once_more}
-use Rattle.event_core.specs.Outlines.{files_of as entry_files}
+use Rattle.module_scripts.specs.Climbing.{Climbs}
+use Rattle.module_scripts.specs.Outlines.{file_of, files_of as entry_files, files_read, is_listed, once_more}
 use Rattle.event_core.specs.Sound.{are_below}
 use Rattle.event_core.specs.SoundPlans.{IsSoundPlanModule, is_backed, pom_first}
 use Rattle.plan_files.specs.Numbers.{fetch_locks, fetch_names, number_of, numbers_of, own_names, plan_files, plan_names}

@@ -10,7 +10,7 @@ use Rattle.coordinate_laws.specs.Apart.{IsFileOf}
 use Rattle.classpaths.specs.Classpaths.{files_of as winner_files}
 use Rattle.classpaths.specs.declared.resolution.Resolved.{Resolved}
 use Rattle.build_core.specs.declared.plan.OwnFile.{OwnFile}
-use Rattle.event_core.specs.Outlines.{is_listed}
+use Rattle.module_scripts.specs.Outlines.{is_listed}
 use Rattle.event_core.specs.Sound.{are_below}
 use Rattle.event_core.specs.SoundPlans.{TextsClimb}
 use Rattle.plan_files.specs.Numbers.{fetch_locks, fetch_names, files_of, locks_of, number_of, numbers_of, own_names, plan_files, plan_names}

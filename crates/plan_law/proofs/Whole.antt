@@ -10,8 +10,8 @@ use Rattle.coordinate_laws.proofs.Coordinates.{one_of_a_file}
 use Rattle.classpaths.specs.Classpaths.{files_of as winner_files}
 use Rattle.classpaths.specs.declared.resolution.Resolved.{Resolved}
 use Rattle.build_core.specs.declared.plan.PlanModule.{PlanModule}
-use Rattle.event_core.specs.Bounds.{total}
-use Rattle.event_core.specs.Outlines.{is_listed, module_outline, outline_of}
+use Rattle.module_scripts.specs.Bounds.{total}
+use Rattle.module_scripts.specs.Outlines.{is_listed, module_outline, outline_of}
 use Rattle.event_core.specs.Sound.{IsSound, IsSoundModule}
 use Rattle.event_core.specs.SoundPlans.{IsSoundPlan, IsSoundPlanModule, greatest_events, is_own, same_text}
 use Rattle.plan_files.specs.Numbers.{fetch_locks, number_of, numbers_of, plan_files, plan_names}

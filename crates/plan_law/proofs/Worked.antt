@@ -13,7 +13,7 @@ use Rattle.goal_types.specs.GoalRules.{goal_rule, maven_goals}
 use Rattle.lifecycle.specs.Bindings.{bindings_of}
 use Rattle.lifecycle.specs.Goals.{calls_through}
 use Rattle.mvn_base.specs.Phase.{phase_number}
-use Rattle.event_core.specs.Outlines.{is_listed}
+use Rattle.module_scripts.specs.Outlines.{is_listed}
 use Rattle.plan_files.specs.Numbers.{ascending, fetch_names, locks_of, numbers_of, plan_files, plan_names}
 use Rattle.plan_files.specs.Outputs.{outputs}
 use Rattle.plan_numbers.specs.Plans.{entries_of}

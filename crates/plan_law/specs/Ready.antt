@@ -3,8 +3,8 @@
 use Rattle.std.specs.Prelude.{◌≡◌, ℕ, ◌≤◌, true, List, Contains, slice_get, Some}
 use Rattle.mvn_base.specs.FileName.{IsValid}
 use Rattle.classpaths.specs.declared.resolution.Resolved.{Resolved}
-use Rattle.event_core.specs.Climbing.{Climbs}
-use Rattle.event_core.specs.Outlines.{is_listed}
+use Rattle.module_scripts.specs.Climbing.{Climbs}
+use Rattle.module_scripts.specs.Outlines.{is_listed}
 use Rattle.event_core.specs.Sound.{are_below}
 use Rattle.plan_files.specs.declared.selected.SelectedModule.{SelectedModule}
 

@@ -6,7 +6,7 @@ ghost use Rattle.mvn_base.specs.declared.phase.Phase.TheVariants.{Compile};
 ghost use Rattle.goal_types.specs.declared.goal.Slot.TheVariants.{Main};
 ghost use Rattle.build_core.specs.declared.plan.Entry as entry;
 ghost use Rattle.build_core.specs.declared.plan.Origin.TheVariants.{File, Module};
-ghost use Rattle.event_core.specs.Bounds.{total};
+ghost use Rattle.module_scripts.specs.Bounds.{total};
 ghost use Rattle.event_core.specs.SoundPlans.{IsSoundPlan, TextsClimb, greatest_events};
 ghost use Rattle.run_law.specs.Given.{IsPresent};
 ghost use Rattle.plan_files.specs.Numbers.{ascending, fetch_names, numbers_of, plan_files, plan_names};

@@ -15,7 +15,7 @@ use Rattle.build_core.specs.declared.plan.OwnFile.{OwnFile}
 use Rattle.build_core.specs.declared.plan.Plan.{Plan}
 use Rattle.build_core.specs.declared.plan.PlanModule.{PlanModule}
 use Rattle.build_core.specs.OneThread.{Progress, Supply, is_built, most_fetched, name_of, one_thread, remote_bytes}
-use Rattle.event_core.specs.Outlines.{is_listed}
+use Rattle.module_scripts.specs.Outlines.{is_listed}
 use Rattle.event_core.specs.SoundPlans.{IsSoundPlan}
 use Rattle.run_law.specs.Closed.{outputs_at, state_at}
 use Rattle.run_law.specs.Given.{Answers, IsBetween, supply_by}

@@ -22,9 +22,9 @@ use Rattle.run_law.proofs.Invariants.{IsFetchFile, IsOwnFile, outs, supply_of}
 use Rattle.run_law.specs.Given.{Extends, IsPresent, is_kept, supply_by}
 use Rattle.name_locks.specs.Locks.{hold}
 use Rattle.build_core.specs.OneThread.{Supply, is_built, lacks_artifact, most_classpath, name_of, one_thread, own_bytes}
-use Rattle.event_core.specs.Outlines.{is_listed, outline_of}
+use Rattle.module_scripts.specs.Outlines.{is_listed, outline_of}
 use Rattle.event_core.specs.Runs.{IsComplete, IsQuiet, IsRunOf, answers_in, contents, events_of, goals_in, standing_of_run}
-use Rattle.event_core.specs.Scripts.{Script, wanted}
+use Rattle.module_scripts.specs.Scripts.{Script, wanted}
 use Rattle.event_core.specs.SoundPlans.{IsSoundPlan}
 use Rattle.event_core.specs.Standing.{course_of, on_course}
 use Rattle.event_core.specs.Worlds.{AllFit, HandTold, is_good, publishes}

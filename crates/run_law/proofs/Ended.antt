@@ -11,27 +11,28 @@ use Rattle.build_core.specs.declared.ending.Ending.TheVariants as ending
 use Rattle.build_core.specs.declared.plan.Entry.{Entry}
 use Rattle.build_core.specs.declared.event.Event.{Event}
 use Rattle.build_core.specs.declared.event.Event.TheVariants as event
-use Rattle.event_core.specs.declared.outline.Outline.{Outline}
-use Rattle.event_core.specs.declared.outline.ModuleOutline.{ModuleOutline}
+use Rattle.module_scripts.specs.declared.outline.Outline.{Outline}
+use Rattle.module_scripts.specs.declared.outline.ModuleOutline.{ModuleOutline}
 use Rattle.goal_types.specs.declared.goal.OwnBytes.{OwnBytes}
 use Rattle.build_core.specs.declared.plan.Plan.{Plan}
 use Rattle.build_core.specs.declared.plan.PlanModule.{PlanModule}
-use Rattle.event_core.specs.declared.progress.Progress.{Progress}
-use Rattle.event_core.specs.declared.progress.Progress.TheVariants.{Waiting, Running, Skipped, Ended}
+use Rattle.module_progress.specs.declared.progress.Progress.{Progress}
+use Rattle.module_progress.specs.declared.progress.Progress.TheVariants.{Waiting, Running, Skipped, Ended}
 use Rattle.event_core.specs.declared.entry.RunEntry.{RunEntry}
 use Rattle.build_core.specs.declared.ending.State.TheVariants as state
 use Rattle.run_law.specs.Closed.{Verdict, available, missing_of, total_len, verdict_of_fetch, verdict_of_goals, verdict_of_install}
-use Rattle.event_core.specs.Enabled.{IsEnabled, ending_in_range, is_this, may_end_so, needs_artifact, off_ends, on_ends}
+use Rattle.module_progress.specs.HowFar.{is_done, is_over, is_this, is_waiting, progress_of, upstream_of}
+use Rattle.event_core.specs.Enabled.{IsEnabled, ending_in_range, may_end_so, needs_artifact, off_ends, on_ends}
 use Rattle.run_law.proofs.Invariants.{AreCoursesFit, AreEnded, AreGathering, AreKept, IsCourseFit, IsGathering, IsPassed, IsShaped, IsStored, IsWanting, has_answer, is_begun, is_quiet_end, outs, pending, supply_of}
 use Rattle.run_law.specs.Given.{IsPresent}
 use Rattle.build_core.specs.OneThread.{Supply, answer_at, lacks_artifact, most_classpath, name_of, remote_bytes}
-use Rattle.event_core.specs.Outlines.{is_listed, module_outline, outline_of}
+use Rattle.module_scripts.specs.Outlines.{is_listed, module_outline, outline_of}
 use Rattle.event_core.specs.Runs.{answers_in, contents, goals_in, standing_of_run}
-use Rattle.event_core.specs.Scripts.{Script, absent, answers, answers_left, fetches, frees, is_there, is_to_install, may_end, may_publish, publishes, reads, stage_of, step, takes, wanted, whole}
+use Rattle.module_scripts.specs.Scripts.{Script, absent, answers, answers_left, fetches, frees, is_there, is_to_install, may_end, may_publish, publishes, reads, stage_of, step, takes, wanted, whole}
 use Rattle.name_locks.specs.declared.mode.Mode.TheVariants.{Shared, Exclusive}
 use Rattle.build_core.specs.Slots.{GoalsEnd, all_answered, goal_failed, kept_of, output_too_large, run_goals}
 use Rattle.event_core.specs.SoundPlans.{is_backed}
-use Rattle.event_core.specs.Standing.{Course, Standing, after, course_of, ended, goals_of, idle, is_done, is_over, is_waiting, module_of, off_course, on_course, progress_of, upstream_of}
+use Rattle.event_core.specs.Standing.{Course, Standing, after, course_of, ended, goals_of, idle, module_of, off_course, on_course}
 use Rattle.event_core.specs.Worlds.{FitsEnd, HandTold, IsBeyond, IsWithin, has_failed_at, is_good, is_too_large_at, stood}
 use Rattle.run_law.proofs.Complete.{IsStanding}
 use Rattle.run_law.proofs.Gathering.{all_here, late_none, wanted_head}

@@ -6,17 +6,18 @@ use Rattle.std.proofs.lemmas.Bool.{eqb-true, false≢true}
 use Rattle.std.proofs.lemmas.List.{append-nil, append_assoc, get_or-set_same}
 use Rattle.build_core.specs.declared.event.Event.{Event}
 use Rattle.build_core.specs.declared.event.Event.TheVariants as event
-use Rattle.event_core.specs.declared.deed.Deed.{Deed}
-use Rattle.event_core.specs.declared.deed.Deed.TheVariants as deed
+use Rattle.module_scripts.specs.declared.deed.Deed.{Deed}
+use Rattle.module_scripts.specs.declared.deed.Deed.TheVariants as deed
 use Rattle.name_locks.specs.declared.mode.Mode.TheVariants.{Shared, Exclusive}
-use Rattle.event_core.specs.declared.outline.Outline.{Outline}
-use Rattle.event_core.specs.declared.outline.ModuleOutline.{ModuleOutline}
-use Rattle.event_core.specs.Climbing.{but}
+use Rattle.module_scripts.specs.declared.outline.Outline.{Outline}
+use Rattle.module_scripts.specs.declared.outline.ModuleOutline.{ModuleOutline}
+use Rattle.module_scripts.specs.Climbing.{but}
 use Rattle.event_core.specs.Enabled.{IsEnabled}
 use Rattle.run_law.proofs.Invariants.{AreCoursesFit, AreGathering, IsCourseFit, IsGathering, IsPassed, IsShaped, is_answering, pending}
 use Rattle.name_locks.specs.Locks.{below}
-use Rattle.event_core.specs.Scripts.{Script, Step, absent, answer_script, answers, choice_script, done, fetches, frees, install_script, is_gathered, is_there, is_wanted, lock_script, may_publish, own_script, publishes, read_script, reads, release_script, answers_left, script_of, settled, stage_of, step, steps, takes, wanted, whole}
-use Rattle.event_core.specs.Standing.{Course, Standing, after, after_deed, after_free, at_first, course_of, goals_of, held_by, idle, is_empty, off_course, on_course, start_of}
+use Rattle.module_scripts.specs.Scripts.{Script, Step, absent, answer_script, answers, choice_script, done, fetches, frees, install_script, is_gathered, is_there, is_wanted, lock_script, may_publish, own_script, publishes, read_script, reads, release_script, answers_left, script_of, settled, stage_of, step, steps, takes, wanted, whole}
+use Rattle.event_core.specs.Standing.{Course, Standing, after, after_deed, after_free, at_first, course_of, goals_of, held_by, idle, off_course, on_course, start_of}
+use Rattle.module_scripts.specs.Outlines.{is_empty}
 use Rattle.run_law.proofs.Courses.{at_place, there_grows}
 use Rattle.run_law.proofs.Once.{both}
 use Rattle.event_core.proofs.Ties.{any_idle}

@@ -9,11 +9,11 @@ use Rattle.mvn_shared.specs.Files.{Files, file_at}
 use Rattle.build_core.specs.declared.event.Answered.{Answered}
 use Rattle.event_core.specs.declared.entry.Carried.{Carried}
 use Rattle.event_core.specs.declared.entry.Carried.TheVariants as carried
-use Rattle.event_core.specs.declared.deed.Deed.TheVariants as deed
+use Rattle.module_scripts.specs.declared.deed.Deed.TheVariants as deed
 use Rattle.build_core.specs.declared.event.Event.{Event}
 use Rattle.build_core.specs.declared.event.Event.TheVariants as event
 use Rattle.name_locks.specs.declared.mode.Mode.TheVariants.{Exclusive}
-use Rattle.event_core.specs.declared.outline.Outline.{Outline}
+use Rattle.module_scripts.specs.declared.outline.Outline.{Outline}
 use Rattle.build_core.specs.declared.plan.OwnFile.{OwnFile}
 use Rattle.build_core.specs.declared.plan.Plan.{Plan}
 use Rattle.build_core.specs.declared.plan.PlanModule.{PlanModule}
@@ -23,11 +23,12 @@ use Rattle.run_law.specs.Given.{Extends, Given, IsBetween, IsCover, IsFitting, i
 use Rattle.run_law.proofs.Invariants.{IsFetchFile, IsOwnFile, files_fit}
 use Rattle.name_locks.specs.Locks.{hold}
 use Rattle.build_core.specs.OneThread.{answer_at, name_of}
-use Rattle.event_core.specs.Outlines.{is_listed, module_outline, outline_of}
+use Rattle.module_scripts.specs.Outlines.{is_listed, module_outline, outline_of}
 use Rattle.event_core.specs.Runs.{IsComplete, IsRunOf, answers_from, answers_in, contents, events_of, kept_by, module_by, standing_of_run}
-use Rattle.event_core.specs.Scripts.{Script, is_there, wanted}
+use Rattle.module_scripts.specs.Scripts.{Script, is_there, wanted}
 use Rattle.event_core.specs.SoundPlans.{IsSoundPlan}
-use Rattle.event_core.specs.Standing.{Standing, after, course_of, is_over, module_of, on_course, progress_of, standing_of}
+use Rattle.module_progress.specs.HowFar.{is_over, progress_of}
+use Rattle.event_core.specs.Standing.{Standing, after, course_of, module_of, on_course, standing_of}
 use Rattle.event_core.specs.Worlds.{AllFit, HandTold, publishes, was_published}
 use Rattle.run_law.proofs.Absent.{Stands, found, stands}
 use Rattle.run_law.proofs.Alone.{holds_now}

@@ -9,25 +9,26 @@ use Rattle.mvn_shared.specs.Files.{Files, file_at}
 use Rattle.build_core.specs.declared.event.Answered.{Answered}
 use Rattle.event_core.specs.declared.entry.Carried.{Carried}
 use Rattle.event_core.specs.declared.entry.Carried.TheVariants as carried
-use Rattle.event_core.specs.declared.deed.Deed.TheVariants as deed
+use Rattle.module_scripts.specs.declared.deed.Deed.TheVariants as deed
 use Rattle.build_core.specs.declared.event.Event.{Event}
 use Rattle.build_core.specs.declared.event.Event.TheVariants as event
-use Rattle.event_core.specs.declared.outline.Outline.{Outline}
+use Rattle.module_scripts.specs.declared.outline.Outline.{Outline}
 use Rattle.build_core.specs.declared.plan.OwnFile.{OwnFile}
 use Rattle.build_core.specs.declared.plan.Plan.{Plan}
 use Rattle.build_core.specs.declared.plan.PlanModule.{PlanModule}
-use Rattle.event_core.specs.declared.progress.Progress.{Progress}
-use Rattle.event_core.specs.declared.progress.Progress.TheVariants.{Running}
+use Rattle.module_progress.specs.declared.progress.Progress.{Progress}
+use Rattle.module_progress.specs.declared.progress.Progress.TheVariants.{Running}
 use Rattle.event_core.specs.declared.entry.RunEntry.{RunEntry}
 use Rattle.run_law.specs.Closed.{total_len}
 use Rattle.event_core.specs.Enabled.{Enabled, IsEnabled, is_due}
 use Rattle.run_law.proofs.Invariants.{IsCourseFit, IsGathering, files_fit, is_begun, outs, pending, supply_of}
 use Rattle.run_law.specs.Given.{IsPresent, is_answer, is_kept}
 use Rattle.build_core.specs.OneThread.{Supply, answer_at, lacks_artifact, most_classpath, name_of}
-use Rattle.event_core.specs.Outlines.{is_listed, module_outline, outline_of}
+use Rattle.module_scripts.specs.Outlines.{is_listed, module_outline, outline_of}
 use Rattle.event_core.specs.Runs.{IsRunOf, answers_in, contents, events_of, kept_by, put_carried, standing_of_run}
-use Rattle.event_core.specs.Scripts.{Script, absent, answers, fetches, frees, may_publish, publishes, reads, step, takes, wanted, whole}
-use Rattle.event_core.specs.Standing.{Standing, after, course_of, is_over, module_of, on_course, progress_of, standing_of}
+use Rattle.module_scripts.specs.Scripts.{Script, absent, answers, fetches, frees, may_publish, publishes, reads, step, takes, wanted, whole}
+use Rattle.module_progress.specs.HowFar.{is_over, progress_of}
+use Rattle.event_core.specs.Standing.{Standing, after, course_of, module_of, on_course, standing_of}
 use Rattle.event_core.specs.Worlds as worlds
 use Rattle.event_core.specs.Worlds.{AllFit, Fits, FitsBehind, FitsBytes, HandTold, is_answered, is_good, stood}
 use Rattle.run_law.proofs.Carried.{at_insert, name_itself}

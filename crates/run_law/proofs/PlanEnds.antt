@@ -12,7 +12,7 @@ use Rattle.build_core.specs.declared.ending.Ending.TheVariants as ending
 use Rattle.event_core.specs.declared.entry.RunEntry.{RunEntry}
 use Rattle.event_core.specs.Causes.{cause_now}
 use Rattle.build_core.specs.OneThread.{bytes_len, most_classpath, most_fetched, remote_bytes}
-use Rattle.event_core.specs.Outlines.{outline_of}
+use Rattle.module_scripts.specs.Outlines.{outline_of}
 use Rattle.event_core.specs.Runs.{IsComplete, IsQuiet, IsRunOf, events_of}
 use Rattle.event_core.specs.Standing.{after}
 use Rattle.event_core.specs.Worlds.{AllFit, HandTold}

@@ -14,7 +14,7 @@ use Rattle.event_core.specs.Runs.{IsComplete, IsQuiet, IsRunOf, contents, events
 use Rattle.std.specs.FinMap as finite
 use Rattle.build_core.specs.OneThread.{bytes_len, most_classpath, remote_bytes}
 use Rattle.run_law.proofs.Carried.{at_insert}
-use Rattle.event_core.specs.Outlines.{outline_of}
+use Rattle.module_scripts.specs.Outlines.{outline_of}
 use Rattle.event_core.specs.Standing.{after}
 use Rattle.event_core.specs.Worlds.{AllFit, Fits, HandTold}
 use Rattle.run_law.specs.SamplePlan.{plan}

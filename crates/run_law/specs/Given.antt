@@ -14,11 +14,11 @@ use Rattle.event_core.specs.declared.entry.RunEntry.{RunEntry}
 use Rattle.build_core.specs.declared.ending.State.{State}
 use Rattle.build_core.specs.declared.ending.State.TheVariants as state
 use Rattle.build_core.specs.OneThread.{Progress, Supply, name_of, one_thread}
-use Rattle.event_core.specs.Outlines.{is_listed, outline_of}
+use Rattle.module_scripts.specs.Outlines.{is_listed, outline_of}
 use Rattle.event_core.specs.Runs.{IsComplete, IsQuiet, IsRunOf, outputs_in, standing_of_run}
-use Rattle.event_core.specs.Scripts.{is_there}
+use Rattle.module_scripts.specs.Scripts.{is_there}
 use Rattle.event_core.specs.SoundPlans.{IsSoundPlan}
-use Rattle.event_core.specs.Standing.{state_of, upstream_of}
+use Rattle.module_progress.specs.HowFar.{state_of, upstream_of}
 use Rattle.event_core.specs.Worlds.{AllFit, HandTold}
 
 -- the answers to all goals, by module and goal

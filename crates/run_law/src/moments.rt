@@ -5,10 +5,10 @@ ghost use Rattle.build_core.specs.declared.event.Event.TheVariants.{Publish};
 ghost use Rattle.build_core.specs.declared.plan.Plan.{Plan};
 ghost use Rattle.event_core.specs.declared.entry.RunEntry.{RunEntry};
 ghost use Rattle.event_core.specs.Enabled.{Enabled};
-ghost use Rattle.event_core.specs.Outlines.{outline_of};
+ghost use Rattle.module_scripts.specs.Outlines.{outline_of};
 ghost use Rattle.event_core.specs.Runs.{IsComplete, IsRunOf, contents, events_of, standing_of_run};
 ghost use Rattle.event_core.specs.SoundPlans.{IsSoundPlan};
-ghost use Rattle.event_core.specs.Standing.{is_over, progress_of};
+ghost use Rattle.module_progress.specs.HowFar.{is_over, progress_of};
 ghost use Rattle.event_core.specs.Worlds.{was_published};
 ghost use Rattle.run_law.specs.Given.{Given, IsBetween, IsFitting, outputs_after};
 

@@ -11,9 +11,9 @@ use Rattle.build_core.specs.declared.plan.Plan.{Plan}
 use Rattle.event_core.specs.declared.entry.Carried.{Carried}
 use Rattle.event_core.specs.declared.entry.Carried.TheVariants as carried
 use Rattle.event_core.specs.declared.entry.RunEntry.{RunEntry}
-use Rattle.event_core.specs.declared.outline.Outline.{Outline}
+use Rattle.module_scripts.specs.declared.outline.Outline.{Outline}
 use Rattle.event_core.specs.Enabled.{Enabled, IsEnabled, IsRun}
-use Rattle.event_core.specs.Outlines.{outline_of}
+use Rattle.module_scripts.specs.Outlines.{outline_of}
 use Rattle.event_core.specs.Runs.{IsRunOf, events_of}
 use Rattle.event_core.specs.Standing.{Standing, standing_of}
 use Rattle.event_core.specs.Worlds.{AllFit, Fits, HandTold, is_bare, is_told, worker_of}

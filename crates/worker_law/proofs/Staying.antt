@@ -22,22 +22,23 @@ use Rattle.build_core.specs.declared.plan.Origin.TheVariants as origin
 use Rattle.build_core.specs.declared.plan.OwnFile.{OwnFile}
 use Rattle.build_core.specs.declared.plan.Plan.{Plan}
 use Rattle.build_core.specs.declared.plan.PlanModule.{PlanModule}
-use Rattle.event_core.specs.declared.deed.Deed.TheVariants as deed
+use Rattle.module_scripts.specs.declared.deed.Deed.TheVariants as deed
 use Rattle.event_core.specs.declared.entry.Carried.{Carried}
 use Rattle.event_core.specs.declared.entry.Carried.TheVariants as carried
 use Rattle.event_core.specs.declared.entry.RunEntry.{RunEntry}
-use Rattle.event_core.specs.declared.outline.ModuleOutline.{ModuleOutline}
-use Rattle.event_core.specs.declared.outline.Outline.{Outline}
-use Rattle.event_core.specs.declared.progress.Progress.{Progress}
-use Rattle.event_core.specs.declared.progress.Progress.TheVariants.{Running}
-use Rattle.event_core.specs.Climbing.{but}
+use Rattle.module_scripts.specs.declared.outline.ModuleOutline.{ModuleOutline}
+use Rattle.module_scripts.specs.declared.outline.Outline.{Outline}
+use Rattle.module_progress.specs.declared.progress.Progress.{Progress}
+use Rattle.module_progress.specs.declared.progress.Progress.TheVariants.{Running}
+use Rattle.module_scripts.specs.Climbing.{but}
 use Rattle.event_core.specs.Enabled.{Enabled, IsEnabled, IsRun, is_due}
-use Rattle.event_core.specs.Outlines.{is_listed, module_outline, outline_of}
+use Rattle.module_scripts.specs.Outlines.{is_empty, is_listed, module_outline, outline_of}
 use Rattle.event_core.specs.Runs.{IsRunOf, answers_in, contents, events_of, goals_in, kept_by, module_by, outputs_in, put_carried, standing_of_run}
-use Rattle.event_core.specs.Scripts.{Script, is_there, settled, stage_of, wanted}
+use Rattle.module_scripts.specs.Scripts.{Script, is_there, settled, stage_of, wanted}
 use Rattle.event_core.specs.SoundPlans.{IsSoundPlan, is_backed}
-use Rattle.event_core.specs.Standing.{Standing, after, after_deed, after_free, course_of, held_by, idle, is_done, is_empty, is_over, module_of, on_course, progress_of, standing_of, start_of, upstream_of}
-use Rattle.event_core.proofs.Climbs.{both}
+use Rattle.module_progress.specs.HowFar.{is_done, is_over, progress_of, upstream_of}
+use Rattle.event_core.specs.Standing.{Standing, after, after_deed, after_free, course_of, held_by, idle, module_of, on_course, standing_of, start_of}
+use Rattle.module_scripts.proofs.Climbs.{both}
 use Rattle.event_core.proofs.Fits.{fold_more}
 use Rattle.run_law.specs.Given.{outputs_after}
 use Rattle.run_law.proofs.Absent.{Stands, IsAbsentAt, found, stands}

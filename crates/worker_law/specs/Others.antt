@@ -7,7 +7,7 @@ use Rattle.build_core.specs.declared.plan.Plan.{Plan}
 use Rattle.build_core.specs.declared.plan.PlanModule.{PlanModule}
 use Rattle.event_core.specs.declared.entry.RunEntry.{RunEntry}
 use Rattle.event_core.specs.Runs.{standing_of_run}
-use Rattle.event_core.specs.Scripts.{is_there}
+use Rattle.module_scripts.specs.Scripts.{is_there}
 use Rattle.event_core.specs.Worlds.{worker_of}
 
 -- an event is this worker's

@@ -1,6 +1,6 @@
 // Small builds, made from numbers. Each module has a name of its own, and each file that is fetched a name that covers it.
 use crate::events::draws::Draws;
-use event_core::{ModuleOutline, Outline};
+use module_scripts::{ModuleOutline, Outline};
 use mvn_shared::{List, Mem};
 use std::alloc::Global;
 

@@ -4,7 +4,8 @@ use crate::events::answers::{TOLD, event_at, number_of, told_at};
 use crate::events::builds::bare;
 use crate::events::walks::begun;
 use build_core::Event;
-use event_core::{Core, ModuleOutline, Outline};
+use event_core::Core;
+use module_scripts::{ModuleOutline, Outline};
 use mvn_shared::{List, Mem};
 use std::alloc::Global;
 

@@ -1,6 +1,7 @@
 use Rattle.std.proofs.Common.{◌≡◌, ◌≤◌, length, map, vec_capacity}
 use Rattle.name_locks.specs.Locks.{below}
-use Rattle.event_core.specs.Standing.{standing_of, state_of}
+use Rattle.module_progress.specs.HowFar.{state_of}
+use Rattle.event_core.specs.Standing.{standing_of}
 use Rattle.board.proofs.states.fill.Given as goal
 
 -- the states of so many modules, with room for the others

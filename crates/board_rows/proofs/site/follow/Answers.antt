@@ -1,4 +1,4 @@
-use Rattle.event_core.specs.Outlines.{outline_of}
+use Rattle.module_scripts.specs.Outlines.{outline_of}
 use Rattle.event_core.specs.Runs.{events_of}
 use Rattle.board_rows.proofs.Sites.{never_refused}
 use Rattle.board_rows.proofs.site.follow.Goals as goal

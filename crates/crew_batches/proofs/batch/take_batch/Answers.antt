@@ -1,7 +1,7 @@
 use Rattle.std.proofs.Common.{◌≡◌, ◌<◌, ◌≤◌, true, length, get_or, arith, sym, ap, subst, ◌∙◌}
 use Rattle.std.proofs.lemmas.Bool.Decides.{nat_tests}
 use Rattle.build_core.specs.declared.event.Event.TheVariants as event
-use Rattle.event_core.specs.declared.deed.Deed.TheVariants as deed
+use Rattle.module_scripts.specs.declared.deed.Deed.TheVariants as deed
 use Rattle.event_core.specs.Enabled.{is_due}
 use Rattle.crew_turns.specs.Seen.{Steps, course_by}
 use Rattle.crew_turns.specs.Tasks.{IsTask, stood_by}

@@ -1,6 +1,6 @@
 use Rattle.std.proofs.Common.{sym, subst}
 use Rattle.build_core.specs.declared.event.Event.TheVariants as event
-use Rattle.event_core.specs.declared.deed.Deed.TheVariants as deed
+use Rattle.module_scripts.specs.declared.deed.Deed.TheVariants as deed
 use Rattle.crew_turns.specs.Tasks.{IsTask}
 use Rattle.crew_batches.proofs.Taking.{HasWaited, due_later, steps_behind, take_later, waited_more, whose_later}
 use Rattle.crew_batches.proofs.batch.take_name.Goals as goal

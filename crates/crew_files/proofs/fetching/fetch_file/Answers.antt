@@ -5,8 +5,8 @@ use Rattle.build_core.specs.OneThread.{name_of, remote_bytes}
 use Rattle.build_core.specs.declared.ending.Ending.TheVariants.{Missing}
 use Rattle.build_core.specs.declared.event.Event.TheVariants as event
 use Rattle.event_core.specs.Enabled.{is_due}
-use Rattle.event_core.specs.Outlines.{is_listed}
-use Rattle.event_core.specs.declared.deed.Deed.TheVariants as deed
+use Rattle.module_scripts.specs.Outlines.{is_listed}
+use Rattle.module_scripts.specs.declared.deed.Deed.TheVariants as deed
 use Rattle.crew_turns.specs.Seen.{Steps, course_by}
 use Rattle.crew_turns.specs.Tasks.{IsTask}
 use Rattle.crew_stages.specs.Hands.{told_by}

@@ -4,7 +4,7 @@ use Rattle.build_core.specs.Slots.{kept_of}
 use Rattle.build_core.specs.OneThread.{lacks_artifact}
 use Rattle.build_core.specs.declared.ending.Ending.TheVariants.{Built}
 use Rattle.event_core.specs.Enabled.{is_due}
-use Rattle.event_core.specs.declared.deed.Deed.TheVariants as deed
+use Rattle.module_scripts.specs.declared.deed.Deed.TheVariants as deed
 use Rattle.crew_turns.specs.Ends.{ends_as}
 use Rattle.crew_turns.specs.Seen.{course_by}
 use Rattle.crew_turns.specs.Tasks.{IsTask}

@@ -3,8 +3,8 @@ use Rattle.std.specs.FinMap as finite
 use Rattle.goal_types.specs.declared.goal.Slot.TheVariants.{Nowhere}
 use Rattle.mvn_outside.proofs.NumberMaps.{put_there}
 use Rattle.build_core.specs.declared.plan.OwnFile.{OwnFile}
-use Rattle.event_core.specs.ScriptPlaces.{rest_of}
-use Rattle.event_core.specs.declared.script_place.ScriptPlace.TheVariants as place
+use Rattle.module_scripts.specs.ScriptPlaces.{rest_of}
+use Rattle.module_scripts.specs.declared.script_place.ScriptPlace.TheVariants as place
 use Rattle.crew_turns.specs.Tasks.{IsTask, unit_outline}
 use Rattle.crew_stages.specs.Hands.{told_by}
 use Rattle.crew_stages.specs.Pieces.{FitsPiece}

@@ -1,5 +1,5 @@
 use Rattle.std.proofs.Common.{length, None, refl, sym, ap, subst, ◌∙◌}
-use Rattle.event_core.specs.Outlines.{files_read}
+use Rattle.module_scripts.specs.Outlines.{files_read}
 use Rattle.event_core.specs.Standing.{module_of}
 use Rattle.crew_modules.proofs.Counts.{not_gathered}
 use Rattle.crew_modules.proofs.Ended.{ended_later, follows_all}

@@ -1,7 +1,7 @@
 use Rattle.std.proofs.Common.{[], None, refl, ap, ◌∙◌}
-use Rattle.event_core.specs.Scripts.{settled}
+use Rattle.module_scripts.specs.Scripts.{settled}
 use Rattle.event_core.specs.Standing.{on_course}
-use Rattle.event_core.proofs.ScriptPlaces.{start_is}
+use Rattle.event_core.proofs.Starts.{start_is}
 use Rattle.event_core.proofs.course.Course.begun.Goals as goal
 
 pub returns-clause-at : goal.returns-clause-at

@@ -1,6 +1,6 @@
 use Rattle.std.proofs.Common.{◌≡◌, ◌≤◌, ◌+◌, [], List, length, arith, sym, ap, subst, ◌∙◌}
 use Rattle.build_core.specs.declared.event.Event.{Event}
-use Rattle.event_core.specs.Bounds.{events_left}
+use Rattle.event_core.specs.EventsLeft.{events_left}
 use Rattle.event_core.specs.Enabled.{IsRun}
 use Rattle.event_core.specs.Fitting.{IsFit, IsTied}
 use Rattle.event_core.specs.Standing.{standing_of}

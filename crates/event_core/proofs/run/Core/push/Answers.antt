@@ -1,5 +1,5 @@
 use Rattle.std.proofs.Common.{◌+◌, ◌≤◌, ◌∷◌, [], ◌++◌, length, arith, sym, ap, subst, ◌∙◌}
-use Rattle.event_core.specs.Bounds.{events_left}
+use Rattle.event_core.specs.EventsLeft.{events_left}
 use Rattle.event_core.specs.Enabled.{Enabled, IsEnabled, IsRun}
 use Rattle.event_core.specs.Fitting.{IsFit, IsTied}
 use Rattle.event_core.specs.Standing.{after, standing_of}

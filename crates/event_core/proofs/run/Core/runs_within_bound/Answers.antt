@@ -1,7 +1,7 @@
 use Rattle.std.proofs.Common.{◌≤◌, ◌+◌, List, [], length, arith, subst}
 use Rattle.build_core.specs.declared.event.Event.{Event}
-use Rattle.event_core.specs.declared.outline.Outline.{Outline}
-use Rattle.event_core.specs.Bounds.{events_left}
+use Rattle.module_scripts.specs.declared.outline.Outline.{Outline}
+use Rattle.event_core.specs.EventsLeft.{events_left}
 use Rattle.event_core.specs.Enabled.{IsRun}
 use Rattle.event_core.specs.Standing.{standing_of}
 use Rattle.event_core.proofs.run.Core.runs_within_bound.Goals as goal

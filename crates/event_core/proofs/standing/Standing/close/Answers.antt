@@ -1,7 +1,6 @@
 use Rattle.std.proofs.Common.{sym, ap, ◌∙◌}
-use Rattle.event_core.specs.Standing.{ended}
+use Rattle.event_core.specs.Standing.{ended, module_of}
 use Rattle.event_core.specs.Kept.{standing_in}
-use Rattle.event_core.specs.Standing.{module_of}
 use Rattle.event_core.proofs.standing.Standing.close.Goals as goal
 
 pub set-requires-clause-low : goal.set-requires-clause-low

@@ -1,7 +1,7 @@
 use Rattle.std.proofs.Common.{ap, sym, subst, ◌∙◌}
 use Rattle.event_core.specs.Standing.{after_deed, held_by, turned_to}
 use Rattle.event_core.specs.Kept.{course_at, standing_in}
-use Rattle.event_core.specs.HeldAt.{CourseHolds}
+use Rattle.event_core.specs.Holders.{CourseHolds}
 use Rattle.event_core.specs.Enabled.{is_due}
 use Rattle.event_core.proofs.standing.Standing.deed.Goals as goal
 

@@ -1,10 +1,11 @@
 use Rattle.std.proofs.Common.{None, slice_set, sym, subst, ap, ◌∙◌}
-use Rattle.event_core.specs.declared.progress.Progress.TheVariants.{Running}
-use Rattle.event_core.specs.Scripts.{settled}
-use Rattle.event_core.specs.Standing.{is_empty, on_course, start_of, turned_to}
+use Rattle.module_progress.specs.declared.progress.Progress.TheVariants.{Running}
+use Rattle.module_scripts.specs.Scripts.{settled}
+use Rattle.module_scripts.specs.Outlines.{is_empty}
+use Rattle.event_core.specs.Standing.{on_course, start_of, turned_to}
 use Rattle.event_core.specs.Kept.{course_at, standing_in}
 use Rattle.event_core.proofs.HeldAt.{turned_holding}
-use Rattle.event_core.specs.HeldAt.{CourseHolds}
+use Rattle.event_core.specs.Holders.{CourseHolds}
 use Rattle.event_core.proofs.standing.Standing.start.Goals as goal
 
 pub returns-clause-at : goal.returns-clause-at

@@ -1,5 +1,0 @@
-use Rattle.event_core.proofs.Dues.{not_take}
-use Rattle.event_core.proofs.script_place.taken.Goals as goal
-
-pub returns-in_default-clause-rest : goal.returns-in_default-clause-rest
-returns-in_default-clause-rest c = not_take c.args.plan.now c.args.mode c.args.name c.args.place c.requires c.in_default.not-Sharing c.in_default.not-Locking c.in_default.not-Securing

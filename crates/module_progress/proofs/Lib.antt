@@ -1,0 +1,4 @@
+mod Below
+mod Changes
+mod Follows
+mod Fronts

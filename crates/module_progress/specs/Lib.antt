@@ -1,0 +1,3 @@
+pub use Rattle.name_locks.specs.Locks
+pub mod Fronts
+pub mod HowFar

@@ -1,0 +1,5 @@
+pub mod Climbs
+pub mod Dues
+mod Most
+mod Readings
+pub mod ScriptPlaces

@@ -48,7 +48,7 @@ for shape in chain diamonds excluded; do
   done
 done
 first=
-for winners in 1000 2000 4000; do
+for winners in 1000 2000 4000 8000; do
   excluding "$winners" > in
   row 'winners in a graph: excluding' "$winners" $(($(least 15) - base))
   kib=$("$memory" "$program" < in)

@@ -1,6 +1,8 @@
 -- What exclusions in parts come to. Project rule.
-use Rattle.std.specs.Prelude.{◌<◌, List, ◌++◌, length, ⊤}
+use Rattle.std.specs.Prelude.{◌≡◌, ◌<◌, List, ◌++◌, length, ⊤}
+use Rattle.model_types.specs.declared.dependency.Dependency.{Dependency}
 use Rattle.model_types.specs.declared.dependency.Exclusion.{Exclusion}
+use Rattle.exclusion_set.specs.Excluding.{is_excluded}
 use Rattle.collector.specs.declared.chain.Link.{Link}
 use Rattle.collector.specs.declared.chain.Link.TheVariants.{First, Behind}
 
@@ -13,3 +15,7 @@ linked (Behind above own) = above.value ++ own
 abbrev pub IsLink : Link → Type 0
 IsLink (First own) = ⊤
 IsLink (Behind above own) = 0 < length own
+
+-- two lists exclude the same
+abbrev pub ExcludeSame : List Exclusion → List Exclusion → Type 0
+ExcludeSame set list = (d : Dependency) → is_excluded set d ≡ is_excluded list d

@@ -1,13 +1,13 @@
 -- What the dependencies of one POM lead to. Introduction to the Dependency Mechanism, "Transitive Dependencies",
 -- "Dependency Management" and "Excluded Dependencies".
 use Rattle.std.specs.Prelude.{ℕ, ◌+◌, Bool, false, not, ◌&&◌, ◌||◌, List, [], ◌∷◌, ◌++◌, codes, Option, Some, None, is_some, if◌then◌else◌}
-use Rattle.std.specs.List.{list_any}
 use Rattle.std.specs.Option.{option_or}
 use Rattle.std.specs.Str.{bytes_eq}
 use Rattle.mvn_base.specs.declared.key.Key.{Key}
 use Rattle.model_types.specs.declared.dependency.Dependency.{Dependency}
 use Rattle.model_types.specs.declared.dependency.Exclusion.{Exclusion}
 use Rattle.managed_deps.specs.Managed.{find_pair, is_scope, key_of}
+pub use Rattle.exclusion_set.specs.Excluding.{excludes, is_excluded, is_named}
 use Rattle.collector.specs.declared.edge.Edge.{Edge}
 use Rattle.collector.specs.declared.scope.Scope.{Scope}
 use Rattle.collector.specs.declared.scope.Scope.TheVariants.{Compile, Provided, Runtime, Test}
@@ -58,16 +58,6 @@ is_kept d =
     || (is_scope (codes "test") d.scope
     || (is_scope (codes "provided") d.scope
     || is_scope (codes "system") d.scope)))
-
--- an exclusion's group or artifact names a text, and `*` any
-abbrev pub is_named : List ℕ → List ℕ → Bool
-is_named pattern name = bytes_eq pattern (codes "*") || bytes_eq pattern name
-
-abbrev pub excludes : Dependency → Exclusion → Bool
-excludes d e = is_named e.group d.group && is_named e.artifact d.artifact
-
-abbrev pub is_excluded : List Exclusion → Dependency → Bool
-is_excluded cut d = list_any (excludes d) cut
 
 -- a declaration below the project that isn't managed, and one that is: there the managed version and scope come first,
 -- and the managed exclusions last

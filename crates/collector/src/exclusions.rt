@@ -1,7 +1,10 @@
 ghost use Rattle.std.specs.Prelude.{◌≡◌, ◌↔◌, ◌++◌, [], IsTrue, IfOk};
+ghost use Rattle.exclusion_set.specs.Excluding.{is_excluded};
+ghost use Rattle.collector.specs.Chains.{ExcludeSame};
 
 use crate::chain::Chain;
-use model_types::Exclusion;
+use exclusion_set::ExclusionSet;
+use model_types::{Dependency, Exclusion};
 use mvn_shared::{List, Mem};
 use std::alloc::Global;
 use std::marker::Model;
@@ -11,7 +14,9 @@ use std::sync::Arc;
 /// it shares. Contracts see the whole list.
 #[derive(Drop)]
 pub struct Exclusions {
-    pub(crate) chain: Arc<Chain>,
+    chain: Arc<Chain>,
+    // The same to look up in.
+    set: ExclusionSet,
 }
 
 impl Model for Exclusions {
@@ -25,15 +30,20 @@ impl Model for Exclusions {
     ghost coded = { Prim.hlevel (codes) };
 
     ghost view = { λ exclusions. arc_value exclusions.chain };
+
+    ghost use Rattle.collector.specs.Chains.{ExcludeSame};
+
+    ghost invariant = { λ exclusions. ExcludeSame exclusions.set (arc_value exclusions.chain) };
 }
 
 impl Exclusions {
-    /// Those of a list. Costs one allocation.
+    /// Those of a list. Costs one allocation, and putting each into a set.
     pub fn new(alloc: Global, list: List<Exclusion>) -> Mem<Exclusions>
         ensures { IfOk result (λ exclusions. exclusions ≡ list) }
     {
+        let set = added(alloc, &ExclusionSet::new(), &list)?;
         let chain = Arc::new(alloc, Chain::of(list))?;
-        Ok(Exclusions { chain })
+        Ok(Exclusions { chain, set })
     }
 
     /// The same, in constant time; nothing is copied.
@@ -41,7 +51,8 @@ impl Exclusions {
         ensures { IfOk result (λ exclusions. exclusions ≡ self.now) }
     {
         let chain = Arc::try_clone(&self.chain)?;
-        Ok(Exclusions { chain })
+        let set = self.set.share()?;
+        Ok(Exclusions { chain, set })
     }
 
     /// Whether there is none. Constant time.
@@ -51,7 +62,14 @@ impl Exclusions {
         self.chain.is_empty()
     }
 
-    // These, which are shared, and others behind them. Costs the others.
+    // Whether one of them names a declaration. Costs some steps, however many there are.
+    pub(crate) fn excludes(&self, dependency: &Dependency) -> bool
+        ensures { result ≡ is_excluded self.now dependency.now }
+    {
+        self.set.excludes(dependency)
+    }
+
+    // These, which are shared, and others behind them. Costs the others, and some steps for each of them to put it into the set.
     pub(crate) fn with(&self, alloc: Global, more: &List<Exclusion>) -> Mem<Exclusions>
         ensures { IfOk result (λ exclusions. exclusions ≡ self.now ++ more.now) }
     {
@@ -60,8 +78,9 @@ impl Exclusions {
         }
         let above = Arc::try_clone(&self.chain)?;
         let own = copied(more)?;
+        let set = added(alloc, &self.set, more)?;
         let chain = Arc::new(alloc, Chain::behind(above, own))?;
-        Ok(Exclusions { chain })
+        Ok(Exclusions { chain, set })
     }
 }
 
@@ -70,4 +89,15 @@ fn copied(list: &List<Exclusion>) -> Mem<List<Exclusion>>
     ensures { IfOk result (λ copy. copy ≡ list.now) }
 {
     Ok(list.clone()?)
+}
+
+// A set with the exclusions of a list.
+fn added(alloc: Global, set: &ExclusionSet, more: &List<Exclusion>) -> Mem<ExclusionSet>
+    ensures { IfOk result (λ all. ExcludeSame all (set.now ++ more.now)) }
+{
+    let mut all = set.share()?;
+    for one in more.as_slice() {
+        all = all.with(alloc, one)?;
+    }
+    Ok(all)
 }

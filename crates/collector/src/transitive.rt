@@ -1,13 +1,12 @@
 ghost use Rattle.std.specs.Prelude.{◌≡◌, ◌++◌, IfOk, OnOk};
-ghost use Rattle.collector.specs.Edges.{edge_below, excludes, is_excluded, is_kept, is_named, managed_edge, plain_edge, transitive_edge, transitive_edges};
+ghost use Rattle.collector.specs.Edges.{edge_below, is_kept, managed_edge, plain_edge, transitive_edge, transitive_edges};
 
-use crate::chain::{Chain, Link};
 use crate::edge::{Edge, first_of, stated_edge};
 use crate::exclusions::Exclusions;
 use crate::scope::is_scope;
 use keyed_lists::Keyed;
 use managed_deps::ManagedSet;
-use model_types::{Dependency, Exclusion};
+use model_types::Dependency;
 use mvn_base::Key;
 use mvn_shared::{List, Mem, Shared};
 use std::alloc::Global;
@@ -21,51 +20,6 @@ fn is_kept(dependency: &Dependency) -> bool
         || is_scope(scope, "test")
         || is_scope(scope, "provided")
         || is_scope(scope, "system"))
-}
-
-// Whether a pattern names a text.
-fn is_named(pattern: &str, name: &str) -> bool
-    ensures { result ≡ is_named pattern.now name.now }
-{
-    pattern == "*" || pattern == name
-}
-
-// Whether an exclusion names a declaration.
-fn excludes(exclusion: &Exclusion, dependency: &Dependency) -> bool
-    ensures { result ≡ excludes dependency.now exclusion.now }
-{
-    is_named(exclusion.group.as_str(), dependency.group.as_str())
-        && is_named(exclusion.artifact.as_str(), dependency.artifact.as_str())
-}
-
-// Whether some exclusion of one part does.
-fn is_excluded(cut: &[Exclusion], dependency: &Dependency) -> bool
-    ensures { result ≡ is_excluded cut.now dependency.now }
-{
-    for exclusion in cut {
-        if excludes(exclusion, dependency) {
-            return true;
-        }
-    }
-    false
-}
-
-// Whether some exclusion of all the parts does; the last part is looked at first.
-fn is_among(chain: &Chain, dependency: &Dependency) -> bool
-    ensures { result ≡ is_excluded chain.now dependency.now }
-{
-    let mut cut = chain;
-    loop {
-        match &cut.link {
-            Link::First(own) => return is_excluded(own.as_slice(), dependency),
-            Link::Behind(above, own) => {
-                if is_excluded(own.as_slice(), dependency) {
-                    return true;
-                }
-                cut = above;
-            }
-        }
-    }
 }
 
 // What a declaration leads to that isn't managed.
@@ -144,7 +98,7 @@ fn add_edge(
     ensures { OnOk result (list.new
         ≡ list.old ++ transitive_edge managed.now cut.now position dependency.now) }
 {
-    if is_kept(dependency) && !is_among(&cut.chain, dependency) {
+    if is_kept(dependency) && !cut.excludes(dependency) {
         list.push(edge_below(alloc, position, dependency, managed, cut)?)?;
     }
     Ok(())
@@ -153,7 +107,8 @@ fn add_edge(
 /// What the dependencies of a POM below the project lead to. Left out are those that are optional, those of the scopes
 /// test, provided and system, and those that an exclusion from above names, `*` standing for any group or artifact. The
 /// version and the scope that the project manages replace the declaration's, and its exclusions are added. Costs the
-/// texts, a look-up each, and a comparison with each exclusion; what is left out above is shared and never copied.
+/// texts, and for each declaration a look-up of what manages it and one of some steps among the exclusions, which are
+/// shared with those above and never copied.
 /// Introduction to the Dependency Mechanism, "Transitive Dependencies", "Dependency Management" and "Excluded
 /// Dependencies".
 pub fn edges(

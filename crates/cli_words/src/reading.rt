@@ -1,5 +1,6 @@
-ghost use Rattle.std.specs.Prelude.{◌≡◌, ◌≤◌, true, is_some};
-ghost use Rattle.cli_words.specs.Faults.{Answers};
+ghost use Rattle.std.specs.Prelude.{◌≡◌, ◌≤◌, true, is_some, Some, Ok};
+ghost use Rattle.std.specs.Result.{MatchResult};
+ghost use Rattle.cli_words.specs.Faults.{Answers, Refuses};
 ghost use Rattle.cli_words.specs.Options.{is_there, joined_value, joined_word, next_value, next_word, option_word, other_word, phase_word, with_spelling};
 
 use crate::fault::{WordError, WordKind, fault};
@@ -40,18 +41,30 @@ impl Line {
         }
     }
 
-    // A word without a hyphen.
-    fn phase_word(mut self, at: usize, word: &str) -> Result<Line, WordError>
-        ensures { Answers (phase_word at word.now self) result }
+    // The phase that a word is, where it may be the line's.
+    fn new_phase(&self, at: usize, word: &str) -> Result<Phase, WordError>
+        ensures { MatchResult result
+            (λ phase. phase_word at word.now self.now ≡ Ok (record self.now { phase = Some phase }))
+            (λ error. Refuses error (phase_word at word.now self.now)) }
     {
         match phase_of(word.as_bytes()) {
             None => Err(fault(at, WordKind::UnknownPhase)),
             Some(_) if self.phase.is_some() => Err(fault(at, WordKind::TwoPhases)),
             Some(Phase::Deploy) => Err(fault(at, WordKind::DeployPhase)),
-            Some(phase) => {
+            Some(phase) => Ok(phase),
+        }
+    }
+
+    // A word without a hyphen.
+    fn phase_word(mut self, at: usize, word: &str) -> Result<Line, WordError>
+        ensures { Answers (phase_word at word.now self) result }
+    {
+        match self.new_phase(at, word) {
+            Ok(phase) => {
                 self.phase = Some(phase);
                 Ok(self)
             }
+            Err(error) => Err(error),
         }
     }
 

@@ -1,7 +1,8 @@
-ghost use Rattle.std.specs.Prelude.{◌≡◌, ◌++◌, map, fold, Some, None, if◌then◌else◌, IfOk};
+ghost use Rattle.std.specs.Prelude.{◌≡◌, ◌++◌, [], ◌∷◌, map, fold, Some, None, Ok, if◌then◌else◌, IfOk, OnOk};
 ghost use Rattle.std.specs.List.{list_any};
 ghost use Rattle.cli_words.specs.Faults.{Answers};
-ghost use Rattle.cli_words.specs.Options.{are_bad_selectors, is_bad_selector, items, selector, with_define, with_from, with_generated, with_id, with_profiles, with_projects, with_value, with_workers};
+ghost use Rattle.cli_words.specs.declared.fault.WordKind.TheVariants.{BadSelector};
+ghost use Rattle.cli_words.specs.Options.{fault as said_fault, are_bad_selectors, is_bad_selector, items, selector, with_define, with_from, with_generated, with_id, with_profiles, with_projects, with_value, with_workers};
 
 use crate::command_line::Word;
 use crate::fault::{WordError, WordKind, fault};
@@ -30,13 +31,13 @@ impl Line {
     fn with_from(mut self, alloc: Global, at: usize, value: &str) -> Result<Line, WordError>
         ensures { Answers (with_from at value.now self) result }
     {
-        let selector = trimmed(value);
-        if is_bad_selector(selector) {
-            return Err(fault(at, WordKind::BadSelector));
+        match selector(alloc, at, trimmed(value)) {
+            Ok(word) => {
+                self.from = Some(word);
+                Ok(self)
+            }
+            Err(error) => Err(error),
         }
-        let text = Text::from_str(alloc, selector)?;
-        self.from = Some(Word { place: at, text });
-        Ok(self)
     }
 
     // The number of the POMs of the generated project.
@@ -69,7 +70,7 @@ impl Line {
     fn with_profiles(mut self, alloc: Global, value: &str) -> Mem<Line>
         ensures { IfOk result (λ line. line ≡ with_profiles value.now self) }
     {
-        self.choice = with_ids(alloc, self.choice, value)?;
+        push_ids(&mut self.choice, alloc, value)?;
         Ok(self)
     }
 
@@ -81,9 +82,7 @@ impl Line {
         if name.is_empty() {
             return Err(fault(at, WordKind::UnknownWord));
         }
-        let name = Text::from_str(alloc, name)?;
-        let value = Text::from_str(alloc, value_of(value))?;
-        self.defines.push(Pair { name, value })?;
+        push_define(&mut self.defines, alloc, name, value_of(value))?;
         Ok(self)
     }
 
@@ -107,6 +106,29 @@ impl Line {
             Wanted::Generated => self.with_generated(at, value),
         }
     }
+}
+
+// A selector and its word, unless it is none.
+fn selector(alloc: Global, at: usize, text: &str) -> Result<Word, WordError>
+    ensures { Answers (if is_bad_selector text.now then said_fault at BadSelector
+        else Ok (selector at text.now)) result }
+{
+    if is_bad_selector(text) {
+        return Err(fault(at, WordKind::BadSelector));
+    }
+    let text = Text::from_str(alloc, text)?;
+    Ok(Word { place: at, text })
+}
+
+// One property more.
+fn push_define(defines: &mut List<Pair>, alloc: Global, name: &str, value: &str) -> Mem<()>
+    ensures { OnOk result
+        (defines.new ≡ defines.old ++ (record { name = name.now; value = value.now }) ∷ []) }
+{
+    let name = Text::from_str(alloc, name)?;
+    let value = Text::from_str(alloc, value)?;
+    defines.push(Pair { name, value })?;
+    Ok(())
 }
 
 // Whether there is no selector, or one of these is none.
@@ -149,25 +171,33 @@ fn with_selectors(
 }
 
 // The profiles that stand in one more word.
-fn with_ids(alloc: Global, mut choice: Choice, value: &str) -> Mem<Choice>
-    ensures { IfOk result (λ more. more ≡ fold with_id choice (items value.now)) }
+fn push_ids(choice: &mut Choice, alloc: Global, value: &str) -> Mem<()>
+    ensures { OnOk result (choice.new ≡ fold with_id choice.old (items value.now)) }
 {
     let ids = items(alloc, value)?;
     for id in &ids {
-        choice = with_id(alloc, choice, id)?;
+        push_id(choice, alloc, id)?;
     }
-    Ok(choice)
+    Ok(())
 }
 
 // One profile more.
 #[tactic(auto, using(crate::proofs::Texts::second_boundary))]
-fn with_id(alloc: Global, mut choice: Choice, id: &str) -> Mem<Choice>
-    ensures { IfOk result (λ more. more ≡ with_id choice id.now) }
+fn push_id(choice: &mut Choice, alloc: Global, id: &str) -> Mem<()>
+    ensures { OnOk result (choice.new ≡ with_id choice.old id.now) }
 {
     match id.as_bytes() {
-        [b'-' | b'!', ..] => choice.off.push(Text::from_str(alloc, &id[1..])?)?,
-        [b'+', ..] => choice.on.push(Text::from_str(alloc, &id[1..])?)?,
-        _ => choice.on.push(Text::from_str(alloc, id)?)?,
+        [b'-' | b'!', ..] => push_text(&mut choice.off, alloc, &id[1..]),
+        [b'+', ..] => push_text(&mut choice.on, alloc, &id[1..]),
+        _ => push_text(&mut choice.on, alloc, id),
     }
-    Ok(choice)
+}
+
+// One text more.
+fn push_text(texts: &mut List<Text>, alloc: Global, text: &str) -> Mem<()>
+    ensures { OnOk result (texts.new ≡ texts.old ++ text.now ∷ []) }
+{
+    let text = Text::from_str(alloc, text)?;
+    texts.push(text)?;
+    Ok(())
 }

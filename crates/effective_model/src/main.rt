@@ -14,46 +14,67 @@ mod reading;
 use given::given;
 use library::read_library;
 use mvn_shared::Text;
-use outside_mem::NoFailures;
 use outside_real::RealTree;
 use pom_source::Given;
 use project::Project;
-use source_mem::MemPoms;
 
-// The POMs of a repository; none without a repository.
-fn repository_poms(rt: &HostRuntime, repository: &str) -> anyhow::Result<MemPoms<NoFailures>> {
-    let mut source = MemPoms::new(rt.alloc(), NoFailures);
-    if !repository.is_empty() {
-        read_library(rt, &mut source, repository)?;
-    }
-    Ok(source)
+// Puts the POMs of a project.
+fn read_project(rt: &HostRuntime, project: &mut Project, folder: &str) -> anyhow::Result<()> {
+    let root = Text::from_str(rt.alloc(), folder)?;
+    let mut tree = RealTree::new(rt, root);
+    project.put_tree(&mut tree, rt.alloc())
 }
 
-// The POMs of a project, and those of a repository.
-fn read_project(rt: &HostRuntime, folder: &str, repository: &str) -> anyhow::Result<Project> {
-    let source = repository_poms(rt, repository)?;
-    let mut project = Project::new(rt.alloc(), source);
-    let mut tree = RealTree::new(rt, Text::from_str(rt.alloc(), folder)?);
-    project.put_tree(&mut tree, rt.alloc())?;
-    Ok(project)
-}
-
-fn print_lines(rt: &HostRuntime, given: &Given, word: &str, folders: &str) -> anyhow::Result<()> {
+// Puts the POMs of a repository, if there is one, and those of a project.
+fn read_all(rt: &HostRuntime, project: &mut Project, folders: &str) -> anyhow::Result<()> {
     let (folder, repository) = folders.split_once(' ').unwrap_or((folders, ""));
-    let mut project = read_project(rt, folder, repository)?;
+    if !repository.is_empty() {
+        read_library(rt, project.source(), repository)?;
+    }
+    read_project(rt, project, folder)
+}
+
+fn print_told(
+    rt: &HostRuntime,
+    given: &Given,
+    project: &mut Project,
+    word: &str,
+) -> anyhow::Result<()> {
     match word {
         "print" => project.print(rt, given),
         _ => project.count(rt, given),
     }
 }
 
-fn main(rt: HostRuntime) -> anyhow::Result<()> {
-    let given = given(rt.alloc())?;
+fn print_read(
+    rt: &HostRuntime,
+    given: &Given,
+    project: &mut Project,
+    line: &str,
+) -> anyhow::Result<()> {
+    match line.split_once(' ') {
+        Some((word, folders)) => {
+            read_all(rt, project, folders)?;
+            print_told(rt, given, project, word)
+        }
+        None => Ok(()),
+    }
+}
+
+fn print_line(rt: &HostRuntime, given: &Given, line: &str) -> anyhow::Result<()> {
+    let mut project = Project::new(rt.alloc());
+    print_read(rt, given, &mut project, line)
+}
+
+fn print_lines(rt: &HostRuntime, given: &Given) -> anyhow::Result<()> {
     for line in rt.lines(rt.alloc()) {
         let line = line?;
-        if let Some((word, folders)) = line.as_str().split_once(' ') {
-            print_lines(&rt, &given, word, folders)?;
-        }
+        print_line(rt, given, line.as_str())?;
     }
     Ok(())
+}
+
+fn main(rt: HostRuntime) -> anyhow::Result<()> {
+    let given = given(rt.alloc())?;
+    print_lines(&rt, &given)
 }

@@ -3,9 +3,10 @@ use crate::answer::{Counts, answer_text};
 use crate::reading::{all_files, pom_bytes};
 use effective::effective_with;
 use import_store::RunStore;
+use model_types::RawModel;
 use mvn_base::{Gav, PomId};
 use mvn_outside::{ReadFault, Tree};
-use mvn_shared::{Bytes, Mem, OutOfMemory, Text};
+use mvn_shared::{Bytes, Mem, OutOfMemory, Shared, Text};
 use outside_mem::NoFailures;
 use parent_poms::raw_gav;
 use pom_source::{BuildFault, Found, Given};
@@ -25,13 +26,18 @@ fn is_pom(path: &str) -> bool {
     path == "pom.xml" || path.ends_with("/pom.xml")
 }
 
-// The coordinates of a POM; none of one that is refused.
-fn gav_in(alloc: Global, pom: &PomId, bytes: &Bytes) -> Mem<Option<Gav>> {
-    match read(alloc, pom, bytes) {
-        Ok(raw) => Ok(Some(raw_gav(alloc, &raw)?)),
+// The coordinates of a raw model; none of a POM that is refused.
+fn gav_of(alloc: Global, raw: &Result<Shared<RawModel>, BuildFault>) -> Mem<Option<Gav>> {
+    match raw {
+        Ok(raw) => Ok(Some(raw_gav(alloc, raw)?)),
         Err(BuildFault::Memory) => Err(OutOfMemory),
         Err(_) => Ok(None),
     }
+}
+
+// The same of a POM.
+fn gav_in(alloc: Global, pom: &PomId, bytes: &Bytes) -> Mem<Option<Gav>> {
+    gav_of(alloc, &read(alloc, pom, bytes))
 }
 
 // The model of the POM at a path as a line.
@@ -62,22 +68,33 @@ fn counted(
 }
 
 impl Project {
-    /// No POMs of a project, beside those of a repository.
-    pub(crate) fn new(alloc: Global, source: MemPoms<NoFailures>) -> Project {
+    /// No POMs.
+    pub(crate) fn new(alloc: Global) -> Project {
         Project {
-            source,
+            source: MemPoms::new(alloc, NoFailures),
             paths: Vec::new(alloc),
         }
+    }
+
+    /// The POMs, those of a repository too.
+    pub(crate) fn source(&mut self) -> &mut MemPoms<NoFailures> {
+        &mut self.source
+    }
+
+    // A POM under coordinates.
+    fn put_under(&mut self, gav: Gav, path: &Text, bytes: &Bytes) -> Mem<()> {
+        let bytes = bytes.clone()?;
+        let pom = PomId::Path(path.clone()?);
+        self.source.put_found(gav, Found { pom, bytes })
     }
 
     // A POM of the project under its coordinates. One that is refused has none.
     fn put_found(&mut self, alloc: Global, path: &Text, bytes: &Bytes) -> Mem<()> {
         let pom = PomId::Path(path.clone()?);
-        let Some(gav) = gav_in(alloc, &pom, bytes)? else {
-            return Ok(());
-        };
-        let bytes = bytes.clone()?;
-        self.source.put_found(gav, Found { pom, bytes })
+        match gav_in(alloc, &pom, bytes)? {
+            Some(gav) => self.put_under(gav, path, bytes),
+            None => Ok(()),
+        }
     }
 
     // A POM of the project.
@@ -118,25 +135,38 @@ impl Project {
         Ok(())
     }
 
-    /// Prints each POM with its model.
-    pub(crate) fn print(&mut self, rt: &HostRuntime, given: &Given) -> anyhow::Result<()> {
+    fn print_with(
+        &mut self,
+        rt: &HostRuntime,
+        store: &mut RunStore,
+        given: &Given,
+    ) -> anyhow::Result<()> {
         let alloc = rt.alloc();
-        let mut store = RunStore::new(alloc);
         for path in self.paths.as_slice() {
-            let line = model_line(alloc, &mut self.source, &mut store, given, path)?;
+            let line = model_line(alloc, &mut self.source, store, given, path)?;
             println!(rt; "{path} {line}")?;
         }
         Ok(())
     }
 
+    /// Prints each POM with its model.
+    pub(crate) fn print(&mut self, rt: &HostRuntime, given: &Given) -> anyhow::Result<()> {
+        let mut store = RunStore::new(rt.alloc());
+        self.print_with(rt, &mut store, given)
+    }
+
+    fn counts_with(&mut self, alloc: Global, store: &mut RunStore, given: &Given) -> Mem<Counts> {
+        let mut counts = Counts::none();
+        for path in self.paths.as_slice() {
+            counts = counted(alloc, &mut self.source, store, given, path, counts)?;
+        }
+        Ok(counts)
+    }
+
     // How many POMs have a model, and of how many dependencies and plugins.
     fn counts(&mut self, alloc: Global, given: &Given) -> Mem<Counts> {
         let mut store = RunStore::new(alloc);
-        let mut counts = Counts::none();
-        for path in self.paths.as_slice() {
-            counts = counted(alloc, &mut self.source, &mut store, given, path, counts)?;
-        }
-        Ok(counts)
+        self.counts_with(alloc, &mut store, given)
     }
 
     /// Prints how many POMs have a model, and of how many dependencies and plugins.

@@ -19,6 +19,7 @@ use mvn_top::{FAULT, NO_MEMORY};
 use outside_real::{RealArea, RealRemote, RealShelf, RealSink, RealTree};
 use places::{Places, named_places};
 use std::alloc::Global;
+use std::collections::BTreeMap;
 use std::os::fd::AsFd;
 use std::process::{ChildStdin, ExitCode};
 use std::sync::Wait;
@@ -156,6 +157,62 @@ fn run_over<'a, W: Threads + Wait + Sync, O: Sink>(
     ended.status
 }
 
+// The current folder.
+fn current_folder<'a>(rt: &'a HostRuntime) -> Mem<RealTree<'a, HostRuntime>> {
+    let folder = Text::from_str(rt.alloc(), ".")?;
+    Ok(RealTree::new(rt, folder))
+}
+
+// The local repository.
+fn local_repository<'a>(rt: &'a HostRuntime, places: &Places) -> Mem<RealShelf<'a, HostRuntime>> {
+    let folder = places.repository.clone()?;
+    Ok(RealShelf::new(rt, folder))
+}
+
+// Builds the project in the current folder by these hands.
+fn build_by<'a, W: Threads + Wait + Sync, O: Sink>(
+    rt: &'a HostRuntime,
+    threads: &W,
+    words: &[Bytes],
+    machine: Machine,
+    places: &Places,
+    hands: &mut [RealHand<'a>],
+    out: &mut O,
+) -> Mem<u8>
+    requires { length hands.old ≡ 16 }
+{
+    let shelf = local_repository(rt, places)?;
+    let mut tree = current_folder(rt)?;
+    let alloc = rt.alloc();
+    Ok(run_over(threads, alloc, words, machine, &mut tree, shelf, hands, out))
+}
+
+// Builds the project in the current folder, by hands for these places.
+fn build_in<W: Threads + Wait + Sync, O: Sink>(
+    rt: &HostRuntime,
+    threads: &W,
+    words: &[Bytes],
+    variables: &BTreeMap<Text, Text>,
+    places: &Places,
+    out: &mut O,
+) -> Mem<u8> {
+    let mut hands = hands(rt, places)?;
+    let machine = machine(rt.alloc(), variables)?;
+    build_by(rt, threads, words, machine, places, &mut hands, out)
+}
+
+// Builds the project in the current folder, at the places that the variables name.
+fn build_with<W: Threads + Wait + Sync, O: Sink>(
+    rt: &HostRuntime,
+    threads: &W,
+    words: &[Bytes],
+    variables: &BTreeMap<Text, Text>,
+    out: &mut O,
+) -> Mem<u8> {
+    let places = named_places(rt, rt.alloc(), variables)?;
+    build_in(rt, threads, words, variables, &places, out)
+}
+
 // Builds the project in the current folder, in threads that `threads` starts.
 fn build<W: Threads + Wait + Sync, O: Sink>(
     rt: &HostRuntime,
@@ -163,34 +220,35 @@ fn build<W: Threads + Wait + Sync, O: Sink>(
     words: &[Bytes],
     out: &mut O,
 ) -> Mem<u8> {
-    let alloc = rt.alloc();
-    let variables = variables(rt, alloc)?;
-    let places = named_places(rt, alloc, &variables)?;
-    let machine = machine(alloc, &variables)?;
-    let mut hands = hands(rt, &places)?;
-    let mut tree = RealTree::new(rt, Text::from_str(alloc, ".")?);
-    let shelf = RealShelf::new(rt, places.repository.clone()?);
-    Ok(run_over(
-        threads, alloc, words, machine, &mut tree, shelf, &mut hands, out,
-    ))
+    let variables = variables(rt, rt.alloc())?;
+    build_with(rt, threads, words, &variables, out)
+}
+
+// What the words ask for: the help, the version, or a build.
+fn answer<W: Threads + Wait + Sync, O: Sink>(
+    rt: &HostRuntime,
+    threads: &W,
+    words: &[Bytes],
+    out: &mut O,
+) -> Mem<u8> {
+    if asks_for_help(words) {
+        return Ok(status_of_text(out, HELP));
+    }
+    if asks_for_version(words) {
+        return Ok(status_of_text(out, VERSION));
+    }
+    build(rt, threads, words, out)
 }
 
 // The exit status of a run.
 fn run<W: Threads + Wait + Sync>(rt: &HostRuntime, threads: &W) -> Mem<u8> {
-    let alloc = rt.alloc();
-    let words = words(rt, alloc)?;
+    let words = words(rt, rt.alloc())?;
     // A duplicate that is written without a signal where nobody reads: a closed pipe is then a fault.
     let Ok(out) = rt.stdout().as_fd().try_clone_to_owned() else {
         return Ok(FAULT);
     };
     let mut sink = RealSink::new(ChildStdin::from(out));
-    if asks_for_help(&words) {
-        return Ok(status_of_text(&mut sink, HELP));
-    }
-    if asks_for_version(&words) {
-        return Ok(status_of_text(&mut sink, VERSION));
-    }
-    build(rt, threads, &words, &mut sink)
+    answer(rt, threads, &words, &mut sink)
 }
 
 fn main(rt: HostRuntime) -> ExitCode {

@@ -3,6 +3,7 @@ ghost use Rattle.std.specs.Prelude.{◌≡◌, ◌<◌, ◌≤◌, ◌^◌, [], 
 ghost use Rattle.event_core.specs.SoundPlans.{IsSoundPlan};
 ghost use Rattle.mvn_outside.specs.Shelf.{files_now};
 ghost use Rattle.mvn_call.specs.Found.{given_of};
+ghost use Rattle.outside_mem.specs.FilesNamed.{files_named};
 ghost use Rattle.outside_mem.specs.Shelf.{shelf_told};
 ghost use Rattle.outside_mem.specs.Tree.{tree_files};
 ghost use Rattle.run_law.specs.Given.{IsPresent};
@@ -21,7 +22,7 @@ use make_project::{Project, generated};
 use mvn_base::Machine;
 use mvn_shared::{List, Mem};
 use mvn_top::{build_by_first, given_of, plan_by_first};
-use outside_mem::{MemShelf, MemTree, NoFailures};
+use outside_mem::{MemFile, MemShelf, MemTree, NoFailures};
 use plan_files::Planned;
 use pom_source::Given;
 use std::alloc::Global;
@@ -122,7 +123,47 @@ fn build_made<W: Threads + Wait + Sync>(
     }
 }
 
-// The same, once everything is made.
+// The same, with a repository and hands that are made.
+fn build_by_hands<W: Threads + Wait + Sync>(
+    rt: &W,
+    alloc: Global,
+    poms: u32,
+    given: &Given,
+    line: &CommandLine,
+    tree: &mut MemTree<NoFailures>,
+    files: &List<MemFile>,
+) -> Mem<GeneratedCall>
+    requires given { given.now ≡ given_of given.now.machine line.now }
+    requires workers { (1 ≤ line.now.workers) × (line.now.workers ≤ 16) }
+    requires tree { tree_files tree.old ≡ project poms }
+    requires remote { files_named files.now ≡ remote }
+    ensures generates { IfOk result (λ call. Generates poms line.now given.now.machine call.trace
+        call.answers call.outcome) }
+{
+    let shelf = MemShelf::without_failures(alloc, List::new(alloc))?;
+    let mut hands = made_hands(alloc, files, line.workers)?;
+    Ok(build_made(rt, alloc, poms, given, line, tree, shelf, &mut hands))
+}
+
+// The same, with the project that is made.
+fn build_given<W: Threads + Wait + Sync>(
+    rt: &W,
+    alloc: Global,
+    poms: u32,
+    given: &Given,
+    line: &CommandLine,
+) -> Mem<GeneratedCall>
+    requires given { given.now ≡ given_of given.now.machine line.now }
+    requires workers { (1 ≤ line.now.workers) × (line.now.workers ≤ 16) }
+    ensures generates { IfOk result (λ call. Generates poms line.now given.now.machine call.trace
+        call.answers call.outcome) }
+{
+    let Project { tree, remote } = generated(alloc, poms)?;
+    let mut tree = tree;
+    build_by_hands(rt, alloc, poms, given, line, &mut tree, &remote)
+}
+
+// The same, with what is given to the POMs.
 fn make_and_build<W: Threads + Wait + Sync>(
     rt: &W,
     alloc: Global,
@@ -134,12 +175,8 @@ fn make_and_build<W: Threads + Wait + Sync>(
     ensures generates { IfOk result (λ call. Generates poms line.now machine call.trace call.answers
         call.outcome) }
 {
-    let Project { tree, remote } = generated(alloc, poms)?;
-    let mut tree = tree;
     let given = given_of(machine, line)?;
-    let mut hands = made_hands(alloc, &remote, line.workers)?;
-    let shelf = MemShelf::without_failures(alloc, List::new(alloc))?;
-    Ok(build_made(rt, alloc, poms, &given, line, &mut tree, shelf, &mut hands))
+    build_given(rt, alloc, poms, &given, line)
 }
 
 /// Builds the generated project of so many POMs as the line says, by as many hands as it has workers, over objects in memory that never

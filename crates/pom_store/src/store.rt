@@ -17,7 +17,7 @@ use crate::joined::Joined;
 use crate::origin::{Candidate, Origin};
 use crate::poms::meets;
 use model_types::RawModel;
-use mvn_base::Gav;
+use mvn_base::{Gav, PomId};
 use mvn_shared::{List, Mem, Shared, Text};
 use std::alloc::Global;
 use std::collections::HashMap;

@@ -1,3 +1,2 @@
 mod Leading
-pub mod Handing
 pub mod Alone

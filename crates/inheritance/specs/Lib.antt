@@ -1,4 +1,3 @@
 pub mod Inherit
 pub mod Others
 pub mod Placing
-pub mod SuperPom

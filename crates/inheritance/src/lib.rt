@@ -1,10 +1,9 @@
-//! What a POM takes over from the one that it builds on, and the POM that all build on.
+//! What a POM takes over from the one that it builds on.
 #![tactic(auto)]
 
+mod handing;
 mod model;
 mod placing;
-mod root;
 
 pub use model::inherit;
 pub use placing::inherited_plugins;
-pub use root::super_pom;

@@ -1,75 +1,22 @@
 ghost use Rattle.std.specs.Prelude.{◌≡◌, List as Items, [], ◌∷◌, ◌++◌, ◌||◌, map, filter, flat_map, Some, None, if◌then◌else◌, IfOk, OnOk};
 ghost use Rattle.std.specs.HashSet.{contains};
-ghost use Rattle.std.specs.List.{list_all, list_any};
+ghost use Rattle.std.specs.List.{list_any};
 ghost use Rattle.mvn_base.specs.declared.key.Key as names;
 ghost use Rattle.model_types.specs.declared.plugin.Plugin as plugins;
-ghost use Rattle.model_types.specs.declared.plugin.Execution as executions;
 ghost use Rattle.keyed_lists.specs.Keyed.{overlaid, same_key, settled};
 ghost use Rattle.keyed_lists.specs.Keys.{key_of_plugin};
 ghost use Rattle.model_merge.specs.Merging.{merged_plugin, settled_plugins};
 ghost use Rattle.inheritance.specs.Placing.{handed_on, inheritable, inherited_plugins, is_shared, leading, placed};
 ghost use Rattle.inheritance.specs.Others.{Stands, HasKeys, listed};
 
+use crate::handing::handed;
 use keyed_lists::{Keyed, settled};
 use model_merge::{each_settled, merged_over, settled_plugins};
-use model_types::{Execution, Plugin};
+use model_types::Plugin;
 use mvn_base::Key;
 use mvn_shared::{List, Mem, Shared};
 use std::alloc::Global;
 use std::collections::{HashMap, HashSet};
-
-// The executions that a child takes over.
-fn inherited_executions(alloc: Global, list: &[Shared<Execution>]) -> Mem<List<Shared<Execution>>>
-    ensures { IfOk result (λ kept.
-        kept ≡ filter (λ (e : executions.Execution). e.inherited) list.now) }
-{
-    let mut kept = List::new(alloc);
-    for execution in list {
-        if execution.inherited {
-            kept.push(execution.share()?)?;
-        }
-    }
-    Ok(kept)
-}
-
-// A parent's plugin as a child takes it over.
-fn handed_on(alloc: Global, plugin: &Plugin) -> Mem<Plugin>
-    ensures { IfOk result (λ handed. handed ≡ handed_on plugin.now) }
-{
-    let group = plugin.group.clone()?;
-    let artifact = plugin.artifact.clone()?;
-    let version = plugin.version.clone()?;
-    let dependencies = plugin.dependencies.clone()?;
-    let executions = inherited_executions(alloc, plugin.executions.as_slice())?;
-    let configuration = plugin.configuration.share()?;
-    Ok(Plugin {
-        group,
-        artifact,
-        version,
-        inherited: plugin.inherited,
-        dependencies,
-        executions,
-        configuration,
-    })
-}
-
-// Whether none of some executions is left out.
-fn all_inherited(list: &[Shared<Execution>]) -> bool
-    ensures { result ≡ list_all (λ (e : executions.Execution). e.inherited) list.now }
-{
-    list.iter().all(|execution| execution.inherited)
-}
-
-// A parent's plugin as a child takes it over, shared where none of its executions is left out.
-#[tactic(auto, using(crate::proofs::Alone::handed_same))]
-fn handed(alloc: Global, plugin: Shared<Plugin>) -> Mem<Shared<Plugin>>
-    ensures { IfOk result (λ handed. handed ≡ handed_on plugin) }
-{
-    if all_inherited(plugin.executions.as_slice()) {
-        return Ok(plugin);
-    }
-    Shared::new(alloc, handed_on(alloc, &plugin)?)
-}
 
 // The plugins that a parent passes on.
 fn inheritable(alloc: Global, parent: &[Shared<Plugin>]) -> Mem<List<Shared<Plugin>>>

@@ -4,7 +4,7 @@ use Rattle.mvn_base.specs.declared.refusal.PomId.{PomId}
 use Rattle.model_types.specs.declared.model.Parent.{Parent}
 use Rattle.model_types.specs.declared.model.RawModel.{RawModel}
 use Rattle.inheritance.specs.Inherit.{inherit}
-use Rattle.inheritance.specs.SuperPom.{super_pom}
+use Rattle.root_pom.specs.SuperPom.{super_pom}
 use Rattle.pom_source.specs.Answers.{◌>>=◌}
 use Rattle.pom_source.specs.Chains.{bound, ok_is}
 use Rattle.pom_source.specs.Worlds.{World}

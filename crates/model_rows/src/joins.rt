@@ -1,11 +1,12 @@
 // POMs and parts of POMs that are joined.
 use crate::parts::{both_needs, both_properties, build_text, plugin_text, settings_text};
-use inheritance::{inherit, super_pom};
+use inheritance::inherit;
 use keyed_lists::{settled, with_others};
 use model_merge::merged_plugin;
 use model_types::{Dependency, Plugin, RawModel};
 use mvn_base::{ModelError, Pair};
 use mvn_shared::{Mem, Shared};
+use root_pom::super_pom;
 use row_models::{behind, field, model_text, word};
 use settings_merge::merged_configuration;
 use std::alloc::Global;

@@ -11,12 +11,13 @@ ghost use Rattle.pom_store.specs.Lineage.{candidate, first_of, gav_of, has_range
 
 use crate::beside::{found_origin, raw_gav};
 use crate::coordinates::pom_at;
-use inheritance::{inherit, super_pom};
+use inheritance::inherit;
 use model_types::{Parent, RawModel};
 use mvn_base::{Gav, PomId, Rule};
 use mvn_shared::{List, Mem, Shared, Text};
 use pom_source::{BuildFault, PomSource, gav_refused, text_refused};
 use pom_store::{Candidate, Joined, Origin, Store, has_expression, is_in, next_poms};
+use root_pom::super_pom;
 use std::alloc::Global;
 
 /// The POM whose lineage is built.
@@ -39,12 +40,7 @@ pub fn top(alloc: Global) -> Mem<Shared<Joined>>
 }
 
 /// A POM over what it builds on. Costs both.
-pub fn put_over(
-    alloc: Global,
-    pom: &PomId,
-    raw: &RawModel,
-    above: &Joined,
-) -> Mem<Shared<Joined>>
+pub fn put_over(alloc: Global, pom: &PomId, raw: &RawModel, above: &Joined) -> Mem<Shared<Joined>>
     ensures { IfOk result (λ joined. joined ≡ put_over pom.now raw.now above.now) }
 {
     let model = inherit(alloc, raw, &above.model)?;

@@ -12,7 +12,7 @@ use Rattle.mvn_base.specs.declared.rule.Rule.TheVariants.{BadRange, LineageTooLo
 use Rattle.model_types.specs.declared.model.Parent.{Parent}
 use Rattle.model_types.specs.declared.model.RawModel.{RawModel}
 use Rattle.inheritance.specs.Inherit.{inherit}
-use Rattle.inheritance.specs.SuperPom.{super_pom}
+use Rattle.root_pom.specs.SuperPom.{super_pom}
 use Rattle.pom_source.specs.Answers.{Built, ◌>>=◌}
 use Rattle.pom_source.specs.Refusals.{gav_refused, text_refused}
 use Rattle.pom_source.specs.Worlds.{World}

@@ -1,6 +1,6 @@
 ghost use Rattle.std.specs.Prelude.{◌≡◌, [], ◌∷◌, None, Some, IfOk};
 ghost use Rattle.mvn_base.specs.declared.refusal.PomId.TheVariants as ids;
-ghost use Rattle.inheritance.specs.SuperPom.{super_build, super_outputs, super_pom, super_sources};
+ghost use Rattle.root_pom.specs.SuperPom.{super_build, super_outputs, super_pom, super_sources};
 
 use model_types::{Build, BuildBase, Coordinates, ModelBase, Outputs, RawModel, Sources};
 use mvn_base::{Gav, PomId};

@@ -1,4 +1,4 @@
-use Rattle.std.proofs.Common.{◌≡◌, ◌++◌, take}
+use Rattle.std.proofs.Common.{◌++◌, take}
 use Rattle.collector.specs.Chains.{ExcludeSame}
 use Rattle.collector.proofs.exclusions.added.Given as goal
 

@@ -8,11 +8,11 @@ use Rattle.mvn_base.specs.declared.rule.Rule.TheVariants.{MissingField}
 use Rattle.model_types.specs.declared.model.RawModel.{RawModel}
 use Rattle.pom_text.specs.Answers.{answer}
 use Rattle.pom_text.specs.declared.node.Node.{Node}
-use Rattle.pom_model.specs.Elements.{child, text_of}
-use Rattle.pom_model.specs.Faults.{among, at_path, ended, fault_within, first_fault, is_alone, is_missing, missing, missing_name, or, root_fault, under, version_fault}
+use Rattle.pom_table.specs.Elements.{child, text_of}
+use Rattle.pom_table.specs.Faults.{among, at_path, ended, fault_within, first_fault, is_alone, is_missing, missing, missing_name, or, root_fault, under, version_fault}
 use Rattle.pom_model.specs.Fields.{coordinates, model, parent}
 use Rattle.pom_model.specs.Raw.{raw, unless}
-use Rattle.pom_model.specs.Table.{Row, kind_number, table}
+use Rattle.pom_table.specs.Table.{Row, kind_number, table}
 use Rattle.pom_source.specs.Answers.{refused}
 use Rattle.pom_source.specs.Chains.{bound, ok_is}
 use Rattle.pom_store.specs.Reading.{elements, read}

@@ -5,8 +5,8 @@ use Rattle.std.proofs.lemmas.Bool.{false≢true}
 use Rattle.std.proofs.lemmas.Slice.Eq.{bytes_eq-Decides}
 use Rattle.mvn_base.specs.declared.rule.Rule.TheVariants.{TooLarge, RootNotProject, RepeatedElement, MissingField, CombineAttribute}
 use Rattle.pom_text.specs.declared.node.Node.{Node}
-use Rattle.pom_model.specs.Faults.{among, at_path, begun, child_fault, combines, count_read, ended, fault_within, first_fault, has_name, is_alone, is_missing, is_repeated, missing, or, read_child, root_fault, under, version_fault}
-use Rattle.pom_model.specs.Table.{Row, kind_number, table}
+use Rattle.pom_table.specs.Faults.{among, at_path, begun, child_fault, combines, count_read, ended, fault_within, first_fault, has_name, is_alone, is_missing, is_repeated, missing, or, read_child, root_fault, under, version_fault}
+use Rattle.pom_table.specs.Table.{Row, kind_number, table}
 use Rattle.pom_laws.specs.Breaks.{Breaks, IsWrong, Kind, Told, first_kind, of_text, on_element, IsWrongAbove, element_at, read_before, step_to, no_root, other_root, in_project}
 use Rattle.pom_laws.proofs.Least.{Fault, IsLeast, IsSeen, Sees, alone, element_seen, further, joined, least_at, root_first, seen, text_seen}
 use Rattle.pom_laws.proofs.Parts.{IsAgain, IsAt, IsBegun, IsBelow, IsCombining, IsEnd, IsFrom, IsInside, IsLacking, IsLater, IsTooMany, IsVersion, Read, at_split, begun_split, element_split, end_split, from_split, got_low, is_child, is_long, later_split, no_version}

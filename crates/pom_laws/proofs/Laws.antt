@@ -5,7 +5,7 @@ use Rattle.mvn_base.specs.declared.refusal.Refusal.{Refusal}
 use Rattle.model_types.specs.declared.model.RawModel.{RawModel}
 use Rattle.pom_text.specs.declared.node.Node.{Node}
 use Rattle.pom_text.specs.Texts.{IsText}
-use Rattle.pom_model.specs.Faults.{first_fault}
+use Rattle.pom_table.specs.Faults.{first_fault}
 use Rattle.pom_model.specs.Fields.{model}
 use Rattle.pom_model.specs.Raw.{raw, refusal, unless}
 use Rattle.pom_laws.specs.Breaks.{HasNone, IsFirst, IsWrong, IsWrongAbove, Told}

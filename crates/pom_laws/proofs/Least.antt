@@ -7,7 +7,7 @@ use Rattle.std.specs.Ordering.{nat_cmp, ordering_then}
 use Rattle.std.specs.declared.cmp.Ordering.TheVariants.{Less, Equal, Greater}
 use Rattle.mvn_base.specs.declared.refusal.PomId.{PomId}
 use Rattle.mvn_base.specs.declared.rule.Rule.{Rule}
-use Rattle.pom_model.specs.Faults.{at_path, joined as joined_path, or, under}
+use Rattle.pom_table.specs.Faults.{at_path, joined as joined_path, or, under}
 use Rattle.pom_model.specs.Raw.{refusal}
 use Rattle.pom_laws.specs.Breaks.{DomainOf, HasNone, IsFirst, IsNotAfter, Told, on_element, outward}
 use Rattle.pom_laws.specs.Refused.{refusal_of}

@@ -4,9 +4,9 @@ use Rattle.std.specs.Cmp.Lexicographic.{slice_cmp}
 use Rattle.std.specs.Ordering.{nat_cmp}
 use Rattle.mvn_base.specs.declared.rule.Rule.TheVariants.{TooLarge, RepeatedElement, ModelVersion, MissingField, CombineAttribute}
 use Rattle.pom_text.specs.declared.node.Node.{Node}
-use Rattle.pom_model.specs.Elements.{text_or}
-use Rattle.pom_model.specs.Faults.{as_read, is_repeated, read_child}
-use Rattle.pom_model.specs.Table.{Row, found, kind_number, table}
+use Rattle.pom_table.specs.Elements.{text_or}
+use Rattle.pom_table.specs.Faults.{as_read, is_repeated, read_child}
+use Rattle.pom_table.specs.Table.{Row, found, kind_number, table}
 use Rattle.pom_laws.specs.Breaks.{Breaks, Combines, Kind, Times, Told, configuration_number, of_text, on_element, outward, project_number, IsNotAfter, Lacks, StandsBefore, element_at, read_before, step_to, again, combines, too_many, inside, version, lacks}
 use Rattle.pom_laws.proofs.Least.{IsSplit, begins_before, head_before, in_order}
 

@@ -7,9 +7,9 @@ use Rattle.std.proofs.lemmas.Bool.{false≢true}
 use Rattle.std.proofs.lemmas.Bool.Decides.{Decides-and, Decides-eqb, Decides-like, Decides-not, Decides-or}
 use Rattle.std.proofs.lemmas.Slice.Eq.{bytes_eq-Decides}
 use Rattle.pom_text.specs.declared.node.Node.{Node}
-use Rattle.pom_model.specs.Elements.{if_named, named, text_of}
-use Rattle.pom_model.specs.Faults.{combines, has_name, is_alone, is_combine, is_missing, is_repeated, is_required, model_version}
-use Rattle.pom_model.specs.Table.{Row, kind_number}
+use Rattle.pom_table.specs.Elements.{if_named, named, text_of}
+use Rattle.pom_table.specs.Faults.{combines, has_name, is_alone, is_combine, is_missing, is_repeated, is_required, model_version}
+use Rattle.pom_table.specs.Table.{Row, kind_number}
 use Rattle.pom_laws.specs.Breaks.{Combines, Kind, Lacks, StandsBefore}
 use Rattle.pom_laws.proofs.Parts.{Read}
 

@@ -6,8 +6,8 @@ use Rattle.std.specs.declared.cmp.Ordering.TheVariants.{Less, Greater}
 use Rattle.std.proofs.lemmas.Bool.{false≢true}
 use Rattle.mvn_base.specs.declared.rule.Rule.TheVariants.{TooLarge, RootNotProject, RepeatedElement, MissingField, CombineAttribute}
 use Rattle.pom_text.specs.declared.node.Node.{Node}
-use Rattle.pom_model.specs.Faults.{read_child}
-use Rattle.pom_model.specs.Table.{Row, table}
+use Rattle.pom_table.specs.Faults.{read_child}
+use Rattle.pom_table.specs.Table.{Row, table}
 use Rattle.pom_laws.specs.Breaks.{Breaks, IsFirst, Kind, Told, first_kind, of_text, on_element, outward, IsNotAfter, IsWrong, IsWrongAbove, element_at, step_to, again, combines, too_many, inside, version, lacks, no_root, other_root, in_project}
 use Rattle.pom_laws.proofs.Parts.{IsLong, Read, is_long, no_version, none_at}
 

@@ -4,10 +4,10 @@ use Rattle.std.specs.Fmt.{digits}
 use Rattle.mvn_base.specs.declared.refusal.PomId.{PomId}
 use Rattle.mvn_base.specs.declared.rule.Rule.TheVariants.{RepeatedElement, MissingField, CombineAttribute}
 use Rattle.pom_text.specs.declared.node.Node.{Node}
-use Rattle.pom_model.specs.Elements.{child, named, text_of, trimmed}
-use Rattle.pom_model.specs.Faults.{begun, ended, fault_within, first_fault, missing, read_child, step, under, version_fault}
+use Rattle.pom_table.specs.Elements.{child, named, text_of, trimmed}
+use Rattle.pom_table.specs.Faults.{begun, ended, fault_within, first_fault, missing, read_child, step, under, version_fault}
 use Rattle.pom_model.specs.Raw.{raw}
-use Rattle.pom_model.specs.Table.{found, kind_number, table}
+use Rattle.pom_table.specs.Table.{found, kind_number, table}
 use Rattle.pom_laws.specs.Breaks.{Combines, IsWrong, StandsBefore, again, combines, inside, lacks, in_project, on_element}
 use Rattle.pom_laws.specs.Examples.{at_one_place, configuration_merges, configured_again, element, group_again, merging, no_artifact, no_version, three_wrong, two_wrong}
 use Rattle.pom_laws.specs.Refused.{refusal_of}

@@ -10,9 +10,9 @@ use Rattle.std.specs.declared.cmp.Ordering.TheVariants.{Less}
 use Rattle.mvn_base.specs.declared.rule.Rule.{Rule}
 use Rattle.mvn_base.specs.declared.rule.Rule.TheVariants.{TooLarge, RootNotProject, RepeatedElement, ModelVersion, MissingField, CombineAttribute}
 use Rattle.pom_text.specs.declared.node.Node.{Node}
-use Rattle.pom_model.specs.Elements.{text_of, text_or}
-use Rattle.pom_model.specs.Faults.{count_read, is_alone, is_repeated, is_required, read_child, step}
-use Rattle.pom_model.specs.Table.{Row, kind_number, table}
+use Rattle.pom_table.specs.Elements.{text_of, text_or}
+use Rattle.pom_table.specs.Faults.{count_read, is_alone, is_repeated, is_required, read_child, step}
+use Rattle.pom_table.specs.Table.{Row, kind_number, table}
 
 -- what a function takes. The types of the table's columns have no name outside their crate
 abbrev pub DomainOf : {A B : Type 0} → (A → B) → Type 0

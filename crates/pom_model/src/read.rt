@@ -1,19 +1,21 @@
 ghost use Rattle.std.specs.Prelude.{◌≡◌, codes, slice_get, Some, IfOk};
 ghost use Rattle.std.specs.Option.{option_copied};
 ghost use Rattle.mvn_base.specs.Says.{Says};
-ghost use Rattle.pom_model.specs.Elements.{child};
+ghost use Rattle.pom_table.specs.Elements.{child};
 ghost use Rattle.pom_model.specs.Fields.{coordinates, model, parent, parent_in, path_text};
 ghost use Rattle.pom_model.specs.Raw.{raw, refusal};
 
-use crate::base::model_base;
-use crate::build::build;
-use crate::element::{at, child, own_text, text_of, text_or};
-use crate::fault::{Fault, Spot};
-use crate::item::{Item, list_in};
-use crate::walk::first_fault;
+use crate::profile::profiles;
 use model_types::{Coordinates, Parent, RawModel};
 use mvn_base::{Gav, ModelError, Place, PomId, Refusal};
 use mvn_shared::{Mem, Shared, Text};
+use pom_fields::base::model_base;
+use pom_fields::build::build;
+use pom_fields::item::Item;
+use pom_fields::pairs::two_texts;
+use pom_table::element::{at, child, own_text, text_of, text_or};
+use pom_table::fault::{Fault, Spot};
+use pom_table::walk::first_fault;
 use pom_text::{Node, PomText};
 use std::alloc::Global;
 
@@ -63,10 +65,9 @@ fn parent_in(alloc: Global, nodes: &[Node], node: Option<&Node>) -> Mem<Option<S
 fn coordinates(alloc: Global, nodes: &[Node], node: Option<&Node>) -> Mem<Shared<Coordinates>>
     ensures { IfOk result (λ value. value ≡ coordinates nodes.now (option_copied node.entry)) }
 {
-    let group = text_of(alloc, nodes, node, "groupId")?;
     let artifact = text_or(alloc, nodes, node, "artifactId", "")?;
-    let version = text_of(alloc, nodes, node, "version")?;
     let packaging = text_or(alloc, nodes, node, "packaging", "jar")?;
+    let (group, version) = two_texts(alloc, nodes, node, "groupId", "version")?;
     let coordinates = Coordinates {
         group,
         artifact,
@@ -76,17 +77,36 @@ fn coordinates(alloc: Global, nodes: &[Node], node: Option<&Node>) -> Mem<Shared
     Shared::new(alloc, coordinates)
 }
 
+// A copy of what a POM is named.
+fn named_so(alloc: Global, pom: &PomId) -> Mem<Shared<PomId>>
+    ensures { IfOk result (λ value. value ≡ pom.now) }
+{
+    Shared::new(alloc, pom.clone()?)
+}
+
+// Which POM this is: its parent and its coordinates.
+fn names(
+    alloc: Global,
+    nodes: &[Node],
+    node: Option<&Node>,
+) -> Mem<(Option<Shared<Parent>>, Shared<Coordinates>)>
+    ensures { IfOk result (λ value. value ≡ (parent_in nodes.now (option_copied node.entry), coordinates nodes.now (option_copied node.entry))) }
+{
+    let parent = parent_in(alloc, nodes, node)?;
+    let coordinates = coordinates(alloc, nodes, node)?;
+    Ok((parent, coordinates))
+}
+
 // What a POM says that breaks no rule.
 #[tactic(auto, unfolding(crate::specs::Fields::model))]
 fn model(alloc: Global, nodes: &[Node], pom: &PomId, node: Option<&Node>) -> Mem<RawModel>
     ensures { IfOk result (λ value. value ≡ model nodes.now pom.now (option_copied node.entry)) }
 {
-    let pom = Shared::new(alloc, pom.clone()?)?;
-    let parent = parent_in(alloc, nodes, node)?;
-    let coordinates = coordinates(alloc, nodes, node)?;
     let base = model_base(alloc, nodes, node)?;
     let build = build(alloc, nodes, child(nodes, node, "build"))?;
-    let profiles = Shared::new(alloc, list_in(alloc, nodes, node, "profiles", "profile")?)?;
+    let profiles = profiles(alloc, nodes, node)?;
+    let pom = named_so(alloc, pom)?;
+    let (parent, coordinates) = names(alloc, nodes, node)?;
     Ok(RawModel {
         pom,
         parent,

@@ -1,0 +1,5 @@
+pub mod Table
+pub mod Spans
+pub mod Elements
+pub mod Faults
+pub mod AnyNames

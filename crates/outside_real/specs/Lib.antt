@@ -1,10 +1,7 @@
+pub use Rattle.disk_reading.specs.FullPath
 pub mod Area
-pub mod Faults
 pub mod Paths
-pub mod Remote
 pub mod Shelf
 pub mod Sink
-pub mod Tree
 pub mod Ways
-pub mod Walk
 pub mod WayExamples

@@ -3,10 +3,6 @@ use Rattle.std.specs.Prelude.{ℕ, Bool, not, ◌&&◌, ◌||◌, ◌==◌, nat_
 use Rattle.std.specs.List.{list_all, slice_split, starts_with}
 use Rattle.std.specs.Cmp.Lexicographic.{pointwise}
 
--- a path below a folder; the empty path is the folder's own
-abbrev pub full_path : List ℕ → List ℕ → List ℕ
-full_path root path = if length path == 0 then root else root ++ 47 ∷ path
-
 abbrev pub is_slash : ℕ → Bool
 is_slash b = b == 47
 

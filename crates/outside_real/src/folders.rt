@@ -1,28 +1,17 @@
 // The folders of the system: their paths, and how they are made.
-ghost use Rattle.std.specs.Prelude.{◌≡◌, IfOk};
-ghost use Rattle.std.specs.String.{string_bytes};
-ghost use Rattle.outside_real.specs.Paths.{full_path, is_step, leads_below, is_in_staging, is_inside};
+ghost use Rattle.std.specs.Prelude.{◌≡◌};
+ghost use Rattle.outside_real.specs.Paths.{is_step, leads_below, is_in_staging, is_inside};
 ghost use Rattle.outside_real.specs.Ways.{Keeps};
 
-use crate::fault::fault_of;
 use crate::look::is_folder;
 use crate::settling::note;
+use disk_reading::fault::fault_of;
 use mvn_outside::DeviceFault;
-use mvn_shared::{Mem, Text};
+use mvn_shared::Text;
 use std::alloc::Global;
 use std::collections::BTreeSet;
 use std::io::ErrorKind;
 use std::rt;
-
-/// A path of the system: the folder, and a path below it.
-pub(crate) fn full_path(alloc: Global, root: &str, path: &str) -> Mem<String>
-    ensures { IfOk result (λ full. string_bytes full ≡ full_path root.now path.now) }
-{
-    if path.is_empty() {
-        return Ok(String::from_str(alloc, root)?);
-    }
-    Ok(format!(in alloc; "{root}/{path}")?)
-}
 
 #[tactic(auto, unfolding(crate::specs::Paths::is_step))]
 fn is_step(step: &[u8]) -> bool
@@ -78,6 +67,25 @@ fn missing_folders<'a, R: rt::Files>(
     Ok(missing)
 }
 
+// Makes a folder, unless it is there; the folder that it stands in is noted first.
+fn make_one<R: rt::Files + AllocGlobal>(
+    rt: &R,
+    folder: &str,
+    changed: &mut BTreeSet<Text>,
+) -> Result<(), DeviceFault>
+    ensures { Keeps changed.old changed.new }
+{
+    note(changed, Text::from_str(rt.alloc(), parent_of(folder))?)?;
+    match rt.create_dir(folder) {
+        Ok(()) => Ok(()),
+        Err(e) => if e.kind() == ErrorKind::AlreadyExists {
+            Ok(())
+        } else {
+            Err(fault_of(&e))
+        },
+    }
+}
+
 /// Makes a folder and those above it that aren't there, and notes in `changed` the folder of each that it makes; what was noted before
 /// stays. Costs one look where the folder is there.
 pub(crate) fn make_folders<R: rt::Files + AllocGlobal>(
@@ -87,15 +95,9 @@ pub(crate) fn make_folders<R: rt::Files + AllocGlobal>(
 ) -> Result<(), DeviceFault>
     ensures { Keeps changed.old changed.new }
 {
-    let alloc = rt.alloc();
-    let missing = missing_folders(rt, alloc, path)?;
+    let missing = missing_folders(rt, rt.alloc(), path)?;
     for folder in missing.iter().rev() {
-        note(changed, Text::from_str(alloc, parent_of(folder))?)?;
-        if let Err(e) = rt.create_dir(folder) {
-            if e.kind() != ErrorKind::AlreadyExists {
-                return Err(fault_of(&e));
-            }
-        }
+        make_one(rt, folder, changed)?;
     }
     Ok(())
 }

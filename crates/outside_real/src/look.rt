@@ -1,29 +1,11 @@
 // What stands at a path of the system.
-use crate::fault::{fault_of, is_absent};
+use disk_reading::look::if_there;
 use mvn_outside::DeviceFault;
-use std::fs::Metadata;
-use std::{io, rt};
-
-// Nothing where an error says that the path leads nowhere.
-fn if_there(answer: io::Result<Metadata>) -> Result<Option<Metadata>, DeviceFault> {
-    match answer {
-        Ok(metadata) => Ok(Some(metadata)),
-        Err(e) => if is_absent(&e) {
-            Ok(None)
-        } else {
-            Err(fault_of(&e))
-        },
-    }
-}
-
-/// What stands at a path, links followed; nothing where it leads nowhere.
-pub(crate) fn found<R: rt::Files>(rt: &R, path: &str) -> Result<Option<Metadata>, DeviceFault> {
-    if_there(rt.metadata(path))
-}
+use std::rt;
 
 /// Whether a file stands at a path, links followed.
 pub(crate) fn is_file<R: rt::Files>(rt: &R, path: &str) -> Result<bool, DeviceFault> {
-    match found(rt, path)? {
+    match if_there(rt.metadata(path))? {
         Some(metadata) => Ok(metadata.is_file()),
         None => Ok(false),
     }
@@ -31,7 +13,7 @@ pub(crate) fn is_file<R: rt::Files>(rt: &R, path: &str) -> Result<bool, DeviceFa
 
 /// Whether a folder stands at a path, links followed.
 pub(crate) fn is_folder<R: rt::Files>(rt: &R, path: &str) -> Result<bool, DeviceFault> {
-    match found(rt, path)? {
+    match if_there(rt.metadata(path))? {
         Some(metadata) => Ok(metadata.is_dir()),
         None => Ok(false),
     }

@@ -1,9 +1,9 @@
 // The files of a staging folder. A process holds each of its own locked until it is published or removed, and the system ends a
 // lock with the process that holds it: so what nobody holds was left by a process that has ended.
-use crate::fault::{fault_of, is_absent};
 use crate::look::is_no_link;
+use disk_reading::fault::{fault_of, is_absent};
 use mvn_outside::DeviceFault;
-use std::fs::{File, OpenFile, OpenOptions, TryLockError};
+use std::fs::{DirEntry, File, OpenFile, OpenOptions, TryLockError};
 use std::io::ErrorKind;
 use std::os::unix::fs::MetadataExt;
 use std::{fs, io, rt};
@@ -97,6 +97,21 @@ fn remove_left<R: rt::Files<File = File>>(rt: &R, path: &str) -> Result<(), Devi
     }
 }
 
+// Removes an entry of a staging folder, unless a process holds it.
+fn remove_entry<R: rt::Files<File = File> + AllocGlobal + Clone + Drop>(
+    rt: &R,
+    entry: &io::Result<DirEntry<R>>,
+) -> Result<(), DeviceFault> {
+    match entry {
+        Ok(entry) => remove_left(rt, entry.path().to_string_lossy()),
+        Err(e) => if is_absent(e) {
+            Ok(())
+        } else {
+            Err(fault_of(e))
+        },
+    }
+}
+
 /// Removes the files of a staging folder that no process holds; nothing where there is no folder. Folders, links and what this user
 /// may not remove are left, and so is everything on a disk whose files can't be locked. Costs four calls for each file.
 pub(crate) fn sweep_folder<R: rt::Files<File = File> + AllocGlobal + Clone + Drop>(
@@ -112,12 +127,7 @@ pub(crate) fn sweep_folder<R: rt::Files<File = File> + AllocGlobal + Clone + Dro
         },
     };
     for entry in entries {
-        match entry {
-            Ok(entry) => remove_left(rt, entry.path().to_string_lossy())?,
-            Err(e) => if !is_absent(&e) {
-                return Err(fault_of(&e));
-            },
-        }
+        remove_entry(rt, &entry)?;
     }
     Ok(())
 }

@@ -5,13 +5,14 @@ ghost use Rattle.mvn_shared.specs.Cause.{HasCause};
 ghost use Rattle.mvn_outside.specs.Faults.{device_failed, read_failed, list_failed};
 
 use crate::area::RealArea;
-use crate::count::{counted, counted_list, counted_read};
-use crate::fault::fault_of;
-use crate::folders::{full_path, is_inside, make_folders, parent_of};
+use crate::folders::{is_inside, make_folders, parent_of};
 use crate::look;
-use crate::reading::read_file;
 use crate::settling::{note_way, sync_folders};
-use crate::versions::versions_below;
+use disk_reading::count::{counted, counted_list, counted_read};
+use disk_reading::fault::fault_of;
+use disk_reading::paths::full_path;
+use disk_reading::reading::read_file;
+use disk_reading::versions::versions_below;
 use mvn_base::FileName;
 use mvn_outside::{DeviceFault, ListFault, ReadFault, Shelf};
 use mvn_shared::{Bytes, List, Mem, Text};
@@ -116,7 +117,10 @@ impl<'a, R: rt::Files<File = File> + AllocGlobal + Clone + Drop> RealShelf<'a, R
         let to = self.path_of(name)?;
         make_folders(self.rt, parent_of(to.as_str()), &mut self.changed)?;
         self.note(name)?;
-        self.rt.rename(from, to.as_str()).map_err(|e| fault_of(&e))
+        match self.rt.rename(from, to.as_str()) {
+            Ok(()) => Ok(()),
+            Err(e) => Err(fault_of(&e)),
+        }
     }
 
     // Brings the noted folders to the disk; none is noted then. After an `Err` all are still to be brought there.

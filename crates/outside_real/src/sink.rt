@@ -1,5 +1,5 @@
-use crate::count::counted;
 use crate::writing::write_some;
+use disk_reading::count::counted;
 use mvn_outside::{DeviceFault, Sink};
 use std::io::Write;
 

@@ -66,7 +66,7 @@ fn read_rest<F: Read>(
 }
 
 /// The bytes of the file at a path of the system, up to a limit; nothing where there is no file. A folder is none.
-pub(crate) fn read_file<R: rt::Files>(
+pub fn read_file<R: rt::Files>(
     rt: &R,
     alloc: Global,
     path: &str,

@@ -4,18 +4,18 @@ ghost use Rattle.std.specs.Prelude.{◌≡◌, ◌≤◌, vec_len, IfOk};
 ghost use Rattle.std.specs.Ordering.{nat_cmp};
 ghost use Rattle.std.specs.Cmp.Lexicographic.{slice_cmp};
 ghost use Rattle.std.specs.List.Sorted.{IsSorted};
-ghost use Rattle.outside_real.specs.Walk.{behind, is_known_as, is_on_way};
+ghost use Rattle.disk_reading.specs.Walk.{behind, is_known_as, is_on_way};
 
 use crate::fault::{fault_of, is_absent};
-use crate::folders::full_path;
-use crate::look::found;
+use crate::look::{entries_of, found};
+use crate::paths::full_path;
 use mvn_base::MOST_FILES;
 use mvn_outside::ListFault;
 use mvn_shared::{Mem, Text};
 use std::alloc::Global;
-use std::fs::Metadata;
+use std::fs::{DirEntry, Metadata};
 use std::os::unix::fs::MetadataExt;
-use std::{fs, io, rt};
+use std::{io, rt};
 
 /// How many folders are entered at most: links may lead to one another on ever more ways.
 const MOST_FOLDERS: usize = MOST_FILES;
@@ -127,21 +127,33 @@ impl<'a, R: rt::Files + AllocGlobal + Clone + Drop> Walk<'a, R> {
         self.folders.push(folder).map_err(|_| ListFault::Memory)
     }
 
-    // Takes in what stands at a path, links followed. What is neither a file nor a folder, as a link that leads nowhere, is left out.
-    fn take(&mut self, path: Text, above: usize) -> Result<(), ListFault>
+    // What stands at a path, links followed.
+    fn behind_path(&self, path: &str) -> Result<Option<Metadata>, ListFault> {
+        let full = full_path(self.rt.alloc(), self.root, path)?;
+        behind(self.rt.metadata(full.as_str()))
+    }
+
+    // Takes in what stands at a path. What is neither a file nor a folder is left out.
+    fn take_known(&mut self, path: Text, above: usize, metadata: &Metadata) -> Result<(), ListFault>
         ensures { self.new.most ≡ self.old.most }
     {
-        let full = full_path(self.rt.alloc(), self.root, path.as_str())?;
-        let Some(metadata) = behind(self.rt.metadata(full.as_str()))? else {
-            return Ok(());
-        };
         if metadata.is_dir() {
-            return self.take_folder(path, Some(above), &metadata);
+            return self.take_folder(path, Some(above), metadata);
         }
         if metadata.is_file() {
             return self.take_file(path);
         }
         Ok(())
+    }
+
+    // Takes in what stands at a path, links followed. A link that leads nowhere is left out.
+    fn take(&mut self, path: Text, above: usize) -> Result<(), ListFault>
+        ensures { self.new.most ≡ self.old.most }
+    {
+        match self.behind_path(path.as_str())? {
+            Some(metadata) => self.take_known(path, above, &metadata),
+            None => Ok(()),
+        }
     }
 
     // Takes in the folder to begin with, where one stands there.
@@ -159,22 +171,45 @@ impl<'a, R: rt::Files + AllocGlobal + Clone + Drop> Walk<'a, R> {
         self.take_folder(Text::from_str(alloc, folder)?, None, &metadata)
     }
 
-    // Takes in what a folder has.
-    fn look_into(&mut self, folder: &str, place: usize) -> Result<(), ListFault>
+    // Takes in the name of an entry of a folder.
+    fn take_name(&mut self, folder: &str, name: &str, place: usize) -> Result<(), ListFault>
         ensures { self.new.most ≡ self.old.most }
     {
-        let alloc = self.rt.alloc();
-        let full = full_path(alloc, self.root, folder)?;
-        let entries = fs::read_dir(self.rt, full.as_str()).map_err(|e| ListFault::from(fault_of(
-            &e,
-        )))?;
-        for entry in entries {
-            match entry {
-                Ok(entry) => self.take(below(alloc, folder, entry.file_name())?, place)?,
-                Err(e) => return Err(ListFault::from(fault_of(&e))),
-            }
+        let path = below(self.rt.alloc(), folder, name)?;
+        self.take(path, place)
+    }
+
+    // Takes in an entry of a folder.
+    fn take_entry(
+        &mut self,
+        folder: &str,
+        entry: &io::Result<DirEntry<R>>,
+        place: usize,
+    ) -> Result<(), ListFault>
+        ensures { self.new.most ≡ self.old.most }
+    {
+        match entry {
+            Ok(entry) => self.take_name(folder, entry.file_name(), place),
+            Err(e) => Err(ListFault::from(fault_of(e))),
+        }
+    }
+
+    // Takes in what a folder has, which has this path of the system.
+    fn look_into(&mut self, path: &str, folder: &str, place: usize) -> Result<(), ListFault>
+        ensures { self.new.most ≡ self.old.most }
+    {
+        for entry in entries_of(self.rt, path)? {
+            self.take_entry(folder, &entry, place)?;
         }
         Ok(())
+    }
+
+    // Takes in what the folder with this path below the root has.
+    fn enter(&mut self, folder: &str, place: usize) -> Result<(), ListFault>
+        ensures { self.new.most ≡ self.old.most }
+    {
+        let path = full_path(self.rt.alloc(), self.root, folder)?;
+        self.look_into(path.as_str(), folder, place)
     }
 
     // Looks into the folder at a place, if there is one.
@@ -185,8 +220,21 @@ impl<'a, R: rt::Files + AllocGlobal + Clone + Drop> Walk<'a, R> {
             return Ok(false);
         };
         let path = folder.path.clone().map_err(|_| ListFault::Memory)?;
-        self.look_into(path.as_str(), place)?;
+        self.enter(path.as_str(), place)?;
         Ok(true)
+    }
+
+    // Takes in the folder to begin with, and looks into each folder that it meets.
+    fn go(&mut self, folder: &str) -> Result<(), ListFault>
+        ensures { self.new.most ≡ self.old.most }
+    {
+        self.begin(folder)?;
+        for place in 0..MOST_FOLDERS {
+            if !self.step(place)? {
+                break;
+            }
+        }
+        Ok(())
     }
 }
 
@@ -211,12 +259,7 @@ pub(crate) fn files_below<R: rt::Files + AllocGlobal + Clone + Drop>(
         files: Vec::new(alloc),
         folders: Vec::new(alloc),
     };
-    walk.begin(folder)?;
-    for place in 0..MOST_FOLDERS {
-        if !walk.step(place)? {
-            break;
-        }
-    }
+    walk.go(folder)?;
     let mut files = walk.files;
     files.sort().map_err(|_| ListFault::Memory)?;
     Ok(files)

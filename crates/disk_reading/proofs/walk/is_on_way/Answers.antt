@@ -1,9 +1,9 @@
 use Rattle.std.proofs.Common.{◌≡◌, ◌+◌, ◌-◌, ◌||◌, suc, length, slice_get, Some, refl, sym, ap, ◌∙◌, arith}
 use Rattle.std.proofs.lemmas.Option.{slice_get_read}
 use Rattle.std.specs.List.{list_any}
-use Rattle.outside_real.specs.Walk.{is_known_as, way_down}
-use Rattle.outside_real.proofs.Steps.{way_goes_on}
-use Rattle.outside_real.proofs.walk.is_on_way.Goals as goal
+use Rattle.disk_reading.specs.Walk.{is_known_as, way_down}
+use Rattle.disk_reading.proofs.Steps.{way_goes_on}
+use Rattle.disk_reading.proofs.walk.is_on_way.Goals as goal
 
 pub loop-preserved : goal.loop-preserved
 loop-preserved c =

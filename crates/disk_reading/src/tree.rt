@@ -1,7 +1,7 @@
 ghost use Rattle.std.specs.Prelude.{◌≤◌, IfOk, IfSome, length};
 
 use crate::count::{counted, counted_list, counted_read};
-use crate::folders::full_path;
+use crate::paths::full_path;
 use crate::reading::read_file;
 use crate::walk::files_below;
 use mvn_base::MOST_FILES;
@@ -19,7 +19,7 @@ pub struct RealTree<'a, R: rt::Files + AllocGlobal + Clone + Drop> {
 
 impl<'a, R: rt::Files + AllocGlobal + Clone + Drop> RealTree<'a, R> {
     ghost use Rattle.std.specs.Prelude.{◌≡◌};
-    ghost use Rattle.outside_real.specs.Tree.{tree_faults};
+    ghost use Rattle.disk_reading.specs.Tree.{tree_faults};
 
     /// The folder at a path of the system, such as `.`.
     pub fn new(rt: &'a R, root: Text) -> RealTree<'a, R>

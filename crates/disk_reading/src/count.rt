@@ -13,10 +13,7 @@ fn raised(faults: u64) -> u64
 }
 
 /// Counts a fault of a device.
-pub(crate) fn counted<T: Drop>(
-    faults: &mut u64,
-    answer: Result<T, DeviceFault>,
-) -> Result<T, DeviceFault>
+pub fn counted<T: Drop>(faults: &mut u64, answer: Result<T, DeviceFault>) -> Result<T, DeviceFault>
     ensures answer { result ≡ answer }
     ensures cause { HasCause faults.old faults.new (device_failed result) }
 {
@@ -27,10 +24,7 @@ pub(crate) fn counted<T: Drop>(
 }
 
 /// Counts a fault of a read.
-pub(crate) fn counted_read<T: Drop>(
-    faults: &mut u64,
-    answer: Result<T, ReadFault>,
-) -> Result<T, ReadFault>
+pub fn counted_read<T: Drop>(faults: &mut u64, answer: Result<T, ReadFault>) -> Result<T, ReadFault>
     ensures answer { result ≡ answer }
     ensures cause { HasCause faults.old faults.new (read_failed result) }
 {
@@ -41,10 +35,7 @@ pub(crate) fn counted_read<T: Drop>(
 }
 
 /// Counts a fault of a listing.
-pub(crate) fn counted_list<T: Drop>(
-    faults: &mut u64,
-    answer: Result<T, ListFault>,
-) -> Result<T, ListFault>
+pub fn counted_list<T: Drop>(faults: &mut u64, answer: Result<T, ListFault>) -> Result<T, ListFault>
     ensures answer { result ≡ answer }
     ensures cause { HasCause faults.old faults.new (list_failed result) }
 {

@@ -1,8 +1,8 @@
 -- The way down to a folder, from the folder upwards.
 use Rattle.std.proofs.Common.{◌≡◌, ℕ, zero, suc, Bool, false, ◌||◌, List, ◌∷◌, Option, Some, None, slice_get, refl, ap, ◌∙◌}
 use Rattle.std.specs.List.{list_any}
-use Rattle.outside_real.specs.declared.walk.Folder.{Folder}
-use Rattle.outside_real.specs.Walk.{way_down}
+use Rattle.disk_reading.specs.declared.walk.Folder.{Folder}
+use Rattle.disk_reading.specs.Walk.{way_down}
 
 module _ (test : Folder → Bool) (folders : List Folder) where
   -- no folder is left

@@ -1,5 +1,5 @@
 use Rattle.std.proofs.Common.{◌≡◌}
-use Rattle.outside_real.proofs.walk.Walk.look_into.Given as goal
+use Rattle.disk_reading.proofs.walk.Walk.look_into.Given as goal
 
 -- the walk takes as many files as before
 abbrev pub invariant-loop-entry : goal.invariant-loop-entry

@@ -2,7 +2,7 @@ ghost use Rattle.std.specs.Prelude.{◌≡◌, ◌≤◌, true, IfOk, IfSome, le
 ghost use Rattle.mvn_base.specs.Names.{is_group, is_name};
 
 use crate::count::{counted_list, counted_read};
-use crate::folders::full_path;
+use crate::paths::full_path;
 use crate::reading::read_file;
 use crate::versions::versions_below;
 use mvn_base::FileName;
@@ -20,7 +20,7 @@ pub struct RealRemote<'a, R: rt::Files + AllocGlobal + Clone + Drop> {
 
 impl<'a, R: rt::Files + AllocGlobal + Clone + Drop> RealRemote<'a, R> {
     ghost use Rattle.std.specs.Prelude.{◌≡◌};
-    ghost use Rattle.outside_real.specs.Remote.{remote_faults};
+    ghost use Rattle.disk_reading.specs.Remote.{remote_faults};
 
     /// The folder at a path of the system.
     pub fn new(rt: &'a R, root: Text) -> RealRemote<'a, R>

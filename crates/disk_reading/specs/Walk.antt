@@ -6,8 +6,8 @@ use Rattle.std.specs.declared.io.Error.{Error}
 use Rattle.std.specs.declared.fs.attrs.Metadata.{Metadata}
 use Rattle.mvn_outside.specs.declared.fault.ListFault.{ListFault}
 use Rattle.mvn_outside.specs.Faults.{list_fault}
-use Rattle.outside_real.specs.Faults.{fault_of, is_absent}
-use Rattle.outside_real.specs.declared.walk.Folder.{Folder}
+use Rattle.disk_reading.specs.Faults.{fault_of, is_absent}
+use Rattle.disk_reading.specs.declared.walk.Folder.{Folder}
 
 -- the folder at a place, the one that it was met in, and so on, at most so many
 abbrev pub way_down : ℕ → List Folder → Option ℕ → List Folder

@@ -1,13 +1,13 @@
 // What an error of the system is told as.
 ghost use Rattle.std.specs.Prelude.{◌≡◌};
 ghost use Rattle.std.specs.IoError.{error_kind};
-ghost use Rattle.outside_real.specs.Faults.{fault_of, is_absent};
+ghost use Rattle.disk_reading.specs.Faults.{fault_of, is_absent};
 
 use mvn_outside::DeviceFault;
 use std::io::{self, ErrorKind};
 
 /// An error of the system, as a fault.
-pub(crate) fn fault_of(e: &io::Error) -> DeviceFault
+pub fn fault_of(e: &io::Error) -> DeviceFault
     ensures { result ≡ fault_of (error_kind e.now) }
 {
     match e.kind() {
@@ -17,7 +17,7 @@ pub(crate) fn fault_of(e: &io::Error) -> DeviceFault
 }
 
 /// Whether an error says that no such file is there.
-pub(crate) fn is_absent(e: &io::Error) -> bool
+pub fn is_absent(e: &io::Error) -> bool
     ensures { result ≡ is_absent (error_kind e.now) }
 {
     matches!(

@@ -1,10 +1,10 @@
 // The POMs of a repository on a disk.
 use crate::reading::{all_files, pom_bytes};
+use disk_reading::RealTree;
 use mvn_base::{Gav, PomId};
 use mvn_outside::{ReadFault, Tree};
 use mvn_shared::{Bytes, Mem, Text};
 use outside_mem::NoFailures;
-use outside_real::RealTree;
 use pom_source::Found;
 use source_mem::MemPoms;
 use std::alloc::Global;

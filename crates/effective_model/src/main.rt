@@ -11,10 +11,10 @@ mod library;
 mod project;
 mod reading;
 
+use disk_reading::RealTree;
 use given::given;
 use library::read_library;
 use mvn_shared::Text;
-use outside_real::RealTree;
 use pom_source::Given;
 use project::Project;
 

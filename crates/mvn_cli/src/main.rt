@@ -9,6 +9,7 @@ mod gates;
 mod places;
 mod words;
 
+use disk_reading::{RealRemote, RealTree};
 use environment::{machine, variables, words};
 use gates::{RealGate, gate};
 use generated_run::run_words;
@@ -16,7 +17,7 @@ use mvn_base::Machine;
 use mvn_outside::{DeviceFault, Hand, Sink, write_all};
 use mvn_shared::{Bytes, Mem, Text};
 use mvn_top::{FAULT, NO_MEMORY};
-use outside_real::{RealArea, RealRemote, RealShelf, RealSink, RealTree};
+use outside_real::{RealArea, RealShelf, RealSink};
 use places::{Places, named_places};
 use std::alloc::Global;
 use std::collections::BTreeMap;

@@ -12,6 +12,5 @@ pub mod sink;
 mod writing;
 
 pub use area::RealArea;
-pub use disk_reading::{RealRemote, RealTree};
 pub use shelf::RealShelf;
 pub use sink::RealSink;

@@ -1,11 +1,12 @@
 // Rows about repositories: what is published, and what a remote gives.
 use crate::disk::{told_of_file, word};
 use crate::gav;
+use disk_reading::RealRemote;
 use local_repo::{put, settle, stage, sweep};
 use mvn_base::{FileName, Gav, file_of, valid_group, valid_name, valid_version};
 use mvn_outside::{Area, ListFault, Remote, Shelf};
 use mvn_shared::{List, Mem, Text};
-use outside_real::{RealArea, RealRemote, RealShelf};
+use outside_real::{RealArea, RealShelf};
 use std::alloc::Global;
 
 // An artifact of org.demo in version 1.0.

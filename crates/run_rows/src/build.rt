@@ -3,7 +3,7 @@ ghost use Rattle.std.specs.Prelude.{◌≤◌, length};
 
 use crate::crews::faults::{Device, Faults, calls};
 use crate::crews::waiting::{Meeting, WaitingGate, WaitingRemote};
-use crate::files::files_under;
+use crate::files::put_files_under;
 use gate_builtin::Builtin;
 use mvn_base::Machine;
 use mvn_outside::Hand;
@@ -49,6 +49,45 @@ fn remote(alloc: Global, project: &Project, faults: Faults, hand: u32) -> Mem<Me
     MemRemote::<Calls>::new(alloc, project.remote.clone()?, &failing)
 }
 
+// The calls of the goals.
+fn goal_calls(alloc: Global, faults: Faults, hand: u32) -> Mem<Calls> {
+    let failing = calls(alloc, faults, Device::Gate(hand))?;
+    Calls::new(alloc, &failing)
+}
+
+// What a hand has besides its area.
+fn gate_and_files(
+    alloc: Global,
+    project: &Project,
+    faults: Faults,
+    hand: u32,
+) -> Mem<(Calls, MemRemote<Calls>)> {
+    let calls = goal_calls(alloc, faults, hand)?;
+    let files = remote(alloc, project, faults, hand)?;
+    Ok((calls, files))
+}
+
+fn worker_of<'a, F: Drop>(
+    alloc: Global,
+    meeting: Option<&'a Meeting>,
+    calls: Calls,
+    files: MemRemote<Calls>,
+    area: MemArea<F>,
+) -> Worker<'a, F> {
+    let goals = Builtin::new(alloc);
+    let gate = WaitingGate {
+        alloc,
+        goals,
+        calls,
+        meeting,
+    };
+    Hand {
+        remote: WaitingRemote { files, meeting },
+        area,
+        gate,
+    }
+}
+
 /// The hand of this number, with this area.
 pub(crate) fn worker<'a, F: Drop>(
     alloc: Global,
@@ -57,20 +96,8 @@ pub(crate) fn worker<'a, F: Drop>(
     hand: u32,
     area: MemArea<F>,
 ) -> Mem<Worker<'a, F>> {
-    let failing = calls(alloc, manner.faults, Device::Gate(hand))?;
-    let files = remote(alloc, project, manner.faults, hand)?;
-    let calls = Calls::new(alloc, &failing)?;
-    let meeting = manner.meeting;
-    Ok(Hand {
-        remote: WaitingRemote { files, meeting },
-        area,
-        gate: WaitingGate {
-            alloc,
-            goals: Builtin::new(alloc),
-            calls,
-            meeting,
-        },
-    })
+    let (calls, files) = gate_and_files(alloc, project, manner.faults, hand)?;
+    Ok(worker_of(alloc, manner.meeting, calls, files, area))
 }
 
 /// The local repository, with the files that it has before.
@@ -79,30 +106,43 @@ pub(crate) fn shelf(alloc: Global, project: &Project, faults: Faults) -> Mem<Mem
     MemShelf::<Calls>::new(alloc, project.local.clone()?, &failing)
 }
 
-// A machine of which the folder of the project alone is known.
-fn machine(alloc: Global) -> Mem<Machine> {
-    let root = Text::from_str(alloc, "/w")?;
-    Ok(Machine {
+fn no_text(alloc: Global) -> Text {
+    Text::of(String::new(alloc))
+}
+
+// A machine of which these alone may be known.
+fn machine_of(alloc: Global, root: Text, jdk: Text, os_name: Text, os_family: Text) -> Machine {
+    Machine {
         root,
         env: List::new(alloc),
         system: List::new(alloc),
-        jdk: Text::of(String::new(alloc)),
-        os_name: Text::of(String::new(alloc)),
-        os_family: Text::of(String::new(alloc)),
-        os_arch: Text::of(String::new(alloc)),
-        os_version: Text::of(String::new(alloc)),
-    })
+        jdk,
+        os_name,
+        os_family,
+        os_arch: no_text(alloc),
+        os_version: no_text(alloc),
+    }
+}
+
+// A machine of which the folder of the project alone is known.
+fn machine(alloc: Global) -> Mem<Machine> {
+    let root = Text::from_str(alloc, "/w")?;
+    Ok(machine_of(alloc, root, no_text(alloc), no_text(alloc), no_text(alloc)))
 }
 
 fn push_word(alloc: Global, words: &mut List<Bytes>, word: &str) -> Mem<()> {
     words.push(Bytes::from_slice(alloc, word.as_bytes())?)
 }
 
+fn push_number(alloc: Global, words: &mut List<Bytes>, number: usize) -> Mem<()> {
+    push_word(alloc, words, format!(in alloc; "{number}")?.as_str())
+}
+
 // The words of an install by so many workers.
 fn push_words(alloc: Global, words: &mut List<Bytes>, workers: usize) -> Mem<()> {
     push_word(alloc, words, "install")?;
     push_word(alloc, words, "-T")?;
-    push_word(alloc, words, format!(in alloc; "{workers}")?.as_str())
+    push_number(alloc, words, workers)
 }
 
 // The call over these objects, which writes its report to the sink.
@@ -121,61 +161,95 @@ fn call<W: Threads + Wait + Sync, F: Failures + Send + Drop>(
     mvn(rt, alloc, words, machine, tree, shelf, hands, sink)
 }
 
-// The same over a project.
-fn installed<W: Threads + Wait + Sync, F: Failures + Send + Drop>(
+// The same over a project's folder, where the repository, which is taken out, is there.
+fn called<W: Threads + Wait + Sync, F: Failures + Send + Drop>(
     rt: &W,
     alloc: Global,
-    project: &Project,
     words: &[Bytes],
-    shelf: MemShelf<F>,
+    machine: Machine,
+    tree: &mut MemTree<NoFailures>,
+    shelf: &mut Option<MemShelf<F>>,
     hands: &mut [Worker<F>],
     sink: &mut MemSink<NoFailures>,
 ) -> Mem<Ended<MemShelf<F>>> {
     if hands.is_empty() || hands.len() > 16 {
         return Err(OutOfMemory);
     }
-    let mut tree = MemTree::without_failures(alloc, project.tree.clone()?)?;
+    match shelf.take() {
+        Some(shelf) => Ok(call(rt, alloc, words, machine, tree, shelf, hands, sink)),
+        None => Err(OutOfMemory),
+    }
+}
+
+fn tree_of(alloc: Global, project: &Project) -> Mem<MemTree<NoFailures>> {
+    MemTree::without_failures(alloc, project.tree.clone()?)
+}
+
+// The same over a project.
+fn installed<W: Threads + Wait + Sync, F: Failures + Send + Drop>(
+    rt: &W,
+    alloc: Global,
+    project: &Project,
+    words: &[Bytes],
+    shelf: &mut Option<MemShelf<F>>,
+    hands: &mut [Worker<F>],
+    sink: &mut MemSink<NoFailures>,
+) -> Mem<Ended<MemShelf<F>>> {
+    let mut tree = tree_of(alloc, project)?;
     let machine = machine(alloc)?;
-    let ended = call(rt, alloc, words, machine, &mut tree, shelf, hands, sink);
-    Ok(ended)
+    called(rt, alloc, words, machine, &mut tree, shelf, hands, sink)
+}
+
+// Adds what the sink has, and the files under the project's names.
+fn put_left<F: Failures>(project: &Project, left: &mut Left<F>, sink: &[u8]) -> Mem<()> {
+    left.report.extend_from_slice(sink)?;
+    put_files_under(
+        &mut left.ended.shelf,
+        project.names.as_slice(),
+        &mut left.files,
+    )
 }
 
 // What is left where the call ended so.
 fn left_of<F: Failures + Drop>(
     alloc: Global,
     project: &Project,
-    mut ended: Ended<MemShelf<F>>,
-    report: &[u8],
+    ended: Ended<MemShelf<F>>,
+    sink: &[u8],
 ) -> Mem<Left<F>> {
-    let files = files_under(alloc, &mut ended.shelf, project.names.as_slice())?;
-    let report = Bytes::from_slice(alloc, report)?;
-    Ok(Left {
+    let mut left = Left {
         ended,
-        report,
-        files,
-    })
+        report: Bytes::of(Vec::new(alloc)),
+        files: List::new(alloc),
+    };
+    put_left(project, &mut left, sink)?;
+    Ok(left)
 }
 
-/// What an install by so many workers leaves, over this repository and these hands; there are 1 to 16 of them.
+// What the words leave, written to an empty sink.
+fn built<W: Threads + Wait + Sync, F: Failures + Send + Drop>(
+    rt: &W,
+    alloc: Global,
+    project: &Project,
+    words: &[Bytes],
+    shelf: &mut Option<MemShelf<F>>,
+    hands: &mut [Worker<F>],
+) -> Mem<Left<F>> {
+    let mut sink = MemSink::without_failures(alloc);
+    let ended = installed(rt, alloc, project, words, shelf, hands, &mut sink)?;
+    left_of(alloc, project, ended, sink.bytes())
+}
+
+/// What an install by so many workers leaves, over this repository, which is taken out, and these hands; there are 1 to 16 of them.
 pub(crate) fn build<W: Threads + Wait + Sync, F: Failures + Send + Drop>(
     rt: &W,
     alloc: Global,
     project: &Project,
     workers: usize,
-    shelf: MemShelf<F>,
+    shelf: &mut Option<MemShelf<F>>,
     hands: &mut [Worker<F>],
 ) -> Mem<Left<F>> {
     let mut words = List::new(alloc);
     push_words(alloc, &mut words, workers)?;
-    let mut sink = MemSink::without_failures(alloc);
-    let ended = installed(
-        rt,
-        alloc,
-        project,
-        words.as_slice(),
-        shelf,
-        hands,
-        &mut sink,
-    )?;
-    left_of(alloc, project, ended, sink.bytes())
+    built(rt, alloc, project, words.as_slice(), shelf, hands)
 }

@@ -17,6 +17,18 @@ fn file<F: Failures>(shelf: &mut MemShelf<F>, name: &FileName) -> Mem<Option<Byt
     Err(OutOfMemory)
 }
 
+/// Adds the file under each of these names, in their order.
+pub(crate) fn put_files_under<F: Failures>(
+    shelf: &mut MemShelf<F>,
+    names: &[FileName],
+    files: &mut List<Option<Bytes>>,
+) -> Mem<()> {
+    for name in names {
+        files.push(file(shelf, name)?)?;
+    }
+    Ok(())
+}
+
 /// The file under each of these names, in their order.
 pub(crate) fn files_under<F: Failures>(
     alloc: Global,
@@ -24,9 +36,7 @@ pub(crate) fn files_under<F: Failures>(
     names: &[FileName],
 ) -> Mem<List<Option<Bytes>>> {
     let mut files = List::new(alloc);
-    for name in names {
-        files.push(file(shelf, name)?)?;
-    }
+    put_files_under(shelf, names, &mut files)?;
     Ok(files)
 }
 

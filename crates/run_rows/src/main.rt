@@ -70,12 +70,24 @@ fn tell<W: Threads + Wait + Sync>(rt: &W, alloc: Global, line: &str, out: &mut S
     }
 }
 
+// The same as a text.
+fn told<W: Threads + Wait + Sync>(rt: &W, alloc: Global, line: &str) -> Mem<String> {
+    let mut out = String::new(alloc);
+    tell(rt, alloc, line, &mut out)?;
+    Ok(out)
+}
+
+// A text, where there was memory for it.
+fn print_text(rt: &HostRuntime, text: Mem<String>) -> anyhow::Result<()> {
+    let text = text?;
+    print!(rt; "{text}")?;
+    Ok(())
+}
+
 fn main(rt: HostRuntime) -> anyhow::Result<()> {
     for line in rt.lines(rt.alloc()) {
         let line = line?;
-        let mut out = String::new(rt.alloc());
-        tell(&rt, rt.alloc(), line.as_str(), &mut out)?;
-        print!(rt; "{out}")?;
+        print_text(&rt, told(&rt, rt.alloc(), line.as_str()))?;
     }
     Ok(())
 }

@@ -6,8 +6,9 @@ use crate::build::{CALM, Left, Worker, build, shelf, worker};
 use images::images;
 use mvn_shared::{Bytes, List, Mem};
 use outside_mem::{Calls, MemArea};
-use project::project_of;
+use project::put_fields;
 use random_projects::Project;
+use random_projects::project::empty;
 use row_fields::escaped;
 use std::alloc::Global;
 use std::sync::Wait;
@@ -38,12 +39,21 @@ fn counts_text(alloc: Global, status: u8, files: u64, pieces: u64) -> Mem<String
     Ok(format!(in alloc; "status {status} files {files} pieces {pieces} ")?)
 }
 
+fn push_counts(alloc: Global, status: u8, files: u64, pieces: u64, out: &mut String) -> Mem<()> {
+    out.push_str(counts_text(alloc, status, files, pieces)?.as_str())?;
+    Ok(())
+}
+
+fn push_escaped(alloc: Global, bytes: &[u8], out: &mut String) -> Mem<()> {
+    out.push_str(escaped(alloc, bytes)?.as_str())?;
+    Ok(())
+}
+
 // What is told of a build.
 fn push_left<F>(alloc: Global, left: &Left<F>, pieces: u64, out: &mut String) -> Mem<()> {
     let files = left.ended.shelf.names();
-    out.push_str(counts_text(alloc, left.ended.status, files, pieces)?.as_str())?;
-    out.push_str(escaped(alloc, left.report.as_slice())?.as_str())?;
-    Ok(())
+    push_counts(alloc, left.ended.status, files, pieces, out)?;
+    push_escaped(alloc, left.report.as_slice(), out)
 }
 
 // So many leftover pieces.
@@ -85,18 +95,45 @@ fn hand(
     worker(alloc, project, &CALM, 0, area)
 }
 
-fn hands(
+fn put_hands(
     alloc: Global,
     project: &Project,
     kind: &str,
     numbers: &str,
-) -> Mem<Vec<Worker<'static, Calls>>> {
-    let mut hands = Vec::new(alloc);
+    hands: &mut Vec<Worker<'static, Calls>>,
+) -> Mem<()> {
     let first = number(numbers, 0);
     for at in 0..number(numbers, 1) {
         hands.push(hand(alloc, project, kind, first, at)?)?;
     }
-    Ok(hands)
+    Ok(())
+}
+
+// What a build by these hands leaves.
+fn left_by<W: Threads + Wait + Sync>(
+    rt: &W,
+    alloc: Global,
+    project: &Project,
+    workers: usize,
+    hands: &mut [Worker<Calls>],
+) -> Mem<Left<Calls>> {
+    let mut shelf = Some(shelf(alloc, project, None)?);
+    build(rt, alloc, project, workers, &mut shelf, hands)
+}
+
+// The same by hands, none of which is there yet.
+fn tell_by<W: Threads + Wait + Sync>(
+    rt: &W,
+    alloc: Global,
+    project: &Project,
+    kind: &str,
+    numbers: &str,
+    hands: &mut Vec<Worker<'static, Calls>>,
+    out: &mut String,
+) -> Mem<()> {
+    put_hands(alloc, project, kind, numbers, hands)?;
+    let left = left_by(rt, alloc, project, number(numbers, 2), hands)?;
+    push_left(alloc, &left, pieces_left(hands), out)
 }
 
 // What is told of a build by hands in whose areas pieces are left, or of which one has an area whose first call fails.
@@ -108,10 +145,25 @@ fn by_hands<W: Threads + Wait + Sync>(
     numbers: &str,
     out: &mut String,
 ) -> Mem<()> {
-    let mut hands = hands(alloc, project, kind, numbers)?;
-    let shelf = shelf(alloc, project, None)?;
-    let left = build(rt, alloc, project, number(numbers, 2), shelf, &mut hands)?;
-    push_left(alloc, &left, pieces_left(&hands), out)
+    let mut hands = Vec::new(alloc);
+    tell_by(rt, alloc, project, kind, numbers, &mut hands, out)
+}
+
+// What is told of a project of these fields, of which it has none yet.
+fn tell_of<W: Threads + Wait + Sync>(
+    rt: &W,
+    alloc: Global,
+    project: &mut Project,
+    kind: &str,
+    numbers: &str,
+    fields: &str,
+    out: &mut String,
+) -> Mem<()> {
+    put_fields(alloc, project, fields)?;
+    match kind {
+        "images" => images(rt, alloc, project, numbers, out),
+        _ => by_hands(rt, alloc, project, kind, numbers, out),
+    }
 }
 
 /// What is told of a row about a build that a stop cut short.
@@ -122,10 +174,7 @@ pub(crate) fn tell<W: Threads + Wait + Sync>(
     row: &str,
     out: &mut String,
 ) -> Mem<()> {
-    let (numbers, files) = row.split_once('|').unwrap_or((row, ""));
-    let project = project_of(alloc, files)?;
-    match kind {
-        "images" => images(rt, alloc, &project, numbers, out),
-        _ => by_hands(rt, alloc, &project, kind, numbers, out),
-    }
+    let (numbers, fields) = row.split_once('|').unwrap_or((row, ""));
+    let mut project = empty(alloc);
+    tell_of(rt, alloc, &mut project, kind, numbers, fields, out)
 }

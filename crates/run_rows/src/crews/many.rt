@@ -15,7 +15,7 @@ use std::thread::Threads;
 const MODULES: u32 = 30;
 
 // How many builds there were of each kind.
-#[derive(Clone, Copy)]
+#[derive(Drop)]
 struct Counts {
     built: u32,
     faulty: u32,
@@ -65,6 +65,35 @@ fn is_right(
     }
 }
 
+// Counts the build of this number by several workers.
+fn count(
+    alloc: Global,
+    project: &Project,
+    seed: u32,
+    faults: Faults,
+    one: &Left<Calls>,
+    many: &Left<Calls>,
+    counts: &mut Counts,
+) -> Mem<()> {
+    let right = is_right(alloc, project, faults, one, many)?;
+    counts.count(seed, many.ended.status, right);
+    Ok(())
+}
+
+// A project built by several workers, beside what one left.
+fn compare_with<W: Threads + Wait + Sync>(
+    rt: &W,
+    alloc: Global,
+    project: &Project,
+    seed: u32,
+    manner: &Manner,
+    one: &Left<Calls>,
+    counts: &mut Counts,
+) -> Mem<()> {
+    let many = left(rt, alloc, project, workers(seed), manner)?;
+    count(alloc, project, seed, manner.faults, one, &many, counts)
+}
+
 // A project built by one worker without faults, and by several.
 fn compare<W: Threads + Wait + Sync>(
     rt: &W,
@@ -79,10 +108,7 @@ fn compare<W: Threads + Wait + Sync>(
         meeting: None,
     };
     let one = left(rt, alloc, project, 1, &CALM)?;
-    let many = left(rt, alloc, project, workers(seed), &manner)?;
-    let right = is_right(alloc, project, faults, &one, &many)?;
-    counts.count(seed, many.ended.status, right);
-    Ok(())
+    compare_with(rt, alloc, project, seed, &manner, &one, counts)
 }
 
 // The project of a number, built by several workers with faults or without.
@@ -127,6 +153,22 @@ fn push_wrong(alloc: Global, counts: &Counts, out: &mut String) -> Mem<()> {
     Ok(())
 }
 
+// What is told of so many builds.
+fn push_counts(
+    alloc: Global,
+    counts: &Counts,
+    count: u32,
+    is_faulty: bool,
+    out: &mut String,
+) -> Mem<()> {
+    if is_faulty {
+        push_faulty(counts, count, out)?;
+    } else {
+        push_built(alloc, counts, out)?;
+    }
+    push_wrong(alloc, counts, out)
+}
+
 /// Projects built by one worker and by several, with faults or without.
 pub(crate) fn many<W: Threads + Wait + Sync>(
     rt: &W,
@@ -140,10 +182,5 @@ pub(crate) fn many<W: Threads + Wait + Sync>(
     for at in 0..count {
         compare_at(rt, alloc, first.wrapping_add(at), is_faulty, &mut counts)?;
     }
-    if is_faulty {
-        push_faulty(&counts, count, out)?;
-    } else {
-        push_built(alloc, &counts, out)?;
-    }
-    push_wrong(alloc, &counts, out)
+    push_counts(alloc, &counts, count, is_faulty, out)
 }

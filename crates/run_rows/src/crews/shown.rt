@@ -20,10 +20,14 @@ pub(crate) fn text_of(bytes: &Bytes) -> &str {
     }
 }
 
+fn push_status(alloc: Global, status: u8, out: &mut String) -> Mem<()> {
+    out.push_str(format!(in alloc; "status {status}\n")?.as_str())?;
+    Ok(())
+}
+
 // The status and the report.
 fn push_report(alloc: Global, left: &Left<Calls>, out: &mut String) -> Mem<()> {
-    let status = left.ended.status;
-    out.push_str(format!(in alloc; "status {status}\n")?.as_str())?;
+    push_status(alloc, left.ended.status, out)?;
     out.push_str(text_of(&left.report))?;
     Ok(())
 }
@@ -55,8 +59,7 @@ pub(crate) fn goals<W: Threads + Wait + Sync>(
 ) -> Mem<()> {
     let mut project = empty(alloc);
     put_independent(alloc, &mut project)?;
-    let meeting = Meeting::of_goals(looks);
-    waited(rt, alloc, &project, workers, &meeting, out)
+    waited(rt, alloc, &project, workers, &Meeting::of_goals(looks), out)
 }
 
 /// An install of three modules, where a goal and a fetch wait for each other.
@@ -69,8 +72,14 @@ pub(crate) fn fetch<W: Threads + Wait + Sync>(
 ) -> Mem<()> {
     let mut project = empty(alloc);
     put_fetching(alloc, &mut project)?;
-    let meeting = Meeting::of_a_fetch(looks);
-    waited(rt, alloc, &project, workers, &meeting, out)
+    waited(
+        rt,
+        alloc,
+        &project,
+        workers,
+        &Meeting::of_a_fetch(looks),
+        out,
+    )
 }
 
 // A name and how many bytes it has, where it has a file.
@@ -92,6 +101,24 @@ fn push_files(alloc: Global, project: &Project, left: &Left<Calls>, out: &mut St
     Ok(())
 }
 
+// The report and the files.
+fn push_both(alloc: Global, project: &Project, left: &Left<Calls>, out: &mut String) -> Mem<()> {
+    push_report(alloc, left, out)?;
+    push_files(alloc, project, left, out)
+}
+
+// What an install by so many workers leaves.
+fn push_left<W: Threads + Wait + Sync>(
+    rt: &W,
+    alloc: Global,
+    project: &Project,
+    workers: u32,
+    out: &mut String,
+) -> Mem<()> {
+    let left = left(rt, alloc, project, workers, &CALM)?;
+    push_both(alloc, project, &left, out)
+}
+
 /// An install of three modules, of which one fails and one needs that one, and the files that it leaves.
 pub(crate) fn fails<W: Threads + Wait + Sync>(
     rt: &W,
@@ -101,7 +128,5 @@ pub(crate) fn fails<W: Threads + Wait + Sync>(
 ) -> Mem<()> {
     let mut project = empty(alloc);
     put_failing(alloc, &mut project)?;
-    let left = left(rt, alloc, &project, workers, &CALM)?;
-    push_report(alloc, &left, out)?;
-    push_files(alloc, &project, &left, out)
+    push_left(rt, alloc, &project, workers, out)
 }

@@ -10,7 +10,7 @@ use std::sync::Wait;
 use std::thread::Threads;
 
 /// A project, by how many workers it is built again, the files that its repository had, and what the build left.
-#[derive(Clone, Copy)]
+#[derive(Drop)]
 struct Undisturbed<'a> {
     project: &'a Project,
     workers: usize,
@@ -19,7 +19,7 @@ struct Undisturbed<'a> {
 }
 
 /// How many images there were, in how many of them each name has its old or its new file, and over how many another build ended alike.
-#[derive(Clone, Copy)]
+#[derive(Drop)]
 struct Tally {
     images: u64,
     whole: u64,
@@ -46,26 +46,47 @@ fn old_files(alloc: Global, project: &Project) -> Mem<List<Option<Bytes>>> {
     files_under(alloc, &mut shelf, project.names.as_slice())
 }
 
-// So many hands whose areas have no piece.
-fn hands(alloc: Global, project: &Project, count: usize) -> Mem<Vec<Worker<'static, NoFailures>>> {
-    let mut hands = Vec::new(alloc);
-    for _ in 0..count {
-        let area = MemArea::without_failures(alloc);
-        hands.push(worker(alloc, project, &CALM, 0, area)?)?;
-    }
-    Ok(hands)
+// A hand whose area has no piece.
+fn hand(alloc: Global, project: &Project) -> Mem<Worker<'static, NoFailures>> {
+    worker(alloc, project, &CALM, 0, MemArea::without_failures(alloc))
 }
 
-// A build over a repository.
+// So many more.
+fn put_hands(
+    alloc: Global,
+    project: &Project,
+    count: usize,
+    hands: &mut Vec<Worker<'static, NoFailures>>,
+) -> Mem<()> {
+    for _ in 0..count {
+        hands.push(hand(alloc, project)?)?;
+    }
+    Ok(())
+}
+
+// A build by hands, none of which is there yet.
+fn over_by<W: Threads + Wait + Sync>(
+    rt: &W,
+    alloc: Global,
+    project: &Project,
+    workers: usize,
+    shelf: &mut Option<MemShelf<NoFailures>>,
+    hands: &mut Vec<Worker<'static, NoFailures>>,
+) -> Mem<Left<NoFailures>> {
+    put_hands(alloc, project, workers, hands)?;
+    build(rt, alloc, project, workers, shelf, hands)
+}
+
+// A build over a repository, which is taken out.
 fn over<W: Threads + Wait + Sync>(
     rt: &W,
     alloc: Global,
     project: &Project,
     workers: usize,
-    shelf: MemShelf<NoFailures>,
+    shelf: &mut Option<MemShelf<NoFailures>>,
 ) -> Mem<Left<NoFailures>> {
-    let mut hands = hands(alloc, project, workers)?;
-    build(rt, alloc, project, workers, shelf, &mut hands)
+    let mut hands = Vec::new(alloc);
+    over_by(rt, alloc, project, workers, shelf, &mut hands)
 }
 
 // Which of so many names have their newest value: the bits of a number.
@@ -108,18 +129,40 @@ fn ended_alike(one: &Left<NoFailures>, other: &Left<NoFailures>) -> bool {
         && one.files.as_slice() == other.files.as_slice()
 }
 
+// The same of an image that is there.
+fn holds_whole(
+    alloc: Global,
+    undisturbed: &Undisturbed,
+    image: &mut Option<MemShelf<NoFailures>>,
+) -> Mem<bool> {
+    match image {
+        Some(image) => is_whole(alloc, undisturbed, image),
+        None => Ok(false),
+    }
+}
+
+// Whether a build over an image, which is taken out, ends as the other did.
+fn ends_alike<W: Threads + Wait + Sync>(
+    rt: &W,
+    alloc: Global,
+    undisturbed: &Undisturbed,
+    image: &mut Option<MemShelf<NoFailures>>,
+) -> Mem<bool> {
+    let left = over(rt, alloc, undisturbed.project, undisturbed.workers, image)?;
+    Ok(ended_alike(&left, undisturbed.left))
+}
+
 // One image more: what stands in it, and how a build ends over it.
 fn look<W: Threads + Wait + Sync>(
     rt: &W,
     alloc: Global,
     undisturbed: &Undisturbed,
-    mut image: MemShelf<NoFailures>,
+    image: &mut Option<MemShelf<NoFailures>>,
     tally: &mut Tally,
 ) -> Mem<()> {
-    let whole = is_whole(alloc, undisturbed, &mut image)?;
-    let workers = undisturbed.workers;
-    let left = over(rt, alloc, undisturbed.project, workers, image)?;
-    tally.count(whole, ended_alike(&left, undisturbed.left));
+    let whole = holds_whole(alloc, undisturbed, image)?;
+    let alike = ends_alike(rt, alloc, undisturbed, image)?;
+    tally.count(whole, alike);
     Ok(())
 }
 
@@ -136,8 +179,21 @@ fn look_at<W: Threads + Wait + Sync>(
     if moment >= shelf.moments() {
         return Ok(());
     }
-    let image = shelf.image(moment, newest)?;
-    look(rt, alloc, undisturbed, image, tally)
+    let mut image = Some(shelf.image(moment, newest)?);
+    look(rt, alloc, undisturbed, &mut image, tally)
+}
+
+// The image of a moment with this number.
+fn look_at_one<W: Threads + Wait + Sync>(
+    rt: &W,
+    alloc: Global,
+    undisturbed: &Undisturbed,
+    moment: u64,
+    choice: u64,
+    tally: &mut Tally,
+) -> Mem<()> {
+    let newest = newest_of(alloc, moment, choice)?;
+    look_at(rt, alloc, undisturbed, moment, &newest, tally)
 }
 
 // Every image of a moment.
@@ -150,8 +206,7 @@ fn look_at_all<W: Threads + Wait + Sync>(
 ) -> Mem<()> {
     let names = u32::try_from(moment).unwrap_or(u32::MAX);
     for choice in 0..2u64.saturating_pow(names) {
-        let newest = newest_of(alloc, moment, choice)?;
-        look_at(rt, alloc, undisturbed, moment, &newest, tally)?;
+        look_at_one(rt, alloc, undisturbed, moment, choice, tally)?;
     }
     Ok(())
 }
@@ -183,6 +238,49 @@ fn push_images<W: Threads + Wait + Sync>(
     Ok(())
 }
 
+// A build over the project's own repository.
+fn over_own<W: Threads + Wait + Sync>(
+    rt: &W,
+    alloc: Global,
+    project: &Project,
+    workers: usize,
+) -> Mem<Left<NoFailures>> {
+    let mut shelf = Some(own(alloc, project)?);
+    over(rt, alloc, project, workers, &mut shelf)
+}
+
+// What is told of the images of a build, by how many workers it is built again.
+fn push_images_of<W: Threads + Wait + Sync>(
+    rt: &W,
+    alloc: Global,
+    project: &Project,
+    workers: usize,
+    left: &Left<NoFailures>,
+    out: &mut String,
+) -> Mem<()> {
+    let old = old_files(alloc, project)?;
+    let undisturbed = Undisturbed {
+        project,
+        workers,
+        old: old.as_slice(),
+        left,
+    };
+    push_images(rt, alloc, &undisturbed, out)
+}
+
+// The same behind what is told of the build.
+fn push_left_and_images<W: Threads + Wait + Sync>(
+    rt: &W,
+    alloc: Global,
+    project: &Project,
+    workers: usize,
+    left: &Left<NoFailures>,
+    out: &mut String,
+) -> Mem<()> {
+    push_left(alloc, left, 0, out)?;
+    push_images_of(rt, alloc, project, workers, left, out)
+}
+
 /// What is told of a build, and of another over each image of each moment of its repository.
 pub(crate) fn images<W: Threads + Wait + Sync>(
     rt: &W,
@@ -191,14 +289,6 @@ pub(crate) fn images<W: Threads + Wait + Sync>(
     numbers: &str,
     out: &mut String,
 ) -> Mem<()> {
-    let left = over(rt, alloc, project, number(numbers, 0), own(alloc, project)?)?;
-    push_left(alloc, &left, 0, out)?;
-    let old = old_files(alloc, project)?;
-    let undisturbed = Undisturbed {
-        project,
-        workers: number(numbers, 1),
-        old: old.as_slice(),
-        left: &left,
-    };
-    push_images(rt, alloc, &undisturbed, out)
+    let left = over_own(rt, alloc, project, number(numbers, 0))?;
+    push_left_and_images(rt, alloc, project, number(numbers, 1), &left, out)
 }

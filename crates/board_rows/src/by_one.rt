@@ -98,6 +98,13 @@ fn fits(own: &[OwnBytes], slot: Slot, bytes: &Bytes, budget: u64) -> bool {
     bytes.len() as u64 <= room
 }
 
+// The outputs with these bytes in a slot.
+fn put_output(alloc: Global, slot: Slot, bytes: &Bytes, own: &mut List<OwnBytes>) -> Mem<()> {
+    let bytes = bytes.clone()?;
+    *own = with_output(alloc, replace(own, List::new(alloc)), slot, bytes)?;
+    Ok(())
+}
+
 // Bytes of a goal kept in a slot, in place of any that were there. The ending of the module, where they are too many.
 fn keep(
     alloc: Global,
@@ -113,8 +120,7 @@ fn keep(
     if !fits(own.as_slice(), slot, bytes, module.budget) {
         return Ok(Some(Ending::OutputTooLarge(goal)));
     }
-    let bytes = bytes.clone()?;
-    *own = with_output(alloc, replace(own, List::new(alloc)), slot, bytes)?;
+    put_output(alloc, slot, bytes, own)?;
     Ok(None)
 }
 
@@ -222,6 +228,21 @@ fn ended(
     Ok(Ending::Built)
 }
 
+// The goals of a module that has no outputs yet, and its files behind the last.
+fn run_module(
+    alloc: Global,
+    world: &World,
+    number: u32,
+    module: &PlanModule,
+    built: &mut Built,
+    own: &mut List<OwnBytes>,
+) -> Mem<Ending> {
+    match run_goals(alloc, world, number, module, &mut built.answers, own)? {
+        Some(ending) => Ok(ending),
+        None => ended(alloc, module, own.as_slice(), &mut built.files),
+    }
+}
+
 fn build_module(
     alloc: Global,
     plan: &Plan,
@@ -236,10 +257,7 @@ fn build_module(
         return Ok(Ending::Missing(missing));
     }
     let mut own = List::new(alloc);
-    match run_goals(alloc, world, number, module, &mut built.answers, &mut own)? {
-        Some(ending) => Ok(ending),
-        None => ended(alloc, module, own.as_slice(), &mut built.files),
-    }
+    run_module(alloc, world, number, module, built, &mut own)
 }
 
 // The first upstream that isn't built.

@@ -45,6 +45,18 @@ fn counts_text(alloc: Global, much: &str, counts: &Counts) -> Mem<String> {
     }
 }
 
+// How many of so many builds had a fault, where calls fail.
+fn much(faulty: bool, counts: &Counts, count: u32) -> &'static str {
+    if !faulty {
+        return "";
+    }
+    if counts.faulty >= count / 4 {
+        "at least a quarter with a fault, "
+    } else {
+        "less than a quarter with a fault, "
+    }
+}
+
 // What is told of a row: a word and two numbers.
 fn told(alloc: Global, row: &str) -> Mem<String> {
     let (kind, numbers) = row.split_once(' ').unwrap_or((row, ""));
@@ -52,20 +64,20 @@ fn told(alloc: Global, row: &str) -> Mem<String> {
     let count = number(count);
     let faulty = kind == "faults";
     let counts = counted(alloc, faulty, number(first), count)?;
-    let much = match faulty {
-        false => "",
-        true if counts.faulty >= count / 4 => "at least a quarter with a fault, ",
-        true => "less than a quarter with a fault, ",
-    };
-    counts_text(alloc, much, &counts)
+    counts_text(alloc, much(faulty, &counts, count), &counts)
+}
+
+fn print_told(rt: &HostRuntime, line: &str) -> anyhow::Result<()> {
+    println!(rt; "{line}")?;
+    let told = told(rt.alloc(), line)?;
+    print!(rt; "{told}")?;
+    Ok(())
 }
 
 fn main(rt: HostRuntime) -> anyhow::Result<()> {
     for line in rt.lines(rt.alloc()) {
         let line = line?;
-        println!(rt; "{line}")?;
-        let told = told(rt.alloc(), line.as_str())?;
-        print!(rt; "{told}")?;
+        print_told(&rt, line.as_str())?;
     }
     Ok(())
 }

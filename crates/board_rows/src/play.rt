@@ -38,10 +38,11 @@ fn area_of(alloc: Global, world: &World, worker: u32) -> Mem<MemArea<Calls>> {
 }
 
 fn hand(alloc: Global, project: &Project, world: &World, worker: u32) -> Mem<Hand> {
+    let area = area_of(alloc, world, worker)?;
     let remote = remote_of(alloc, project, world, worker)?;
     Ok(Hand {
         remote,
-        area: area_of(alloc, world, worker)?,
+        area,
         module: 0,
         stage: Stage::Idle,
     })
@@ -104,6 +105,22 @@ fn goes_on(hand: &mut Hand, turn: Turn) -> bool {
     }
 }
 
+// A turn of this worker. Whether the build goes on.
+fn one_turn(
+    alloc: Global,
+    site: &mut Table,
+    world: &World,
+    plan: &Plan,
+    worker: u32,
+    hands: &mut Vec<Hand>,
+) -> Mem<bool> {
+    let Some(hand) = hands.get_mut(worker as usize) else {
+        return Ok(false);
+    };
+    let turn = turn(alloc, site, world, plan, worker, hand)?;
+    Ok(goes_on(hand, turn))
+}
+
 // Turns of workers that are drawn, until all is over or a worker is stuck.
 fn play(
     alloc: Global,
@@ -115,11 +132,7 @@ fn play(
     let mut draws = Draws::new(world.seed.wrapping_mul(7));
     for _ in 0..TURNS {
         let worker = drawn(&mut draws, plan.workers);
-        let Some(hand) = hands.get_mut(worker as usize) else {
-            return Ok(());
-        };
-        let turn = turn(alloc, site, world, plan, worker, hand)?;
-        if !goes_on(hand, turn) {
+        if !one_turn(alloc, site, world, plan, worker, hands)? {
             return Ok(());
         }
     }
@@ -131,6 +144,19 @@ fn drawn(draws: &mut Draws, count: u32) -> u32 {
     if count == 0 { 0 } else { draws.below(count) }
 }
 
+// Turns that are drawn, of all workers of the plan, whose hands aren't there yet.
+fn played_by(
+    alloc: Global,
+    site: &mut Table,
+    project: &Project,
+    plan: &Plan,
+    world: &World,
+    hands: &mut Vec<Hand>,
+) -> Mem<()> {
+    put_hands(alloc, project, world, hands, plan.workers)?;
+    play(alloc, site, world, plan, hands)
+}
+
 // Turns that are drawn, of all workers of the plan.
 fn played(
     alloc: Global,
@@ -140,8 +166,15 @@ fn played(
     world: &World,
 ) -> Mem<()> {
     let mut hands = Vec::new(alloc);
-    put_hands(alloc, project, world, &mut hands, plan.workers)?;
-    play(alloc, site, world, plan, &mut hands)
+    played_by(alloc, site, project, plan, world, &mut hands)
+}
+
+// What a build left whose turns were played, if there was memory for them.
+fn left_of(played: Mem<()>, left: Left) -> Mem<Left> {
+    match played {
+        Ok(()) => Ok(left),
+        Err(error) => Err(error),
+    }
 }
 
 /// The build of a plan by its workers, in turns that are drawn.
@@ -152,8 +185,8 @@ pub(crate) fn build(alloc: Global, project: &Project, plan: &Plan, world: &World
     requires present { IsPresent plan.now (files_named project.now.local) }
 {
     let mut site = site(alloc, project, plan, world)?;
-    played(alloc, &mut site, project, plan, world)?;
-    Ok(site.finish())
+    let played = played(alloc, &mut site, project, plan, world);
+    left_of(played, site.finish())
 }
 
 // The site of a build that hasn't begun.

@@ -5,7 +5,7 @@ ghost use Rattle.outside_mem.specs.FilesNamed.{files_named};
 ghost use Rattle.run_law.specs.Given.{IsPresent};
 
 use crate::by_one::{Built, by_one, nothing};
-use crate::play::build;
+use crate::play::{Left, build};
 use crate::same::{has_fault, is_same, is_untouched, put_files_left};
 use crate::world::World;
 use board::Finished;
@@ -28,7 +28,7 @@ pub(crate) enum Told {
 }
 
 /// How many builds had a fault, and how many left what they may not.
-#[derive(Clone, Copy)]
+#[derive(Drop)]
 pub(crate) struct Counts {
     pub(crate) faulty: u32,
     pub(crate) wrong: u32,
@@ -63,7 +63,7 @@ fn planned(alloc: Global, project: &Project, seed: u32) -> Mem<Plan>
     ensures names { IfOk result (λ plan. length plan.names < 2 ^ 32) }
     ensures present { IfOk result (λ plan. IsPresent plan (files_named project.now.local)) }
 {
-    let workers = 1 + seed % 4;
+    let workers = (seed % 4).wrapping_add(1);
     plan(
         alloc,
         &project.tree,
@@ -89,6 +89,25 @@ fn is_right(
     }
 }
 
+// What is told of a build, whose files these are.
+fn judged(
+    plan: &Plan,
+    project: &Project,
+    faulty: bool,
+    calm: &Built,
+    left: &Finished<MemShelf<Calls>>,
+    now: &[Option<Bytes>],
+) -> Told {
+    if !is_right(plan, project, faulty, calm, left, now) {
+        return Told::Wrong;
+    }
+    if has_fault(left.states.as_slice()) {
+        Told::Faulty
+    } else {
+        Told::Right
+    }
+}
+
 // A build compared with that by one hand.
 fn compared(
     alloc: Global,
@@ -100,13 +119,21 @@ fn compared(
 ) -> Mem<Told> {
     let mut now = Vec::new(alloc);
     put_files_left(plan, &mut left.shelf, &mut now)?;
-    if !is_right(plan, project, faulty, calm, left, &now) {
-        return Ok(Told::Wrong);
-    }
-    if has_fault(left.states.as_slice()) {
-        Ok(Told::Faulty)
-    } else {
-        Ok(Told::Right)
+    Ok(judged(plan, project, faulty, calm, left, &now))
+}
+
+// The same of a build that came to its end, if it did.
+fn compared_left(
+    alloc: Global,
+    plan: &Plan,
+    project: &Project,
+    faulty: bool,
+    calm: &Built,
+    left: &mut Left,
+) -> Mem<Told> {
+    match left {
+        Some(left) => compared(alloc, plan, project, faulty, calm, left),
+        None => Ok(Told::Wrong),
     }
 }
 
@@ -123,19 +150,42 @@ fn tell_beside(
     requires names { length plan.now.names < 2 ^ 32 }
     requires present { IsPresent plan.now (files_named project.now.local) }
 {
-    match build(alloc, project, plan, world)? {
-        Some(mut left) => compared(alloc, plan, project, world.faulty, calm, &mut left),
-        None => Ok(Told::Wrong),
-    }
+    let mut left = build(alloc, project, plan, world)?;
+    compared_left(alloc, plan, project, world.faulty, calm, &mut left)
+}
+
+// The same beside one by one hand that hasn't begun.
+fn tell_with(
+    alloc: Global,
+    project: &Project,
+    plan: &Plan,
+    world: &World,
+    calm: &mut Built,
+) -> Mem<Told>
+    requires sound { IsSoundPlan plan.now }
+    requires few { plan.now.events < 2 ^ 32 }
+    requires names { length plan.now.names < 2 ^ 32 }
+    requires present { IsPresent plan.now (files_named project.now.local) }
+{
+    by_one(alloc, plan, project, world, calm)?;
+    tell_beside(alloc, project, plan, world, calm)
+}
+
+// What is told of the build of a plan of a project.
+fn tell_planned(alloc: Global, project: &Project, plan: &Plan, world: &World) -> Mem<Told>
+    requires sound { IsSoundPlan plan.now }
+    requires few { plan.now.events < 2 ^ 32 }
+    requires names { length plan.now.names < 2 ^ 32 }
+    requires present { IsPresent plan.now (files_named project.now.local) }
+{
+    let mut calm = nothing(alloc);
+    tell_with(alloc, project, plan, world, &mut calm)
 }
 
 // What is told of the build of a project.
 fn tell_of(alloc: Global, project: &Project, seed: u32, faulty: bool) -> Mem<Told> {
     let plan = planned(alloc, project, seed)?;
-    let world = World { seed, faulty };
-    let mut calm = nothing(alloc);
-    by_one(alloc, &plan, project, &world, &mut calm)?;
-    tell_beside(alloc, project, &plan, &world, &calm)
+    tell_planned(alloc, project, &plan, &World { seed, faulty })
 }
 
 /// Builds the project of a number by its workers, in turns that are drawn, and by one hand.

@@ -117,13 +117,19 @@ fn read(site: &mut Table, worker: u32, module: &PlanModule, at: u32) -> Turn {
     }
 }
 
+// Whether a module has a main output.
+fn has_main(site: &Table, number: u32) -> Mem<bool> {
+    let main = site.board.output(number, Slot::Main)?;
+    Ok(main.is_some())
+}
+
 // Behind the last goal.
 fn finished(site: &Table, number: u32, module: &PlanModule) -> Mem<Stage> {
     if !module.installs {
         return Ok(Stage::End(Ending::Built));
     }
-    let main = site.board.output(number, Slot::Main)?;
-    if module.needs_artifact && main.is_none() {
+    let has_main = has_main(site, number)?;
+    if module.needs_artifact && !has_main {
         return Ok(Stage::End(Ending::NoArtifact));
     }
     Ok(Stage::Own)

@@ -23,9 +23,15 @@ pub(crate) struct World {
 fn place(device: Device) -> u32 {
     match device {
         Device::Shelf => 0,
-        Device::Remote(worker) => 1 + worker % 16,
-        Device::Area(worker) => 17 + worker % 16,
+        Device::Remote(worker) => (worker % 16).wrapping_add(1),
+        Device::Area(worker) => (worker % 16).wrapping_add(17),
     }
+}
+
+// What a goal of a module produces.
+fn output(alloc: Global, module: u32, goal: u32) -> Mem<Bytes> {
+    let text = format!(in alloc; "{module} {goal}")?;
+    Bytes::from_slice(alloc, text.as_bytes())
 }
 
 impl World {
@@ -35,7 +41,8 @@ impl World {
 
     // The numbers for a goal of a module.
     fn goal_draws(&self, module: u32, goal: u32) -> Draws {
-        self.draws(64 + module % 16 * 16 + goal % 16)
+        let place = (module % 16).wrapping_mul(16).wrapping_add(goal % 16);
+        self.draws(place.wrapping_add(64))
     }
 
     /// What a goal of a module answers.
@@ -47,8 +54,7 @@ impl World {
         if draws.one_in(6) {
             return Ok(GoalAnswer::Done);
         }
-        let text = format!(in alloc; "{module} {goal}")?;
-        Ok(GoalAnswer::Produced(Bytes::from_slice(alloc, text.as_bytes())?))
+        Ok(GoalAnswer::Produced(output(alloc, module, goal)?))
     }
 
     /// Whether a goal of a module can't be asked.

@@ -17,17 +17,28 @@ fn no_choice(alloc: Global) -> Choice {
     }
 }
 
-fn no_machine(alloc: Global) -> Machine {
+// A machine of which these alone may be known.
+fn machine_of(alloc: Global, root: Text, jdk: Text, os_name: Text, os_family: Text) -> Machine {
     Machine {
-        root: no_text(alloc),
+        root,
         env: List::new(alloc),
         system: List::new(alloc),
-        jdk: no_text(alloc),
-        os_name: no_text(alloc),
-        os_family: no_text(alloc),
+        jdk,
+        os_name,
+        os_family,
         os_arch: no_text(alloc),
         os_version: no_text(alloc),
     }
+}
+
+fn no_machine(alloc: Global) -> Machine {
+    machine_of(
+        alloc,
+        no_text(alloc),
+        no_text(alloc),
+        no_text(alloc),
+        no_text(alloc),
+    )
 }
 
 /// Nothing is given: all texts are empty.
@@ -58,17 +69,22 @@ pub(crate) fn describe(machine: &mut Machine) -> Mem<()> {
     machine.os_version.push_str("6.1")
 }
 
-// The words of a field.
-fn words_of(alloc: Global, field: &str) -> Mem<Vec<Bytes>> {
-    let mut list = Vec::new(alloc);
+// Adds the words of a field.
+fn push_words(alloc: Global, list: &mut Vec<Bytes>, field: &str) -> Mem<()> {
     for word in field.split_whitespace() {
         list.push(Bytes::from_slice(alloc, word.as_bytes())?)?;
     }
-    Ok(list)
+    Ok(())
+}
+
+// What the words of a field ask for, of which the list has none yet.
+fn asked(alloc: Global, list: &mut Vec<Bytes>, field: &str) -> Result<CommandLine, WordError> {
+    push_words(alloc, list, field)?;
+    options(alloc, list, 16)
 }
 
 /// What words ask for.
 pub(crate) fn line(alloc: Global, field: &str) -> Result<CommandLine, WordError> {
-    let list = words_of(alloc, field)?;
-    options(alloc, &list, 16)
+    let mut list = Vec::new(alloc);
+    asked(alloc, &mut list, field)
 }

@@ -56,16 +56,23 @@ pub(crate) fn push_listed(alloc: Global, text: &mut String, number: u32) -> Mem<
 /// A group, an artifact and a version.
 pub(crate) type Coordinates<'a> = (&'a str, &'a str, &'a str);
 
+// An element of this name that has a text alone.
+fn push_element(pom: &mut Bytes, name: &str, text: &str) -> Mem<()> {
+    pom.extend_from_slice("<".as_bytes())?;
+    pom.extend_from_slice(name.as_bytes())?;
+    pom.extend_from_slice(">".as_bytes())?;
+    pom.extend_from_slice(text.as_bytes())?;
+    pom.extend_from_slice("</".as_bytes())?;
+    pom.extend_from_slice(name.as_bytes())?;
+    pom.extend_from_slice(">".as_bytes())
+}
+
 /// A POM of these coordinates, with this in it behind them.
 pub(crate) fn push_pom(pom: &mut Bytes, named: Coordinates, inside: &[u8]) -> Mem<()> {
-    let (group, artifact, version) = named;
-    pom.extend_from_slice(b"<project><modelVersion>4.0.0</modelVersion><groupId>")?;
-    pom.extend_from_slice(group.as_bytes())?;
-    pom.extend_from_slice(b"</groupId><artifactId>")?;
-    pom.extend_from_slice(artifact.as_bytes())?;
-    pom.extend_from_slice(b"</artifactId><version>")?;
-    pom.extend_from_slice(version.as_bytes())?;
-    pom.extend_from_slice(b"</version>")?;
+    pom.extend_from_slice("<project><modelVersion>4.0.0</modelVersion>".as_bytes())?;
+    push_element(pom, "groupId", named.0)?;
+    push_element(pom, "artifactId", named.1)?;
+    push_element(pom, "version", named.2)?;
     pom.extend_from_slice(inside)?;
-    pom.extend_from_slice(b"</project>")
+    pom.extend_from_slice("</project>".as_bytes())
 }

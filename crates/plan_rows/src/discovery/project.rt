@@ -24,6 +24,19 @@ fn put_bytes(alloc: Global, project: &mut Project, path: &str, bytes: &[u8]) -> 
 
 const PLAIN: Coordinates<'static> = ("g", "a", "1");
 
+// One more POM, which is written into no bytes yet, with this in it behind its coordinates.
+fn put_into(
+    alloc: Global,
+    project: &mut Project,
+    path: &str,
+    named: Coordinates,
+    inside: &[u8],
+    pom: &mut Bytes,
+) -> Mem<()> {
+    push_pom(pom, named, inside)?;
+    put_bytes(alloc, project, path, pom.as_slice())
+}
+
 // One more POM, with this in it behind its coordinates.
 fn put(
     alloc: Global,
@@ -33,8 +46,7 @@ fn put(
     inside: &[u8],
 ) -> Mem<()> {
     let mut pom = Bytes::of(Vec::new(alloc));
-    push_pom(&mut pom, named, inside)?;
-    put_bytes(alloc, project, path, pom.as_slice())
+    put_into(alloc, project, path, named, inside, &mut pom)
 }
 
 // One more file: its path, and what is in the POM.

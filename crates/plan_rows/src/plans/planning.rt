@@ -4,7 +4,7 @@ use crate::plans::project::Files;
 use crate::plans::shown::{Shown, push_plan};
 use crate::texts::{push_fault, push_unknown};
 use build_plan::{PlanFault, Planning, plan_build};
-use cli_words::CommandLine;
+use cli_words::{CommandLine, WordError};
 use model_resolver::PomDevice;
 use mvn_shared::{List, Mem, OutOfMemory};
 use outside_mem::{Calls, MemRemote, MemShelf, MemTree};
@@ -61,6 +61,33 @@ fn planned(
     Ok(plan_build(alloc, tree, shelf, remote, given, line))
 }
 
+// The same over this tree and repository, and the remote repository of files, which are taken out.
+fn planning_over(
+    alloc: Global,
+    tree: &mut MemTree<Calls>,
+    shelf: &mut MemShelf<Calls>,
+    files: &mut Files,
+    given: &Given,
+    line: &CommandLine,
+    failing: Failing,
+) -> Mem<Planning> {
+    let mut remote = remote_of(alloc, files, failing)?;
+    planned(alloc, tree, shelf, &mut remote, given, line)
+}
+
+// The same over this tree, and both repositories of files, which are taken out.
+fn planning_in(
+    alloc: Global,
+    tree: &mut MemTree<Calls>,
+    files: &mut Files,
+    given: &Given,
+    line: &CommandLine,
+    failing: Failing,
+) -> Mem<Planning> {
+    let mut shelf = shelf_of(alloc, files, failing)?;
+    planning_over(alloc, tree, &mut shelf, files, given, line, failing)
+}
+
 // The same over files, which are taken out.
 fn planning(
     alloc: Global,
@@ -70,9 +97,7 @@ fn planning(
     failing: Failing,
 ) -> Mem<Planning> {
     let mut tree = tree_of(alloc, files, failing)?;
-    let mut shelf = shelf_of(alloc, files, failing)?;
-    let mut remote = remote_of(alloc, files, failing)?;
-    planned(alloc, &mut tree, &mut shelf, &mut remote, given, line)
+    planning_in(alloc, &mut tree, files, given, line, failing)
 }
 
 fn device(failed: Option<PomDevice>) -> &'static str {
@@ -141,6 +166,26 @@ fn push_line(
     push_given(alloc, text, files, &mut given, line, failing, shown)
 }
 
+fn push_no_line(text: &mut String) -> Mem<()> {
+    text.push_str("no command line")?;
+    Ok(())
+}
+
+// The same, if words are a command line.
+fn push_if_line(
+    alloc: Global,
+    text: &mut String,
+    files: &mut Files,
+    line: &mut Result<CommandLine, WordError>,
+    failing: Failing,
+    shown: Shown,
+) -> Mem<()> {
+    match line {
+        Ok(line) => push_line(alloc, text, files, line, failing, shown),
+        Err(_) => push_no_line(text),
+    }
+}
+
 /// What is told of the plan of files for the words of a command line, or why there is none. The files are taken out.
 pub(crate) fn push_planned(
     alloc: Global,
@@ -150,9 +195,6 @@ pub(crate) fn push_planned(
     failing: Failing,
     shown: Shown,
 ) -> Mem<()> {
-    if let Ok(line) = &mut line(alloc, words) {
-        return push_line(alloc, text, files, line, failing, shown);
-    }
-    text.push_str("no command line")?;
-    Ok(())
+    let mut line = line(alloc, words);
+    push_if_line(alloc, text, files, &mut line, failing, shown)
 }

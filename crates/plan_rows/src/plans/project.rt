@@ -24,12 +24,17 @@ pub(crate) fn no_files(alloc: Global) -> Files {
     }
 }
 
-// A POM of these coordinates, with a field in it behind them.
+// A POM of these coordinates, with bytes in it behind them.
+fn pom_with(alloc: Global, named: Coordinates, inside: &[u8]) -> Mem<Bytes> {
+    let mut pom = Bytes::of(Vec::new(alloc));
+    push_pom(&mut pom, named, inside)?;
+    Ok(pom)
+}
+
+// The same with a field in it.
 fn pom_of(alloc: Global, named: Coordinates, field: &str) -> Mem<Bytes> {
     let inside = unescaped(alloc, field)?;
-    let mut pom = Bytes::of(Vec::new(alloc));
-    push_pom(&mut pom, named, inside.as_slice())?;
-    Ok(pom)
+    pom_with(alloc, named, inside.as_slice())
 }
 
 /// One more file of the project.
@@ -80,11 +85,15 @@ fn gav(alloc: Global, named: Coordinates) -> Mem<Gav> {
     })
 }
 
-// The name of a POM of these coordinates, if it has one.
+// The name of the POM of these coordinates, if it has one.
+fn name_of(alloc: Global, gav: &Gav) -> Mem<Option<FileName>> {
+    let pom = Text::from_str(alloc, "pom")?;
+    file_name(alloc, gav, &Text::of(String::new(alloc)), &pom)
+}
+
 fn pom_name(alloc: Global, named: Coordinates) -> Mem<Option<FileName>> {
     let gav = gav(alloc, named)?;
-    let pom = Text::from_str(alloc, "pom")?;
-    file_name(alloc, &gav, &Text::of(String::new(alloc)), &pom)
+    name_of(alloc, &gav)
 }
 
 // One more POM of a repository, under this name.

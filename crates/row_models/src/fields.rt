@@ -20,13 +20,17 @@ pub fn field<'a>(fields: &[&'a str], at: usize) -> &'a str {
     }
 }
 
+fn put_words(alloc: Global, list: &mut List<Text>, field: &str) -> Mem<()> {
+    for word in field.split_whitespace() {
+        list.push(Text::from_str(alloc, word)?)?;
+    }
+    Ok(())
+}
+
 /// The words of a field.
 pub fn words(alloc: Global, field: &str) -> Mem<List<Text>> {
     let mut list = List::new(alloc);
-    for word in field.split_whitespace() {
-        let word = Text::from_str(alloc, word)?;
-        list.push(word)?;
-    }
+    put_words(alloc, &mut list, field)?;
     Ok(list)
 }
 
@@ -44,12 +48,17 @@ fn pair_of(alloc: Global, word: &str) -> Mem<Pair> {
     }
 }
 
+/// Adds the words of a field as names and their values, which are `true` where none is said.
+pub(crate) fn put_pairs(alloc: Global, list: &mut List<Pair>, field: &str) -> Mem<()> {
+    for word in field.split_whitespace() {
+        list.push(pair_of(alloc, word)?)?;
+    }
+    Ok(())
+}
+
 /// The words of a field as names and their values, which are `true` where none is said.
 pub fn pairs(alloc: Global, field: &str) -> Mem<List<Pair>> {
     let mut list = List::new(alloc);
-    for word in field.split_whitespace() {
-        let pair = pair_of(alloc, word)?;
-        list.push(pair)?;
-    }
+    put_pairs(alloc, &mut list, field)?;
     Ok(list)
 }

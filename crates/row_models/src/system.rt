@@ -1,61 +1,65 @@
 // The machine that the rows know.
-use crate::fields::pairs;
-use mvn_base::{Machine, Pair};
+use crate::fields::put_pairs;
+use mvn_base::Machine;
 use mvn_shared::{List, Mem, Shared, Text};
 use std::alloc::Global;
 
-// What the system is.
-#[derive(Drop)]
-struct System {
-    name: Text,
-    family: Text,
-    arch: Text,
-    version: Text,
+fn no_text(alloc: Global) -> Text {
+    Text::of(String::new(alloc))
 }
 
-fn linux(alloc: Global) -> Mem<System> {
-    let name = Text::from_str(alloc, "Linux")?;
-    let family = Text::from_str(alloc, "unix")?;
-    let arch = Text::from_str(alloc, "amd64")?;
-    let version = Text::from_str(alloc, "5")?;
-    Ok(System {
-        name,
-        family,
-        arch,
-        version,
-    })
-}
-
-// What the machine is, with these variables and properties.
-fn described(
-    root: Text,
-    jdk: Text,
-    env: List<Pair>,
-    properties: List<Pair>,
-    system: System,
-) -> Machine {
+// A machine of which these alone may be known.
+fn machine_of(alloc: Global, root: Text, jdk: Text, os_name: Text, os_family: Text) -> Machine {
     Machine {
         root,
-        env,
-        system: properties,
+        env: List::new(alloc),
+        system: List::new(alloc),
         jdk,
-        os_name: system.name,
-        os_family: system.family,
-        os_arch: system.arch,
-        os_version: system.version,
+        os_name,
+        os_family,
+        os_arch: no_text(alloc),
+        os_version: no_text(alloc),
     }
 }
 
-fn with_variables(alloc: Global, system: System) -> Mem<Machine> {
-    let root = Text::from_str(alloc, "/w")?;
-    let jdk = Text::from_str(alloc, "17.0.2")?;
-    let env = pairs(alloc, "E=${s} HOME=/h")?;
-    let properties = pairs(alloc, "s=1 t=x")?;
-    Ok(described(root, jdk, env, properties, system))
+// A machine of which nothing is known.
+fn unknown(alloc: Global) -> Machine {
+    machine_of(
+        alloc,
+        no_text(alloc),
+        no_text(alloc),
+        no_text(alloc),
+        no_text(alloc),
+    )
+}
+
+fn put_system(machine: &mut Machine) -> Mem<()> {
+    machine.os_name.push_str("Linux")?;
+    machine.os_family.push_str("unix")?;
+    machine.os_arch.push_str("amd64")?;
+    machine.os_version.push_str("5")
+}
+
+fn put_variables(alloc: Global, machine: &mut Machine) -> Mem<()> {
+    machine.root.push_str("/w")?;
+    machine.jdk.push_str("17.0.2")?;
+    put_pairs(alloc, &mut machine.env, "E=${s} HOME=/h")?;
+    put_pairs(alloc, &mut machine.system, "s=1 t=x")
+}
+
+fn put(alloc: Global, machine: &mut Machine) -> Mem<()> {
+    put_system(machine)?;
+    put_variables(alloc, machine)
+}
+
+fn described(alloc: Global) -> Mem<Machine> {
+    let mut machine = unknown(alloc);
+    put(alloc, &mut machine)?;
+    Ok(machine)
 }
 
 /// A Linux 5 for the JDK 17.0.2, with the project in `/w`, two variables and two properties of the system.
 pub fn machine(alloc: Global) -> Mem<Shared<Machine>> {
-    let machine = with_variables(alloc, linux(alloc)?)?;
+    let machine = described(alloc)?;
     Shared::new(alloc, machine)
 }

@@ -87,12 +87,17 @@ fn push_place(alloc: Global, shown: &mut String, place: usize) -> Mem<()> {
     Ok(())
 }
 
+fn push_places(alloc: Global, shown: &mut String, places: &[usize]) -> Mem<()> {
+    for place in places {
+        push_place(alloc, shown, *place)?;
+    }
+    Ok(())
+}
+
 // Places with a space in front of each.
 fn shown(alloc: Global, places: &[usize]) -> Mem<String> {
     let mut shown = String::new(alloc);
-    for place in places {
-        push_place(alloc, &mut shown, *place)?;
-    }
+    push_places(alloc, &mut shown, places)?;
     Ok(shown)
 }
 
@@ -107,8 +112,7 @@ fn answered(alloc: Global, places: &Result<List<usize>, DeviceFault>) -> Mem<Str
 
 fn told_of_model(alloc: Global, raw: &RawModel, fields: &[&str], fails: bool) -> Mem<String> {
     let asked = asked(alloc, fields)?;
-    let places = places(alloc, raw, &asked, fails);
-    answered(alloc, &places)
+    answered(alloc, &places(alloc, raw, &asked, fails))
 }
 
 /// The places of the active profiles of a POM, with properties, and ids that are switched on and off.

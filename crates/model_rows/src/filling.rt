@@ -1,17 +1,42 @@
 // Expressions in a POM.
 use interpolate::fill;
 use model_types::RawModel;
-use mvn_base::{ModelError, Pair};
+use mvn_base::{Machine, ModelError, Pair};
 use mvn_shared::{List, Mem, Shared, Text};
 use row_models::{field, machine, pairs, project, push_texts};
 use std::alloc::Global;
 
+fn shared(alloc: Global, model: RawModel) -> Result<Shared<RawModel>, ModelError> {
+    Ok(Shared::new(alloc, model)?)
+}
+
+// The POM of a folder with what its expressions come to on a machine.
+fn filled_in(
+    alloc: Global,
+    raw: &RawModel,
+    basedir: &Text,
+    machine: &Machine,
+    defines: &[Pair],
+) -> Result<Shared<RawModel>, ModelError> {
+    let model = fill(alloc, raw, Some(basedir), machine, defines)?;
+    shared(alloc, model)
+}
+
+// The same of the folder `/w/app`.
+fn filled_on(
+    alloc: Global,
+    raw: &RawModel,
+    machine: &Machine,
+    defines: &[Pair],
+) -> Result<Shared<RawModel>, ModelError> {
+    let basedir = Text::from_str(alloc, "/w/app")?;
+    filled_in(alloc, raw, &basedir, machine, defines)
+}
+
 // The POM of the folder `/w/app` with what its expressions come to.
 fn filled(alloc: Global, raw: &RawModel, defines: &[Pair]) -> Result<Shared<RawModel>, ModelError> {
     let machine = machine(alloc)?;
-    let basedir = Text::from_str(alloc, "/w/app")?;
-    let model = fill(alloc, raw, Some(&basedir), &machine, defines)?;
-    Ok(Shared::new(alloc, model)?)
+    filled_on(alloc, raw, &machine, defines)
 }
 
 // The packaging and the modules.
@@ -27,11 +52,16 @@ fn told_filled(alloc: Global, raw: &RawModel, defines: &[Pair]) -> Result<String
     Ok(shown(alloc, &model)?)
 }
 
+// The same with the properties of a field.
+fn told_with(alloc: Global, raw: &RawModel, field: &str) -> Result<String, ModelError> {
+    let defines = pairs(alloc, field)?;
+    told_filled(alloc, raw, defines.as_slice())
+}
+
 /// The packaging of a POM and its modules, filled with these properties of the command line too.
 pub(crate) fn told(alloc: Global, fields: &[&str]) -> Result<String, ModelError> {
     let raw = project(alloc, field(fields, 0))?;
-    let defines = pairs(alloc, field(fields, 1))?;
-    told_filled(alloc, &raw, defines.as_slice())
+    told_with(alloc, &raw, field(fields, 1))
 }
 
 // The property of a number, which names the one before it twice.
@@ -48,15 +78,22 @@ fn base(alloc: Global, value: &str) -> Mem<Pair> {
     Ok(Pair { name, value })
 }
 
+fn push_twice(alloc: Global, list: &mut List<Pair>, number: u32, before: u32) -> Mem<()> {
+    list.push(twice(alloc, number, before)?)
+}
+
+fn push_doubled(alloc: Global, list: &mut List<Pair>, count: u32, first: &str) -> Mem<()> {
+    list.push(base(alloc, first)?)?;
+    for before in 0..count.saturating_sub(1) {
+        push_twice(alloc, list, before + 1, before)?;
+    }
+    Ok(())
+}
+
 // So many properties from p0 on, which is this text; each further one names the one before it twice.
 fn doubled(alloc: Global, count: u32, first: &str) -> Mem<List<Pair>> {
-    let first = base(alloc, first)?;
     let mut list = List::new(alloc);
-    list.push(first)?;
-    for before in 0..count.saturating_sub(1) {
-        let pair = twice(alloc, before + 1, before)?;
-        list.push(pair)?;
-    }
+    push_doubled(alloc, &mut list, count, first)?;
     Ok(list)
 }
 
@@ -72,10 +109,20 @@ fn told_length(alloc: Global, raw: &RawModel, defines: &[Pair]) -> Result<String
     Ok(length(alloc, &model)?)
 }
 
+// The same with so many properties, each of which names the one before it twice.
+fn told_with_doubled(
+    alloc: Global,
+    raw: &RawModel,
+    count: u32,
+    first: &str,
+) -> Result<String, ModelError> {
+    let defines = doubled(alloc, count, first)?;
+    told_length(alloc, raw, defines.as_slice())
+}
+
 /// The length of a POM's packaging, filled with so many properties of the command line, each of which names the one before it twice.
 pub(crate) fn told_doubled(alloc: Global, fields: &[&str]) -> Result<String, ModelError> {
     let raw = project(alloc, field(fields, 0))?;
     let count = field(fields, 1).parse::<u32>().unwrap_or(0);
-    let defines = doubled(alloc, count, field(fields, 2))?;
-    told_length(alloc, &raw, defines.as_slice())
+    told_with_doubled(alloc, &raw, count, field(fields, 2))
 }

@@ -35,11 +35,15 @@ fn push_installs(shown: &mut String, installs: bool) -> Mem<()> {
     Ok(())
 }
 
+fn push_list(shown: &mut String, list: &GoalList) -> Mem<()> {
+    push_calls(shown, list.calls.as_slice())?;
+    push_unbound(shown, list.unbound.as_slice())?;
+    push_installs(shown, list.installs)
+}
+
 /// The goals that run, those that no phase is known for, and whether installing is reached.
 pub(crate) fn goals_text(alloc: Global, list: &GoalList) -> Mem<String> {
     let mut shown = String::new(alloc);
-    push_calls(&mut shown, list.calls.as_slice())?;
-    push_unbound(&mut shown, list.unbound.as_slice())?;
-    push_installs(&mut shown, list.installs)?;
+    push_list(&mut shown, list)?;
     Ok(shown)
 }

@@ -22,11 +22,15 @@ fn injected(alloc: Global, raw: &RawModel, places: &[usize]) -> Mem<Shared<RawMo
     Shared::new(alloc, model)
 }
 
+fn push_both(shown: &mut String, model: &RawModel) -> Mem<()> {
+    push_base(shown, &model.base)?;
+    push_build_base(shown, " managed_plugin[", &model.build.base)
+}
+
 // What a POM and its profiles both state.
 fn shown(alloc: Global, model: &RawModel) -> Mem<String> {
     let mut shown = String::new(alloc);
-    push_base(&mut shown, &model.base)?;
-    push_build_base(&mut shown, " managed_plugin[", &model.build.base)?;
+    push_both(&mut shown, model)?;
     Ok(shown)
 }
 

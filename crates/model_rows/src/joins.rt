@@ -28,11 +28,15 @@ fn root(alloc: Global) -> Mem<Shared<RawModel>> {
     Shared::new(alloc, root)
 }
 
+fn built_over(alloc: Global, child: &RawModel, parent: &RawModel) -> Mem<String> {
+    let model = inherited(alloc, child, parent)?;
+    build_text(alloc, &model.build)
+}
+
 // How a module is built whose POM builds on no other.
 fn over_super(alloc: Global, child: &RawModel) -> Mem<String> {
     let root = root(alloc)?;
-    let model = inherited(alloc, child, &root)?;
-    build_text(alloc, &model.build)
+    built_over(alloc, child, &root)
 }
 
 // Two plugins merged.
@@ -108,11 +112,20 @@ fn joined(alloc: Global, kind: &str, child: &RawModel, parent: &RawModel) -> Mem
     }
 }
 
+fn told_of_child(
+    alloc: Global,
+    kind: &str,
+    child: &RawModel,
+    parent: &str,
+) -> Result<String, ModelError> {
+    let parent = behind(alloc, parent)?;
+    Ok(joined(alloc, kind, child, &parent)?)
+}
+
 /// What becomes of a child's POM and its parent's.
 pub(crate) fn told(alloc: Global, kind: &str, fields: &[&str]) -> Result<String, ModelError> {
     let child = behind(alloc, field(fields, 0))?;
-    let parent = behind(alloc, field(fields, 1))?;
-    Ok(joined(alloc, kind, &child, &parent)?)
+    told_of_child(alloc, kind, &child, field(fields, 1))
 }
 
 /// How a module is built whose POM builds on no other.

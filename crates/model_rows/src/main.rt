@@ -82,23 +82,32 @@ fn told(alloc: Global, kind: &str, row: &str) -> Result<String, ModelError> {
     }
 }
 
+fn print_trimmed(rt: &HostRuntime, text: &str) -> anyhow::Result<()> {
+    let text = text.trim();
+    println!(rt; "{text}")?;
+    Ok(())
+}
+
 fn print_told(rt: &HostRuntime, line: &str) -> anyhow::Result<()> {
     let (kind, row) = line.split_once(' ').unwrap_or((line, ""));
     let told = told(rt.alloc(), kind, row);
     let shown = answer(rt.alloc(), told)?;
-    let shown = shown.as_str().trim();
-    println!(rt; "{shown}")?;
-    Ok(())
+    print_trimmed(rt, shown.as_str())
+}
+
+// What is told of a line, or the line itself.
+fn print_line(rt: &HostRuntime, line: &str) -> anyhow::Result<()> {
+    if line.starts_with('#') {
+        println!(rt; "{line}")?;
+        return Ok(());
+    }
+    print_told(rt, line)
 }
 
 fn main(rt: HostRuntime) -> anyhow::Result<()> {
     for line in rt.lines(rt.alloc()) {
         let line = line?;
-        if line.as_str().starts_with('#') {
-            println!(rt; "{line}")?;
-        } else {
-            print_told(&rt, line.as_str())?;
-        }
+        print_line(&rt, line.as_str())?;
     }
     Ok(())
 }

@@ -12,15 +12,23 @@ fn empty(alloc: Global, path: &Text) -> Mem<SourceFile> {
     Ok(SourceFile { path, bytes })
 }
 
+fn push_files(alloc: Global, files: &mut List<SourceFile>, paths: &[Text]) -> Mem<()> {
+    for path in paths {
+        files.push(empty(alloc, path)?)?;
+    }
+    Ok(())
+}
+
+fn files_at(alloc: Global, paths: &[Text]) -> Mem<List<SourceFile>> {
+    let mut files = List::new(alloc);
+    push_files(alloc, &mut files, paths)?;
+    Ok(files)
+}
+
 // The files at these paths.
 fn files(alloc: Global, paths: &str) -> Mem<List<SourceFile>> {
     let paths = words(alloc, paths)?;
-    let mut files = List::new(alloc);
-    for path in paths.as_slice() {
-        let file = empty(alloc, path)?;
-        files.push(file)?;
-    }
-    Ok(files)
+    files_at(alloc, paths.as_slice())
 }
 
 // The numbers of the calls that fail.

@@ -42,6 +42,12 @@ pub(crate) fn needs_text(alloc: Global, needs: &List<Shared<Dependency>>) -> Mem
     Ok(shown)
 }
 
+fn push_both_properties(shown: &mut String, joined: &List<Pair>, settled: &List<Pair>) -> Mem<()> {
+    push_pairs(shown, joined)?;
+    shown.push_str(" settled")?;
+    push_pairs(shown, settled)
+}
+
 /// Properties, and the same settled.
 pub(crate) fn both_properties(
     alloc: Global,
@@ -49,10 +55,18 @@ pub(crate) fn both_properties(
     settled: &List<Pair>,
 ) -> Mem<String> {
     let mut shown = String::new(alloc);
-    push_pairs(&mut shown, joined)?;
-    shown.push_str(" settled")?;
-    push_pairs(&mut shown, settled)?;
+    push_both_properties(&mut shown, joined, settled)?;
     Ok(shown)
+}
+
+fn push_both_needs(
+    shown: &mut String,
+    joined: &List<Shared<Dependency>>,
+    settled: &List<Shared<Dependency>>,
+) -> Mem<()> {
+    push_dependencies(shown, " needs[", joined)?;
+    shown.push_str(" settled")?;
+    push_dependencies(shown, " needs[", settled)
 }
 
 /// Dependencies, and the same settled.
@@ -62,8 +76,6 @@ pub(crate) fn both_needs(
     settled: &List<Shared<Dependency>>,
 ) -> Mem<String> {
     let mut shown = String::new(alloc);
-    push_dependencies(&mut shown, " needs[", joined)?;
-    shown.push_str(" settled")?;
-    push_dependencies(&mut shown, " needs[", settled)?;
+    push_both_needs(&mut shown, joined, settled)?;
     Ok(shown)
 }

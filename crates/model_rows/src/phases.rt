@@ -3,8 +3,8 @@ use crate::goal_lists::goals_text;
 use crate::parts::plugins_text;
 use keyed_lists::copies;
 use lifecycle::{bind, bindings, goals, phase_of};
-use model_types::{Build, BuildBase, Coordinates, Model, Plugin, RawModel};
-use mvn_base::{Gav, ModelError, Phase};
+use model_types::{Build, BuildBase, Coordinates, Model, ModelBase, Plugin, RawModel};
+use mvn_base::{Gav, ModelError, Phase, PomId};
 use mvn_shared::{List, Mem, Shared, Text};
 use row_models::{behind, field, word};
 use std::alloc::Global;
@@ -16,10 +16,14 @@ fn shown_bindings(alloc: Global, bound: &Option<List<Shared<Plugin>>>) -> Mem<St
     }
 }
 
+fn bound_to(alloc: Global, packaging: &Text) -> Mem<String> {
+    let bound = bindings(alloc, packaging)?;
+    shown_bindings(alloc, &bound)
+}
+
 fn bound_by(alloc: Global, packaging: &str) -> Mem<String> {
     let packaging = Text::from_str(alloc, packaging)?;
-    let bound = bindings(alloc, &packaging)?;
-    shown_bindings(alloc, &bound)
+    bound_to(alloc, &packaging)
 }
 
 /// The plugins that a packaging binds.
@@ -84,13 +88,28 @@ fn gav(alloc: Global, own: &Coordinates) -> Mem<Shared<Gav>> {
     Shared::new(alloc, gav)
 }
 
-// What holds for a module of this build and no parent.
-fn model(alloc: Global, raw: &RawModel, build: &Shared<Build>) -> Mem<Model> {
-    let packaging = raw.coordinates.packaging.clone()?;
-    let gav = gav(alloc, &raw.coordinates)?;
+// A packaging and coordinates.
+fn packed(alloc: Global, own: &Coordinates) -> Mem<(Text, Shared<Gav>)> {
+    let packaging = own.packaging.clone()?;
+    let gav = gav(alloc, own)?;
+    Ok((packaging, gav))
+}
+
+// What a model shares with a POM, and a build.
+fn shared(
+    raw: &RawModel,
+    build: &Shared<Build>,
+) -> Mem<(Shared<PomId>, Shared<ModelBase>, Shared<Build>)> {
     let pom = raw.pom.share()?;
     let base = raw.base.share()?;
     let build = build.share()?;
+    Ok((pom, base, build))
+}
+
+// What holds for a module of this build and no parent.
+fn model(alloc: Global, raw: &RawModel, build: &Shared<Build>) -> Mem<Model> {
+    let (packaging, gav) = packed(alloc, &raw.coordinates)?;
+    let (pom, base, build) = shared(raw, build)?;
     Ok(Model {
         pom,
         gav,
@@ -113,10 +132,14 @@ fn bound_model(alloc: Global, raw: &RawModel) -> Mem<Model> {
     model(alloc, raw, &build)
 }
 
+fn listed_of(alloc: Global, model: &Model, phase: Phase) -> Mem<String> {
+    let list = goals(alloc, model, phase)?;
+    goals_text(alloc, &list)
+}
+
 fn listed(alloc: Global, raw: &RawModel, phase: Phase) -> Mem<String> {
     let model = bound_model(alloc, raw)?;
-    let list = goals(alloc, &model, phase)?;
-    goals_text(alloc, &list)
+    listed_of(alloc, &model, phase)
 }
 
 fn told_of_phase(alloc: Global, raw: &RawModel, phase: Option<Phase>) -> Mem<String> {

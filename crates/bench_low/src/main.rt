@@ -30,6 +30,9 @@ mod versions;
 
 use modules::Graph;
 use std::alloc::Global;
+use std::sync::Wait;
+use std::thread::Threads;
+use std::time::{Clock, CpuClock};
 use versions::Versions;
 
 // What a part measures.
@@ -69,14 +72,22 @@ fn begun(alloc: Global, kind: Kind) -> Part {
     }
 }
 
-// One line more of a part, but one about turns.
-fn read(rt: &HostRuntime, part: &mut Part, line: String) -> anyhow::Result<()> {
-    match part.kind {
-        Kind::Versions => part.versions.read(rt.alloc(), line),
-        Kind::Modules => part.graph.read(line.as_str()),
-        Kind::Events => events::print_row(rt, line.as_str()),
-        _ => Ok(()),
+// Whether a line is one of a part about turns.
+fn is_of_turns(part: &Part, line: &str) -> bool {
+    matches!(part.kind, Kind::Turns) && !line.starts_with("measure ")
+}
+
+// What is told of a line, if it is one of a part about turns.
+fn told_of_turns<R: Threads + Wait + Clock + CpuClock + Sync>(
+    rt: &R,
+    alloc: Global,
+    part: &Part,
+    line: &str,
+) -> anyhow::Result<String> {
+    if is_of_turns(part, line) {
+        return turns::told(rt, alloc, line);
     }
+    Ok(String::new(alloc))
 }
 
 // A text, where there was memory for it.
@@ -84,6 +95,16 @@ fn print_text(rt: &HostRuntime, text: anyhow::Result<String>) -> anyhow::Result<
     let text = text?;
     print!(rt; "{text}")?;
     Ok(())
+}
+
+// One line more of a part, where it isn't about turns.
+fn read(rt: &HostRuntime, part: &mut Part, line: &str) -> anyhow::Result<()> {
+    match part.kind {
+        Kind::Versions => part.versions.read(rt.alloc(), line),
+        Kind::Modules => part.graph.read(line),
+        Kind::Events => events::print_row(rt, line),
+        Kind::Turns | Kind::Nothing => Ok(()),
+    }
 }
 
 // The end of a part.
@@ -95,18 +116,38 @@ fn end(rt: &HostRuntime, part: &Part) -> anyhow::Result<()> {
     }
 }
 
+// The end of a part, and the beginning of the next.
+fn begin(rt: &HostRuntime, part: &mut Part, kind: Kind) -> anyhow::Result<()> {
+    end(rt, part)?;
+    *part = begun(rt.alloc(), kind);
+    Ok(())
+}
+
+// One line more: the first of a part, or a further one.
+fn take(rt: &HostRuntime, part: &mut Part, line: &str) -> anyhow::Result<()> {
+    if line.starts_with("measure ") {
+        return begin(rt, part, kind_of(line));
+    }
+    read(rt, part, line)
+}
+
+// The same, and what was told of the line.
+fn take_told(
+    rt: &HostRuntime,
+    part: &mut Part,
+    line: &str,
+    told: anyhow::Result<String>,
+) -> anyhow::Result<()> {
+    print_text(rt, told)?;
+    take(rt, part, line)
+}
+
 fn main(rt: HostRuntime) -> anyhow::Result<()> {
     let mut part = begun(rt.alloc(), Kind::Nothing);
     for line in rt.lines(rt.alloc()) {
         let line = line?;
-        if line.as_str().starts_with("measure ") {
-            end(&rt, &part)?;
-            part = begun(rt.alloc(), kind_of(line.as_str()));
-        } else if matches!(part.kind, Kind::Turns) {
-            print_text(&rt, turns::told(&rt, rt.alloc(), line.as_str()))?;
-        } else {
-            read(&rt, &mut part, line)?;
-        }
+        let told = told_of_turns(&rt, rt.alloc(), &part, line.as_str());
+        take_told(&rt, &mut part, line.as_str(), told)?;
     }
     end(&rt, &part)
 }

@@ -1,7 +1,30 @@
 // Which versions a requirement admits.
 use mvn_shared::Text;
-use std::alloc::Global;
+use std::alloc::{AllocError, Global};
 use version_order::{Requirement, Version};
+
+// Adds the versions that are admitted.
+fn push_admitted<'a>(
+    admitted: &mut Vec<&'a Version>,
+    requirement: &Requirement,
+    versions: &'a [Version],
+) -> Result<(), AllocError> {
+    for version in versions {
+        if requirement.admits(version) {
+            admitted.push(version)?;
+        }
+    }
+    Ok(())
+}
+
+fn print_in_order(rt: &HostRuntime, versions: &mut Vec<&Version>) -> anyhow::Result<()> {
+    versions.sort()?;
+    for version in versions.as_slice() {
+        let version = *version;
+        println!(rt; "{version}")?;
+    }
+    Ok(())
+}
 
 // The versions that are admitted, in ascending order.
 fn print_admitted(
@@ -10,16 +33,8 @@ fn print_admitted(
     versions: &[Version],
 ) -> anyhow::Result<()> {
     let mut admitted = Vec::new(rt.alloc());
-    for version in versions {
-        if requirement.admits(version) {
-            admitted.push(version)?;
-        }
-    }
-    admitted.sort()?;
-    for version in admitted {
-        println!(rt; "{version}")?;
-    }
-    Ok(())
+    push_admitted(&mut admitted, requirement, versions)?;
+    print_in_order(rt, &mut admitted)
 }
 
 // The highest of them.
@@ -55,12 +70,23 @@ impl Versions {
     }
 
     /// One line more: the requirement, or a version.
-    pub(crate) fn read(&mut self, alloc: Global, line: String) -> anyhow::Result<()> {
-        let text = Text::of(line);
-        match self.requirement {
-            None => self.requirement = Some(Requirement::parse(alloc, &text)?),
-            Some(_) => self.versions.push(Version::parse(alloc, &text)?)?,
+    pub(crate) fn read(&mut self, alloc: Global, line: &str) -> anyhow::Result<()> {
+        let text = Text::from_str(alloc, line)?;
+        if self.requirement.is_some() {
+            return self.read_version(alloc, &text);
         }
+        self.read_requirement(alloc, &text)
+    }
+
+    // The requirement.
+    fn read_requirement(&mut self, alloc: Global, text: &Text) -> anyhow::Result<()> {
+        self.requirement = Some(Requirement::parse(alloc, text)?);
+        Ok(())
+    }
+
+    // A version more.
+    fn read_version(&mut self, alloc: Global, text: &Text) -> anyhow::Result<()> {
+        self.versions.push(Version::parse(alloc, text)?)?;
         Ok(())
     }
 

@@ -85,18 +85,28 @@ fn one_more(core: &mut Core, draws: &mut Draws) -> Option<u32> {
     Some(sum)
 }
 
+// A sum over all answers on a walk.
+fn walked(core: &mut Core, draws: &mut Draws) -> u32 {
+    let mut total = 0u32;
+    for _event in 0..80u32 {
+        match one_more(core, draws) {
+            Some(sum) => total = total.wrapping_mul(31).wrapping_add(sum),
+            None => return total,
+        }
+    }
+    total
+}
+
+fn small_core(alloc: Global, draws: &mut Draws) -> Mem<Core> {
+    let outline = small(alloc, draws)?;
+    begun(alloc, outline)
+}
+
 /// A sum over all answers on a walk through a small build, and the number of its events.
 pub(crate) fn walk(alloc: Global, seed: u32) -> Mem<(u32, usize)> {
     let mut draws = Draws { state: seed };
-    let outline = small(alloc, &mut draws)?;
-    let mut core = begun(alloc, outline)?;
-    let mut total = 0u32;
-    for _event in 0..80u32 {
-        match one_more(&mut core, &mut draws) {
-            Some(sum) => total = total.wrapping_mul(31).wrapping_add(sum),
-            None => break,
-        }
-    }
+    let mut core = small_core(alloc, &mut draws)?;
+    let total = walked(&mut core, &mut draws);
     Ok((total, core.events().len()))
 }
 
@@ -121,15 +131,25 @@ fn one_module(core: &mut Core, taken: u32, module: u32) -> u32 {
     count(core, taken, Event::End { worker, ending })
 }
 
+// How many events of so many modules were taken.
+fn all_modules(core: &mut Core, modules: u32) -> u32 {
+    let mut taken = 0u32;
+    for number in 0..modules {
+        taken = one_module(core, taken, number);
+    }
+    taken
+}
+
+fn wide_core(alloc: Global, modules: u32) -> Mem<Core> {
+    let outline = wide(alloc, modules)?;
+    begun(alloc, outline)
+}
+
 /// How many of so many events of a long build were taken.
 pub(crate) fn long(alloc: Global, count: u32) -> Mem<u32> {
     let modules = count / 5;
-    let mut core = begun(alloc, wide(alloc, modules)?)?;
-    let mut taken = 0u32;
-    for number in 0..modules {
-        taken = one_module(&mut core, taken, number);
-    }
-    Ok(taken)
+    let mut core = wide_core(alloc, modules)?;
+    Ok(all_modules(&mut core, modules))
 }
 
 // A module that needs nothing but its upstreams begins and ends.
@@ -142,19 +162,27 @@ fn through(core: &mut Core, module: u32) -> bool {
     begun.is_ok() && ended.is_ok() && core.skippable().is_none()
 }
 
-/// How many of so many modules, each with the four before it as upstreams, were built, each as the first that may begin.
-pub(crate) fn front(alloc: Global, count: u32) -> Mem<u32> {
-    let mut core = begun(alloc, linked(alloc, count)?)?;
+// How many of so many modules were built, each as the first that may begin.
+fn all_ready(core: &mut Core, count: u32) -> u32 {
     let mut built = 0u32;
     for _module in 0..count {
-        match core.ready() {
-            Some(number) => {
-                if through(&mut core, number) {
-                    built = built.wrapping_add(1);
-                }
-            }
-            None => return Ok(built),
+        let Some(number) = core.ready() else {
+            return built;
+        };
+        if through(core, number) {
+            built = built.wrapping_add(1);
         }
     }
-    Ok(built)
+    built
+}
+
+fn linked_core(alloc: Global, count: u32) -> Mem<Core> {
+    let outline = linked(alloc, count)?;
+    begun(alloc, outline)
+}
+
+/// How many of so many modules, each with the four before it as upstreams, were built, each as the first that may begin.
+pub(crate) fn front(alloc: Global, count: u32) -> Mem<u32> {
+    let mut core = linked_core(alloc, count)?;
+    Ok(all_ready(&mut core, count))
 }

@@ -1,7 +1,7 @@
 // A build worked out by hand: three modules, of which the second builds on the first. The first needs the file 0 under the name 0 and is
 // installed as the files 1 and 2 under the name 1; the second has nothing but its POM, the file 3, under the name 2; the third has nothing.
 use crate::events::answers::{TOLD, event_at, number_of, told_at};
-use crate::events::builds::bare;
+use crate::events::builds::{bare, of_nothing, push_absent};
 use crate::events::walks::begun;
 use build_core::Event;
 use event_core::Core;
@@ -54,6 +54,18 @@ fn push_own(module: &mut ModuleOutline, own: &[u32], name: u32) -> Mem<()> {
     Ok(())
 }
 
+fn put_lists(
+    module: &mut ModuleOutline,
+    upstream: &[u32],
+    needs: &[u32],
+    own: &[u32],
+    own_name: u32,
+) -> Mem<()> {
+    push_all(&mut module.upstream, upstream)?;
+    push_needs(module, needs)?;
+    push_own(module, own, own_name)
+}
+
 fn module(
     alloc: Global,
     upstream: &[u32],
@@ -62,37 +74,44 @@ fn module(
     own_name: u32,
 ) -> Mem<ModuleOutline> {
     let mut module = bare(alloc);
-    push_all(&mut module.upstream, upstream)?;
-    push_needs(&mut module, needs)?;
-    push_own(&mut module, own, own_name)?;
     module.needs_artifact = true;
+    put_lists(&mut module, upstream, needs, own, own_name)?;
     Ok(module)
 }
 
-fn modules(alloc: Global) -> Mem<List<ModuleOutline>> {
-    let mut list = List::new(alloc);
-    list.push(module(alloc, &[], &[0], &[1, 2], 1)?)?;
-    list.push(module(alloc, &[0], &[], &[3], 2)?)?;
-    list.push(module(alloc, &[], &[], &[], 0)?)?;
-    Ok(list)
+fn push_module(
+    alloc: Global,
+    list: &mut List<ModuleOutline>,
+    upstream: &[u32],
+    needs: &[u32],
+    own: &[u32],
+    own_name: u32,
+) -> Mem<()> {
+    list.push(module(alloc, upstream, needs, own, own_name)?)
+}
+
+fn push_modules(alloc: Global, list: &mut List<ModuleOutline>) -> Mem<()> {
+    push_module(alloc, list, &[], &[0], &[1, 2], 1)?;
+    push_module(alloc, list, &[0], &[], &[3], 2)?;
+    push_module(alloc, list, &[], &[], &[], 0)
+}
+
+fn put_modules(alloc: Global, outline: &mut Outline) -> Mem<()> {
+    push_modules(alloc, &mut outline.modules)?;
+    push_absent(&mut outline.present, 4)
+}
+
+fn outline(alloc: Global) -> Mem<Outline> {
+    let mut outline = of_nothing(alloc, 3);
+    outline.workers = 2;
+    outline.events = 32;
+    put_modules(alloc, &mut outline)?;
+    Ok(outline)
 }
 
 fn core(alloc: Global) -> Mem<Core> {
-    let modules = modules(alloc)?;
-    let mut present = List::new(alloc);
-    for _file in 0..4u32 {
-        present.push(false)?;
-    }
-    begun(
-        alloc,
-        Outline {
-            modules,
-            names: 3,
-            present,
-            workers: 2,
-            events: 32,
-        },
-    )
+    let outline = outline(alloc)?;
+    begun(alloc, outline)
 }
 
 // The number of a kind of events: see `event_at`.
@@ -120,15 +139,27 @@ fn push_number(alloc: Global, shown: &mut String, number: u32) -> Mem<()> {
     Ok(())
 }
 
-/// What is answered to events of the build, one after another: 0 where one is taken, a number for the cause where not.
-pub(crate) fn push_answers(alloc: Global, shown: &mut String, events: &str) -> Mem<()> {
-    shown.push_str("answers")?;
-    let mut core = core(alloc)?;
+// What is answered to events.
+fn push_each(alloc: Global, shown: &mut String, core: &mut Core, events: &str) -> Mem<()> {
     for event in events.split_whitespace() {
         let answer = number_of(core.step(event_of(event)));
         push_number(alloc, shown, answer)?;
     }
     Ok(())
+}
+
+/// What is answered to events of the build, one after another: 0 where one is taken, a number for the cause where not.
+pub(crate) fn push_answers(alloc: Global, shown: &mut String, events: &str) -> Mem<()> {
+    shown.push_str("answers")?;
+    let mut core = core(alloc)?;
+    push_each(alloc, shown, &mut core, events)
+}
+
+// Asks for events, whatever is answered.
+fn ask_for(core: &mut Core, events: &str) {
+    for event in events.split_whitespace() {
+        let _answer = core.step(event_of(event));
+    }
 }
 
 // Where a build stands, and which of four files it has.
@@ -146,8 +177,6 @@ fn push_standing(alloc: Global, shown: &mut String, core: &Core) -> Mem<()> {
 /// Where the build stands behind events.
 pub(crate) fn push_stands(alloc: Global, shown: &mut String, events: &str) -> Mem<()> {
     let mut core = core(alloc)?;
-    for event in events.split_whitespace() {
-        let _answer = core.step(event_of(event));
-    }
+    ask_for(&mut core, events);
     push_standing(alloc, shown, &core)
 }

@@ -29,27 +29,30 @@ pub(crate) fn written(alloc: Global, fields: &[Bytes]) -> Mem<Bytes> {
     }
 }
 
+fn spelled_failure(alloc: Global, text: &Text) -> Mem<Bytes> {
+    let mut shown = Bytes::from_slice(alloc, "failed ".as_bytes())?;
+    shown.extend_from_slice(text.as_bytes())?;
+    Ok(shown)
+}
+
+fn spelled_length(alloc: Global, len: usize) -> Mem<Bytes> {
+    let text = format!(in alloc; "produced {len}")?;
+    Bytes::from_slice(alloc, text.as_bytes())
+}
+
 // An answer in a word and its text, or how many bytes it has.
 fn shown(alloc: Global, answer: &GoalAnswer) -> Mem<Bytes> {
     match answer {
         GoalAnswer::Done => Bytes::from_slice(alloc, "done".as_bytes()),
-        GoalAnswer::Failed(text) => {
-            let mut shown = Bytes::from_slice(alloc, "failed ".as_bytes())?;
-            shown.extend_from_slice(text.as_bytes())?;
-            Ok(shown)
-        }
-        GoalAnswer::Produced(output) => {
-            let len = output.len();
-            let text = Text::of(format!(in alloc; "produced {len}")?);
-            Bytes::from_slice(alloc, text.as_bytes())
-        }
+        GoalAnswer::Failed(text) => spelled_failure(alloc, text),
+        GoalAnswer::Produced(output) => spelled_length(alloc, output.len()),
     }
 }
 
 // What bytes are read as.
 fn told(alloc: Global, bytes: &[u8]) -> Mem<Bytes> {
-    match read_answer(alloc, bytes)? {
-        Some(answer) => shown(alloc, &answer),
+    match &read_answer(alloc, bytes)? {
+        Some(answer) => shown(alloc, answer),
         None => Bytes::from_slice(alloc, "none".as_bytes()),
     }
 }
@@ -62,12 +65,23 @@ pub(crate) fn read(alloc: Global, fields: &[Bytes]) -> Mem<Bytes> {
     }
 }
 
-/// The same of an answer with so many spaces behind it.
-pub(crate) fn spaced(alloc: Global, count: &str) -> Mem<Bytes> {
-    let mut bytes = Vec::from_slice(alloc, "{\"answer\":\"done\"}".as_bytes())?;
-    for _space in 0..count.parse::<u32>().unwrap_or(0) {
+fn push_spaces(bytes: &mut Vec<u8>, count: u32) -> Mem<()> {
+    for _space in 0..count {
         bytes.push(b' ')?;
     }
+    Ok(())
+}
+
+// An answer with so many spaces behind it.
+fn spaced_answer(alloc: Global, spaces: u32) -> Mem<Vec<u8>> {
+    let mut bytes = Vec::from_slice(alloc, "{\"answer\":\"done\"}".as_bytes())?;
+    push_spaces(&mut bytes, spaces)?;
     bytes.push(b'\n')?;
+    Ok(bytes)
+}
+
+/// The same of an answer with so many spaces behind it.
+pub(crate) fn spaced(alloc: Global, count: &str) -> Mem<Bytes> {
+    let bytes = spaced_answer(alloc, count.parse::<u32>().unwrap_or(0))?;
     told(alloc, bytes.as_slice())
 }

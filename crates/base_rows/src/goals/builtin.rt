@@ -4,14 +4,14 @@ ghost use Rattle.goal_types.specs.Goals.{HasOwnSlots};
 
 use crate::coordinates::gav;
 use gate_builtin::Builtin;
-use goal_types::{GoalAnswer, GoalCall, GoalRequest, Need, OwnBytes, Slot, SourceFile};
-use mvn_base::{Phase, Setting};
+use goal_types::{GoalAnswer, GoalCall, GoalRequest, Need, Slot, SourceFile};
+use mvn_base::Phase;
 use mvn_outside::{DeviceFault, Gate};
 use mvn_shared::{Bytes, List, Mem, Text};
 use std::alloc::Global;
 
-// The goal surefire:test with these settings.
-fn goal_call(alloc: Global, slot: Slot, configuration: List<Setting>) -> Mem<GoalCall> {
+// The goal surefire:test without settings.
+fn goal_call(alloc: Global, slot: Slot) -> Mem<GoalCall> {
     let group = Text::from_str(alloc, "org.apache.maven.plugins")?;
     let artifact = Text::from_str(alloc, "maven-surefire-plugin")?;
     let goal = Text::from_str(alloc, "test")?;
@@ -23,30 +23,23 @@ fn goal_call(alloc: Global, slot: Slot, configuration: List<Setting>) -> Mem<Goa
         goal,
         execution,
         phase: Phase::Test,
-        configuration,
+        configuration: List::new(alloc),
         slot,
         need: Need::Test,
     })
 }
 
-/// A request of surefire:test for demo:app:1.0 with these settings, sources and outputs.
-pub(crate) fn request(
-    alloc: Global,
-    slot: Slot,
-    settings: List<Setting>,
-    sources: List<SourceFile>,
-    own: List<OwnBytes>,
-) -> Mem<GoalRequest>
-    requires { HasOwnSlots own }
+/// A request of surefire:test for demo:app:1.0 without settings, sources and outputs.
+pub(crate) fn request(alloc: Global, slot: Slot) -> Mem<GoalRequest>
     ensures { IfOk result (λ request. HasOwnSlots request.own) }
 {
     let module = gav(alloc, "demo", "app", "1.0")?;
-    let call = goal_call(alloc, slot, settings)?;
+    let call = goal_call(alloc, slot)?;
     Ok(GoalRequest {
         module,
         call,
-        sources,
-        own,
+        sources: List::new(alloc),
+        own: List::new(alloc),
         classpath: List::new(alloc),
     })
 }
@@ -61,15 +54,14 @@ fn source(alloc: Global, path: &Bytes, bytes: &Bytes) -> Mem<SourceFile> {
     Ok(SourceFile { path, bytes })
 }
 
-// Sources, each a path and its bytes.
-fn sources(alloc: Global, fields: &[Bytes]) -> Mem<List<SourceFile>> {
-    let mut list = List::new(alloc);
+// Adds sources, each a path and its bytes.
+fn push_sources(alloc: Global, list: &mut List<SourceFile>, fields: &[Bytes]) -> Mem<()> {
     for pair in fields.chunks_exact(2) {
         if let [path, bytes] = pair {
             list.push(source(alloc, path, bytes)?)?;
         }
     }
-    Ok(list)
+    Ok(())
 }
 
 fn spelled(alloc: Global, word: &str, bytes: &[u8]) -> Mem<Bytes> {
@@ -100,10 +92,17 @@ fn called(alloc: Global, request: &GoalRequest) -> Mem<Bytes>
     told_of_answer(alloc, &gate.call(request))
 }
 
+// What is answered to a request with these sources besides.
+fn called_with(alloc: Global, request: &mut GoalRequest, fields: &[Bytes]) -> Mem<Bytes>
+    requires { HasOwnSlots request.old.own }
+{
+    push_sources(alloc, &mut request.sources, fields)?;
+    called(alloc, request)
+}
+
 fn answered(alloc: Global, slot: Slot, fields: &[Bytes]) -> Mem<Bytes> {
-    let sources = sources(alloc, fields)?;
-    let request = request(alloc, slot, List::new(alloc), sources, List::new(alloc))?;
-    called(alloc, &request)
+    let mut request = request(alloc, slot)?;
+    called_with(alloc, &mut request, fields)
 }
 
 /// What surefire:test answers for demo:app:1.0: `main` where it has an output, and sources, each a path and its bytes.

@@ -3,37 +3,42 @@ ghost use Rattle.std.specs.Prelude.{IfOk};
 ghost use Rattle.goal_types.specs.Goals.{HasOwnSlots};
 
 use crate::goals::builtin::request;
-use goal_types::{OwnBytes, Slot, SourceFile, request_bytes};
+use goal_types::{GoalRequest, OwnBytes, Slot, SourceFile, request_bytes};
 use mvn_base::Setting;
 use mvn_shared::{Bytes, List, Mem, Text};
 use std::alloc::Global;
 
-// A list of a setting.
-fn settings(alloc: Global, name: &str, text: &str, children: List<Setting>) -> Mem<List<Setting>> {
+// A setting without children.
+fn setting(alloc: Global, name: &str, text: &str) -> Mem<Setting> {
     let name = Text::from_str(alloc, name)?;
     let text = Text::from_str(alloc, text)?;
-    let mut settings = List::new(alloc);
-    settings.push(Setting {
+    Ok(Setting {
         name,
         text,
-        children,
-    })?;
-    Ok(settings)
+        children: List::new(alloc),
+    })
+}
+
+fn push_setting(alloc: Global, list: &mut List<Setting>, name: &str, text: &str) -> Mem<()> {
+    list.push(setting(alloc, name, text)?)
 }
 
 // A setting with a child.
-fn nested(alloc: Global) -> Mem<List<Setting>> {
-    let children = settings(alloc, "fork", "no \"fork\"", List::new(alloc))?;
-    settings(alloc, "config", "", children)
+fn nested(alloc: Global) -> Mem<Setting> {
+    let mut setting = setting(alloc, "config", "")?;
+    push_setting(alloc, &mut setting.children, "fork", "no \"fork\"")?;
+    Ok(setting)
 }
 
-// A source.
-fn sources(alloc: Global) -> Mem<List<SourceFile>> {
+fn push_nested(alloc: Global, list: &mut List<Setting>) -> Mem<()> {
+    list.push(nested(alloc)?)
+}
+
+// One more source.
+fn push_source(alloc: Global, list: &mut List<SourceFile>) -> Mem<()> {
     let path = Text::from_str(alloc, "src/A.java")?;
     let bytes = Bytes::from_slice(alloc, "class A {}\n".as_bytes())?;
-    let mut sources = List::new(alloc);
-    sources.push(SourceFile { path, bytes })?;
-    Ok(sources)
+    list.push(SourceFile { path, bytes })
 }
 
 // An output.
@@ -49,30 +54,30 @@ fn outputs(alloc: Global) -> Mem<List<OwnBytes>>
     Ok(own)
 }
 
-fn bytes_of(
-    alloc: Global,
-    settings: List<Setting>,
-    sources: List<SourceFile>,
-    own: List<OwnBytes>,
-) -> Mem<Bytes>
-    requires { HasOwnSlots own }
-{
-    let request = request(alloc, Slot::Nowhere, settings, sources, own)?;
-    request_bytes(alloc, &request)
+// The bytes of a request with an item more in each list but that of outputs, which has one then.
+fn filled_bytes(alloc: Global, request: &mut GoalRequest) -> Mem<Bytes> {
+    push_nested(alloc, &mut request.call.configuration)?;
+    push_source(alloc, &mut request.sources)?;
+    request.own = outputs(alloc)?;
+    request_bytes(alloc, request)
 }
 
 // The bytes of a request with an item in each list.
 fn full_bytes(alloc: Global) -> Mem<Bytes> {
-    let settings = nested(alloc)?;
-    let sources = sources(alloc)?;
-    let own = outputs(alloc)?;
-    bytes_of(alloc, settings, sources, own)
+    let mut request = request(alloc, Slot::Nowhere)?;
+    filled_bytes(alloc, &mut request)
+}
+
+// The bytes of a request without items.
+fn bare_bytes(alloc: Global) -> Mem<Bytes> {
+    let request = request(alloc, Slot::Nowhere)?;
+    request_bytes(alloc, &request)
 }
 
 /// The bytes of a request with an item in each list, or with none.
 pub(crate) fn told(alloc: Global, kind: &str) -> Mem<Bytes> {
     match kind {
         "full" => full_bytes(alloc),
-        _ => bytes_of(alloc, List::new(alloc), List::new(alloc), List::new(alloc)),
+        _ => bare_bytes(alloc),
     }
 }

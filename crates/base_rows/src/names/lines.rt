@@ -63,26 +63,40 @@ fn push_workers(alloc: Global, shown: &mut String, workers: u32) -> Mem<()> {
 }
 
 // The phase, and how many workers where there are more than one.
-fn head(alloc: Global, line: &CommandLine) -> Mem<String> {
-    let mut shown = word(alloc, line.phase.name())?;
-    push_workers(alloc, &mut shown, line.workers)?;
-    Ok(shown)
+fn push_head(alloc: Global, shown: &mut String, line: &CommandLine) -> Mem<()> {
+    shown.push_str(line.phase.name())?;
+    push_workers(alloc, shown, line.workers)
+}
+
+// Profiles, properties and projects, and where to begin.
+fn push_lists(alloc: Global, shown: &mut String, line: &CommandLine) -> Mem<()> {
+    push_texts(shown, " on:", line.choice.on.as_slice())?;
+    push_texts(shown, " off:", line.choice.off.as_slice())?;
+    push_pairs(shown, line.defines.as_slice())?;
+    push_words(alloc, shown, "pl", line.projects.as_slice())?;
+    match &line.from {
+        Some(word) => push_word(alloc, shown, "rf", word),
+        None => Ok(()),
+    }
+}
+
+fn push_flags(alloc: Global, shown: &mut String, line: &CommandLine) -> Mem<()> {
+    push_flag(shown, line.also_make, " am")?;
+    push_flag(shown, line.also_make_dependents, " amd")?;
+    push_flag(shown, line.full, " full")?;
+    push_generated(alloc, shown, line.generated)
+}
+
+fn push_line(alloc: Global, shown: &mut String, line: &CommandLine) -> Mem<()> {
+    push_head(alloc, shown, line)?;
+    push_lists(alloc, shown, line)?;
+    push_flags(alloc, shown, line)
 }
 
 // What a command line asks for.
 fn shown(alloc: Global, line: &CommandLine) -> Mem<String> {
-    let mut shown = head(alloc, line)?;
-    push_texts(&mut shown, " on:", line.choice.on.as_slice())?;
-    push_texts(&mut shown, " off:", line.choice.off.as_slice())?;
-    push_pairs(&mut shown, line.defines.as_slice())?;
-    push_words(alloc, &mut shown, "pl", line.projects.as_slice())?;
-    if let Some(word) = &line.from {
-        push_word(alloc, &mut shown, "rf", word)?;
-    }
-    push_flag(&mut shown, line.also_make, " am")?;
-    push_flag(&mut shown, line.also_make_dependents, " amd")?;
-    push_flag(&mut shown, line.full, " full")?;
-    push_generated(alloc, &mut shown, line.generated)?;
+    let mut shown = String::new(alloc);
+    push_line(alloc, &mut shown, line)?;
     Ok(shown)
 }
 

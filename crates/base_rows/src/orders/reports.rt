@@ -48,24 +48,32 @@ fn spelled_report(alloc: Global, rows: &[ReportRow]) -> Mem<String> {
     spelled(alloc, report.as_slice())
 }
 
-// A report of one row.
-fn shown(alloc: Global, row: ReportRow) -> Mem<String> {
-    let mut rows = List::new(alloc);
-    rows.push(row)?;
+fn row_of(gav: Gav, end: RowEnd, notes: List<Text>, full: Option<FullPart>) -> ReportRow {
+    ReportRow {
+        gav,
+        end,
+        notes,
+        full,
+    }
+}
+
+// The row of a module demo:a:1 that ended so.
+fn ended_row(alloc: Global, sections: &str) -> Mem<ReportRow> {
+    let gav = demo(alloc, "a")?;
+    let end = end(alloc, sections)?;
+    Ok(row_of(gav, end, List::new(alloc), None))
+}
+
+// The report of rows with that one besides.
+fn ended_report(alloc: Global, rows: &mut List<ReportRow>, sections: &str) -> Mem<String> {
+    rows.push(ended_row(alloc, sections)?)?;
     spelled_report(alloc, rows.as_slice())
 }
 
 /// The report of a module demo:a:1 that ended so.
 pub(crate) fn report_row(alloc: Global, sections: &str) -> Mem<String> {
-    let gav = demo(alloc, "a")?;
-    let end = end(alloc, sections)?;
-    let row = ReportRow {
-        gav,
-        end,
-        notes: List::new(alloc),
-        full: None,
-    };
-    shown(alloc, row)
+    let mut rows = List::new(alloc);
+    ended_report(alloc, &mut rows, sections)
 }
 
 // The name of a jar.
@@ -87,29 +95,38 @@ fn push_jar_named(alloc: Global, jars: &mut List<FileName>, name: &str) -> Mem<(
     push_jar(alloc, jars, &gav)
 }
 
-// The jars of demo:NAME:1 for these names.
-fn jars(alloc: Global, names: &str) -> Mem<List<FileName>> {
-    let mut jars = List::new(alloc);
+// Adds the jars of demo:NAME:1 for these names.
+fn push_jars(alloc: Global, jars: &mut List<FileName>, names: &str) -> Mem<()> {
     for name in names.split_whitespace() {
-        push_jar_named(alloc, &mut jars, name)?;
+        push_jar_named(alloc, jars, name)?;
     }
-    Ok(jars)
+    Ok(())
+}
+
+fn no_part(alloc: Global) -> FullPart {
+    FullPart {
+        model: Bytes::of(Vec::new(alloc)),
+        compile: List::new(alloc),
+        runtime: List::new(alloc),
+        test: List::new(alloc),
+    }
+}
+
+// Adds a model and the names of jars.
+fn put_part(alloc: Global, part: &mut FullPart, model: &str, sections: &str) -> Mem<()> {
+    let (compile, others) = split_section(sections);
+    let (runtime, test) = split_section(others);
+    part.model.extend_from_slice(model.as_bytes())?;
+    push_jars(alloc, &mut part.compile, compile)?;
+    push_jars(alloc, &mut part.runtime, runtime)?;
+    push_jars(alloc, &mut part.test, test)
 }
 
 // The part with a model and the names of jars.
 fn full_part(alloc: Global, model: &str, sections: &str) -> Mem<FullPart> {
-    let (compile, others) = split_section(sections);
-    let (runtime, test) = split_section(others);
-    let model = Bytes::from_slice(alloc, model.as_bytes())?;
-    let compile = jars(alloc, compile)?;
-    let runtime = jars(alloc, runtime)?;
-    let test = jars(alloc, test)?;
-    Ok(FullPart {
-        model,
-        compile,
-        runtime,
-        test,
-    })
+    let mut part = no_part(alloc);
+    put_part(alloc, &mut part, model, sections)?;
+    Ok(part)
 }
 
 fn notes(alloc: Global, note: &str) -> Mem<List<Text>> {
@@ -118,18 +135,29 @@ fn notes(alloc: Global, note: &str) -> Mem<List<Text>> {
     Ok(notes)
 }
 
+// The row of a built module demo:a:1 with a model, the names of its jars and a note.
+fn built_row(alloc: Global, model: &str, names: &str, note: &str) -> Mem<ReportRow> {
+    let notes = notes(alloc, note)?;
+    let gav = demo(alloc, "a")?;
+    let full = full_part(alloc, model, names)?;
+    Ok(row_of(gav, RowEnd::Built, notes, Some(full)))
+}
+
+// The report of rows with one besides, which has these sections and this note.
+fn built_report(
+    alloc: Global,
+    rows: &mut List<ReportRow>,
+    sections: &str,
+    note: &str,
+) -> Mem<String> {
+    let (model, names) = split_section(sections);
+    rows.push(built_row(alloc, model, names, note)?)?;
+    spelled_report(alloc, rows.as_slice())
+}
+
 /// The report of a built module demo:a:1 with a model, the names of its jars and a note.
 pub(crate) fn full_row(alloc: Global, sections: &str) -> Mem<String> {
     let (sections, note) = sections.rsplit_once('/').unwrap_or((sections, ""));
-    let (model, names) = split_section(sections);
-    let gav = demo(alloc, "a")?;
-    let notes = notes(alloc, note)?;
-    let full = full_part(alloc, model, names)?;
-    let row = ReportRow {
-        gav,
-        end: RowEnd::Built,
-        notes,
-        full: Some(full),
-    };
-    shown(alloc, row)
+    let mut rows = List::new(alloc);
+    built_report(alloc, &mut rows, sections, note)
 }

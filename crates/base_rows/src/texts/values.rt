@@ -20,13 +20,23 @@ fn push_part(shown: &mut String, part: &Part) -> Mem<()> {
     }
 }
 
+fn push_parts(shown: &mut String, parts: &[Part]) -> Mem<()> {
+    for part in parts {
+        push_part(shown, part)?;
+    }
+    Ok(())
+}
+
+fn shown_parts(alloc: Global, parts: &[Part]) -> Mem<String> {
+    let mut shown = String::new(alloc);
+    push_parts(&mut shown, parts)?;
+    Ok(shown)
+}
+
 // The parts of a text, an expression in angle brackets, each with a bar behind it.
 fn split(alloc: Global, text: &Text) -> Mem<String> {
-    let mut shown = String::new(alloc);
-    for part in parts(alloc, text)?.as_slice() {
-        push_part(&mut shown, part)?;
-    }
-    Ok(shown)
+    let parts = parts(alloc, text)?;
+    shown_parts(alloc, parts.as_slice())
 }
 
 fn pair(alloc: Global, name: &str, value: &str) -> Mem<Pair> {
@@ -35,14 +45,19 @@ fn pair(alloc: Global, name: &str, value: &str) -> Mem<Pair> {
     Ok(Pair { name, value })
 }
 
-// The values of texts that have an `=` between a name and its value.
-fn values(alloc: Global, texts: &[Text]) -> Mem<Values> {
-    let mut pairs = List::new(alloc);
+fn push_pairs(alloc: Global, pairs: &mut List<Pair>, texts: &[Text]) -> Mem<()> {
     for text in texts {
         if let Some((name, value)) = text.as_str().split_once('=') {
             pairs.push(pair(alloc, name, value)?)?;
         }
     }
+    Ok(())
+}
+
+// The values of texts that have an `=` between a name and its value.
+fn values(alloc: Global, texts: &[Text]) -> Mem<Values> {
+    let mut pairs = List::new(alloc);
+    push_pairs(alloc, &mut pairs, texts)?;
     Values::of(alloc, pairs.as_slice())
 }
 

@@ -15,11 +15,16 @@ fn mark(a: &Version, b: &Version) -> &'static str {
     }
 }
 
-fn versions(alloc: Global, texts: &[Text]) -> Mem<Vec<Version>> {
-    let mut versions = Vec::new(alloc);
+fn push_versions(alloc: Global, versions: &mut Vec<Version>, texts: &[Text]) -> Mem<()> {
     for text in texts {
         versions.push(Version::parse(alloc, text)?)?;
     }
+    Ok(())
+}
+
+fn versions(alloc: Global, texts: &[Text]) -> Mem<Vec<Version>> {
+    let mut versions = Vec::new(alloc);
+    push_versions(alloc, &mut versions, texts)?;
     Ok(versions)
 }
 
@@ -37,18 +42,27 @@ fn listed(alloc: Global, versions: &[Version]) -> Mem<String> {
     Ok(shown)
 }
 
+fn listed_in_order(alloc: Global, versions: &mut Vec<Version>) -> Mem<String> {
+    versions.sort()?;
+    listed(alloc, versions.as_slice())
+}
+
 // Versions sorted, those that are equal as they came, with how each compares with the next.
 fn sorted(alloc: Global, texts: &[Text]) -> Mem<String> {
     let mut versions = versions(alloc, texts)?;
-    versions.sort()?;
-    listed(alloc, versions.as_slice())
+    listed_in_order(alloc, &mut versions)
+}
+
+// How a version compares with another.
+fn compared_with(alloc: Global, a: &Version, b: &Text) -> Mem<String> {
+    let b = Version::parse(alloc, b)?;
+    word(alloc, mark(a, &b))
 }
 
 // How two versions compare.
 fn compared(alloc: Global, a: &Text, b: &Text) -> Mem<String> {
     let a = Version::parse(alloc, a)?;
-    let b = Version::parse(alloc, b)?;
-    word(alloc, mark(&a, &b))
+    compared_with(alloc, &a, b)
 }
 
 // Five bytes among which versions split in each way.
@@ -62,13 +76,18 @@ fn letter(number: u32) -> &'static str {
     }
 }
 
-// The text of a number below 625: four of these bytes.
-fn short_text(alloc: Global, number: u32) -> Mem<Text> {
-    let mut text = String::new(alloc);
+fn push_letters(text: &mut String, number: u32) -> Mem<()> {
     text.push_str(letter(number / 125))?;
     text.push_str(letter(number / 25))?;
     text.push_str(letter(number / 5))?;
     text.push_str(letter(number))?;
+    Ok(())
+}
+
+// The text of a number below 625: four of these bytes.
+fn short_text(alloc: Global, number: u32) -> Mem<Text> {
+    let mut text = String::new(alloc);
+    push_letters(&mut text, number)?;
     Ok(Text::of(text))
 }
 
@@ -85,12 +104,16 @@ fn push_marks(alloc: Global, shown: &mut String, version: &Version) -> Mem<()> {
     Ok(())
 }
 
+fn marks_among_short(alloc: Global, version: &Version) -> Mem<String> {
+    let mut shown = String::new(alloc);
+    push_marks(alloc, &mut shown, version)?;
+    Ok(shown)
+}
+
 // How a version compares with each of all texts of four bytes of `01a.-`.
 fn among_short(alloc: Global, text: &Text) -> Mem<String> {
     let version = Version::parse(alloc, text)?;
-    let mut shown = String::new(alloc);
-    push_marks(alloc, &mut shown, &version)?;
-    Ok(shown)
+    marks_among_short(alloc, &version)
 }
 
 // Why a text is no requirement.
@@ -110,11 +133,15 @@ fn word_for(holds: bool, yes: &'static str, no: &'static str) -> &'static str {
     if holds { yes } else { no }
 }
 
-fn marked(alloc: Global, requirement: &Requirement, texts: &[Text]) -> Mem<String> {
-    let versions = versions(alloc, texts)?;
-    let marks = marks(alloc, requirement, versions.as_slice())?;
+fn spelled_marks(alloc: Global, requirement: &Requirement, versions: &[Version]) -> Mem<String> {
+    let marks = marks(alloc, requirement, versions)?;
     let kind = word_for(requirement.is_hard(), "hard", "soft");
     Ok(format!(in alloc; "{kind} {marks}")?)
+}
+
+fn marked(alloc: Global, requirement: &Requirement, texts: &[Text]) -> Mem<String> {
+    let versions = versions(alloc, texts)?;
+    spelled_marks(alloc, requirement, versions.as_slice())
 }
 
 // Whether a requirement is hard, and which of the versions it admits; or from where on it is none.

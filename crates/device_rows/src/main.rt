@@ -59,15 +59,20 @@ fn print_told(rt: &HostRuntime, line: &str) -> anyhow::Result<()> {
     Ok(())
 }
 
+// What is told of a line, or the line itself.
+fn print_line(rt: &HostRuntime, line: &str) -> anyhow::Result<()> {
+    if line.starts_with('#') {
+        println!(rt; "{line}")?;
+        return Ok(());
+    }
+    print_told(rt, line)
+}
+
 fn main(rt: HostRuntime) -> anyhow::Result<()> {
     fs::create_dir_all(&rt, "empty")?;
     for line in rt.lines(rt.alloc()) {
         let line = line?;
-        if line.as_str().starts_with('#') {
-            println!(rt; "{line}")?;
-        } else {
-            print_told(&rt, line.as_str())?;
-        }
+        print_line(&rt, line.as_str())?;
     }
     Ok(())
 }

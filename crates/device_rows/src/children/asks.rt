@@ -15,6 +15,9 @@ use outside_mem::Calls;
 use row_fields::unescaped;
 use std::alloc::Global;
 
+// A gate over children in memory.
+type MemGate = ProcessGate<MemSpawner<Calls>>;
+
 // The goal surefire:test.
 fn goal_call(alloc: Global) -> Mem<GoalCall> {
     let group = Text::from_str(alloc, "org.apache.maven.plugins")?;
@@ -48,14 +51,15 @@ fn request(alloc: Global) -> Mem<GoalRequest>
     })
 }
 
+fn spelled_length(alloc: Global, len: usize) -> Mem<String> {
+    Ok(format!(in alloc; "produced {len}")?)
+}
+
 // An answer in words.
 fn spelled(alloc: Global, answer: &GoalAnswer) -> Mem<String> {
     match answer {
         GoalAnswer::Done => Ok(String::from_str(alloc, "done")?),
-        GoalAnswer::Produced(bytes) => {
-            let len = bytes.len();
-            Ok(format!(in alloc; "produced {len}")?)
-        }
+        GoalAnswer::Produced(bytes) => spelled_length(alloc, bytes.len()),
         GoalAnswer::Failed(text) => Ok(format!(in alloc; "failed {text}")?),
     }
 }
@@ -77,18 +81,23 @@ fn push_child(alloc: Global, shown: &mut String, wanted: &[u8], child: &ChildRec
     Ok(shown.push_str(told.as_str())?)
 }
 
-// The same of the children, and how many are left.
+fn push_number_left(alloc: Global, shown: &mut String, left: u64) -> Mem<()> {
+    let told = format!(in alloc; " left {left}")?;
+    Ok(shown.push_str(told.as_str())?)
+}
+
+// The same of the children, behind a semicolon, and how many are left.
 fn push_children(
     alloc: Global,
     shown: &mut String,
     wanted: &[u8],
     spawner: &MemSpawner<Calls>,
 ) -> Mem<()> {
+    shown.push_str(";")?;
     for child in spawner.records() {
         push_child(alloc, shown, wanted, child)?;
     }
-    let left = spawner.children();
-    Ok(shown.push_str(format!(in alloc; " left {left}")?.as_str())?)
+    push_number_left(alloc, shown, spawner.children() as u64)
 }
 
 // A spawner of one child, some of whose calls fail.
@@ -98,6 +107,17 @@ fn spawner(alloc: Global, script: ChildScript, failing: &List<u64>) -> Mem<MemSp
     MemSpawner::new(alloc, scripts, failing)
 }
 
+fn told(
+    alloc: Global,
+    answer: &Result<GoalAnswer, DeviceFault>,
+    wanted: &[u8],
+    spawner: &MemSpawner<Calls>,
+) -> Mem<String> {
+    let mut shown = said(alloc, answer)?;
+    push_children(alloc, &mut shown, wanted, spawner)?;
+    Ok(shown)
+}
+
 // What is told of an answer, of the children, and of how many are left.
 fn shown(
     alloc: Global,
@@ -105,27 +125,36 @@ fn shown(
     wanted: &[u8],
     spawner: &MemSpawner<Calls>,
 ) -> Mem<Bytes> {
-    let mut shown = said(alloc, answer)?;
-    shown.push_str(";")?;
-    push_children(alloc, &mut shown, wanted, spawner)?;
+    let shown = told(alloc, answer, wanted, spawner)?;
     Bytes::from_slice(alloc, shown.as_bytes())
 }
 
-// What a call of a gate over a spawner comes to.
-fn called(alloc: Global, spawner: MemSpawner<Calls>, request: &GoalRequest) -> Mem<Bytes>
+// What a call of a gate comes to, whose child is to be given these bytes.
+fn answered(alloc: Global, gate: &mut MemGate, request: &GoalRequest, wanted: &[u8]) -> Mem<Bytes>
+    requires { HasOwnSlots request.now.own }
+{
+    let answer = gate.call(request);
+    shown(alloc, &answer, wanted, gate.spawner())
+}
+
+// What a call of a gate comes to.
+fn called(alloc: Global, gate: &mut MemGate, request: &GoalRequest) -> Mem<Bytes>
     requires { HasOwnSlots request.now.own }
 {
     let wanted = request_bytes(alloc, request)?;
-    let mut gate = ProcessGate::new(alloc, spawner);
-    let answer = gate.call(request);
-    shown(alloc, &answer, wanted.as_slice(), gate.spawner())
+    answered(alloc, gate, request, wanted.as_slice())
+}
+
+fn asked_by(alloc: Global, gate: &mut MemGate) -> Mem<Bytes> {
+    let request = request(alloc)?;
+    called(alloc, gate, &request)
 }
 
 // The same of a gate with one child, some of whose calls fail.
 fn asked(alloc: Global, script: ChildScript, failing: &List<u64>) -> Mem<Bytes> {
     let spawner = spawner(alloc, script, failing)?;
-    let request = request(alloc)?;
-    called(alloc, spawner, &request)
+    let mut gate = ProcessGate::new(alloc, spawner);
+    asked_by(alloc, &mut gate)
 }
 
 /// The gate's answer to an output and a status.

@@ -14,19 +14,28 @@ fn demo(alloc: Global, artifact: &str) -> Mem<Gav> {
     gav(alloc, "org.demo", artifact, "1.0")
 }
 
-// The name of the POM of an artifact.
-fn pom_of(alloc: Global, gav: &Gav) -> Mem<Option<FileName>> {
-    let none = Text::of(String::new(alloc));
-    let pom = Text::from_str(alloc, "pom")?;
+// The name of a file, of valid names alone.
+fn file_name(
+    alloc: Global,
+    gav: &Gav,
+    classifier: &Text,
+    extension: &Text,
+) -> Mem<Option<FileName>> {
     let named = valid_group(gav.group.as_bytes())
         && valid_name(gav.artifact.as_bytes())
         && valid_version(gav.version.as_bytes())
-        && none.is_empty()
-        && valid_name(pom.as_bytes());
+        && classifier.is_empty()
+        && valid_name(extension.as_bytes());
     if !named {
         return Ok(None);
     }
-    Ok(Some(file_of(alloc, gav, &none, &pom)?))
+    Ok(Some(file_of(alloc, gav, classifier, extension)?))
+}
+
+// The name of the POM of an artifact.
+fn pom_of(alloc: Global, gav: &Gav) -> Mem<Option<FileName>> {
+    let pom = Text::from_str(alloc, "pom")?;
+    file_name(alloc, gav, &Text::of(String::new(alloc)), &pom)
 }
 
 // The name of the POM of an artifact of org.demo in version 1.0.
@@ -50,11 +59,22 @@ fn takes<S: Shelf>(shelf: &mut S, area: &mut S::Area, name: &FileName, bytes: &[
     }
 }
 
+// The same of the repository in a folder, by this area.
+fn is_taken_by(
+    rt: &HostRuntime,
+    folder: &str,
+    area: &mut RealArea<HostRuntime>,
+    name: &FileName,
+    bytes: &[u8],
+) -> Mem<bool> {
+    let root = Text::from_str(rt.alloc(), folder)?;
+    Ok(takes(&mut RealShelf::new(rt, root), area, name, bytes))
+}
+
 // The same of the repository in a folder.
 fn is_taken(rt: &HostRuntime, folder: &str, name: &FileName, bytes: &[u8]) -> Mem<bool> {
-    let root = Text::from_str(rt.alloc(), folder)?;
     let mut area = area(rt, folder, "one")?;
-    Ok(takes(&mut RealShelf::new(rt, root), &mut area, name, bytes))
+    is_taken_by(rt, folder, &mut area, name, bytes)
 }
 
 fn answer(alloc: Global, is_done: bool, done: &str) -> Mem<String> {

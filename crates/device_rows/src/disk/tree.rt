@@ -13,14 +13,19 @@ fn has<T: Files>(alloc: Global, tree: &mut T, path: &Text) -> Mem<String> {
     }
 }
 
+fn push_names(shown: &mut String, names: &[Text]) -> Mem<()> {
+    for name in names {
+        shown.push_str(" ")?;
+        shown.push_str(name.as_str())?;
+    }
+    Ok(())
+}
+
 // The names of files; none where they weren't listed.
 fn listed(alloc: Global, found: &Result<List<Text>, ListFault>) -> Mem<String> {
     let mut shown = String::from_str(alloc, "files:")?;
     if let Ok(names) = found {
-        for name in names.as_slice() {
-            shown.push_str(" ")?;
-            shown.push_str(name.as_str())?;
-        }
+        push_names(&mut shown, names.as_slice())?;
     }
     Ok(shown)
 }
@@ -34,10 +39,14 @@ fn told_at<T: Tree>(alloc: Global, tree: &mut T, kind: &str, path: &Text) -> Mem
     }
 }
 
+fn told_of_path(rt: &HostRuntime, kind: &str, path: &Text) -> Mem<String> {
+    let root = Text::from_str(rt.alloc(), ".")?;
+    let mut tree = RealTree::new(rt, root);
+    told_at(rt.alloc(), &mut tree, kind, path)
+}
+
 /// What is told of a row.
 pub(crate) fn told(rt: &HostRuntime, kind: &str, path: &str) -> Mem<String> {
     let path = Text::from_str(rt.alloc(), path)?;
-    let root = Text::from_str(rt.alloc(), ".")?;
-    let mut tree = RealTree::new(rt, root);
-    told_at(rt.alloc(), &mut tree, kind, &path)
+    told_of_path(rt, kind, &path)
 }

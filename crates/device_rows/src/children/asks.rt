@@ -97,7 +97,7 @@ fn push_children(
     for child in spawner.records() {
         push_child(alloc, shown, wanted, child)?;
     }
-    push_number_left(alloc, shown, spawner.children() as u64)
+    push_number_left(alloc, shown, spawner.children())
 }
 
 // A spawner of one child, some of whose calls fail.

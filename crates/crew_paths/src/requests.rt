@@ -80,10 +80,13 @@ pub fn needed_entries(
 pub fn first_request(alloc: Global, unit: &PlanModule, call: &GoalCall) -> Mem<GoalRequest>
     ensures { IfOk result (λ request. IsRequestOf unit.now [] request) }
 {
+    let module = unit.gav.clone()?;
+    let sources = unit.sources.clone()?;
+    let call = copy_of_call(call)?;
     Ok(GoalRequest {
-        module: unit.gav.clone()?,
-        call: copy_of_call(call)?,
-        sources: unit.sources.clone()?,
+        module,
+        call,
+        sources,
         own: List::new(alloc),
         classpath: List::new(alloc),
     })

@@ -86,16 +86,16 @@ fn call_at(
         plugin.artifact.as_bytes(),
         goal.as_bytes(),
     );
-    let configuration = merged_configuration(
-        alloc,
-        execution.configuration.as_slice(),
-        plugin.configuration.as_slice(),
-    )?;
     let version = version_of(alloc, plugin)?;
     let group = plugin.group.clone()?;
     let artifact = plugin.artifact.clone()?;
     let name = goal.clone()?;
     let id = execution.id.clone()?;
+    let configuration = merged_configuration(
+        alloc,
+        execution.configuration.as_slice(),
+        plugin.configuration.as_slice(),
+    )?;
     Ok(GoalCall {
         group,
         artifact,

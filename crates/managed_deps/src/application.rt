@@ -1,11 +1,13 @@
 ghost use Rattle.std.specs.Prelude.{◌≡◌, map, Some, IfOk};
-ghost use Rattle.managed_deps.specs.Managed.{apply_one, apply_plugins, exclusions_of, with_managed};
+ghost use Rattle.std.specs.Option.{option_copied, option_or};
+ghost use Rattle.managed_deps.specs.Managed.{apply_one, apply_plugins, exclusions_of, find_pair, key_of, with_managed};
 
 use crate::set::ManagedSet;
 use keyed_lists::Keyed;
 use model_merge::{each_settled, merged_under, settled_plugins, stated};
 use model_types::{Dependency, Exclusion, Plugin};
-use mvn_shared::{List, Mem, Shared};
+use mvn_base::Key;
+use mvn_shared::{List, Mem, Shared, Text};
 use std::alloc::Global;
 
 // A list that is stated, or else the managed one.
@@ -19,19 +21,61 @@ fn exclusions_of(own: &List<Exclusion>, managed: &List<Exclusion>) -> Mem<List<E
     }
 }
 
-// A declaration with what it takes from a managed one.
-fn with_managed(own: &Dependency, managed: &Dependency) -> Mem<Dependency>
-    ensures { IfOk result (λ value. value ≡ with_managed own.now (Some managed.now)) }
+// What a declaration states, or else takes from a managed one.
+#[derive(Drop)]
+struct Taken {
+    version: Option<Text>,
+    scope: Option<Text>,
+    optional: Text,
+    exclusions: List<Exclusion>,
+}
+
+fn taken(own: &Dependency, managed: &Dependency) -> Mem<Taken>
+    ensures { IfOk result (λ taken. taken ≡ (record {
+      version = option_or own.now.version managed.now.version;
+      scope = option_or own.now.scope managed.now.scope;
+      optional = own.now.optional;
+      exclusions = exclusions_of own.now.exclusions managed.now.exclusions;
+    })) }
 {
-    let group = own.group.clone()?;
-    let artifact = own.artifact.clone()?;
     let version = stated(&own.version, &managed.version)?;
-    let kind = own.kind.clone()?;
-    let classifier = own.classifier.clone()?;
     let scope = stated(&own.scope, &managed.scope)?;
     let optional = own.optional.clone()?;
     let exclusions = exclusions_of(&own.exclusions, &managed.exclusions)?;
-    Ok(Dependency {
+    Ok(Taken {
+        version,
+        scope,
+        optional,
+        exclusions,
+    })
+}
+
+// A declaration of a key.
+fn declared(key: Key, taken: Taken) -> Dependency
+    ensures { result ≡ (record {
+      group = key.group;
+      artifact = key.artifact;
+      version = taken.version;
+      kind = key.kind;
+      classifier = key.classifier;
+      scope = taken.scope;
+      optional = taken.optional;
+      exclusions = taken.exclusions;
+    }) }
+{
+    let Key {
+        group,
+        artifact,
+        kind,
+        classifier,
+    } = key;
+    let Taken {
+        version,
+        scope,
+        optional,
+        exclusions,
+    } = taken;
+    Dependency {
         group,
         artifact,
         version,
@@ -40,7 +84,37 @@ fn with_managed(own: &Dependency, managed: &Dependency) -> Mem<Dependency>
         scope,
         optional,
         exclusions,
-    })
+    }
+}
+
+// A declaration with what it takes from a managed one.
+fn with_managed(alloc: Global, own: &Dependency, managed: &Dependency) -> Mem<Dependency>
+    ensures { IfOk result (λ value. value ≡ with_managed own.now (Some managed.now)) }
+{
+    let key = own.key(alloc)?;
+    let taken = taken(own, managed)?;
+    Ok(declared(key, taken))
+}
+
+// So of one that is shared.
+fn replaced(alloc: Global, own: &Dependency, managed: &Dependency) -> Mem<Shared<Dependency>>
+    ensures { IfOk result (λ value. value ≡ with_managed own.now (Some managed.now)) }
+{
+    let value = with_managed(alloc, own, managed)?;
+    Shared::new(alloc, value)
+}
+
+// What is managed under the key of a declaration.
+fn managed_by<'a>(
+    alloc: Global,
+    set: &'a ManagedSet,
+    dependency: &Dependency,
+) -> Mem<Option<&'a Shared<Dependency>>>
+    ensures { IfOk result (λ found.
+        option_copied found ≡ find_pair set.now (key_of dependency.now)) }
+{
+    let key = dependency.key(alloc)?;
+    Ok(set.find(&key))
 }
 
 // A declaration with what is managed under its key.
@@ -51,8 +125,8 @@ fn applied(
 ) -> Mem<Shared<Dependency>>
     ensures { IfOk result (λ value. value ≡ apply_one set.now dependency.now) }
 {
-    match set.find(&dependency.key(alloc)?) {
-        Some(managed) => Shared::new(alloc, with_managed(dependency, managed)?),
+    match managed_by(alloc, set, dependency)? {
+        Some(managed) => replaced(alloc, dependency, managed),
         None => dependency.share(),
     }
 }

@@ -33,6 +33,18 @@ pub struct MemShelf<F> {
     ghost early: { (moment : ℕ) → settled_at dates.items moment ≤ moment },
 }
 
+// A publish of these bytes under a name.
+fn published_as(name: &FileName, bytes: &Bytes) -> Mem<Published>
+    ensures { IfOk result (λ publish. publish ≡ (record {
+      name = name.now;
+      bytes = bytes.now;
+    })) }
+{
+    let name = name.clone()?;
+    let bytes = bytes.clone()?;
+    Ok(Published { name, bytes })
+}
+
 // Adds a publish to the list, and puts its bytes under its name; where memory is short nothing has changed.
 fn put(
     publishes: &mut Vec<Published>,
@@ -183,10 +195,7 @@ impl<F> MemShelf<F> {
         ensures err { OnErr result (shelf_told self.new ≡ shelf_told self.old) }
         ensures calls { shelf_calls self.new ≡ shelf_calls self.old }
     {
-        let published = Published {
-            name: name.clone()?,
-            bytes: bytes.clone()?,
-        };
+        let published = published_as(name, &bytes)?;
         let path = name.as_text().clone()?;
         self.dates.push(self.settled)?;
         match put(&mut self.publishes, &mut self.files, published, path, bytes) {

@@ -111,6 +111,7 @@ pub fn inject(alloc: Global, raw: &RawModel, places: &[usize]) -> Mem<RawModel>
     let pom = raw.pom.share()?;
     let parent = raw.parent.clone()?;
     let coordinates = raw.coordinates.share()?;
+    let kept = raw.profiles.share()?;
     let base = Shared::new(alloc, inject_base(alloc, &raw.base, profiles, places)?)?;
     let build = Shared::new(alloc, inject_build(alloc, &raw.build, profiles, places)?)?;
     Ok(RawModel {
@@ -119,6 +120,6 @@ pub fn inject(alloc: Global, raw: &RawModel, places: &[usize]) -> Mem<RawModel>
         coordinates,
         base,
         build,
-        profiles: raw.profiles.share()?,
+        profiles: kept,
     })
 }

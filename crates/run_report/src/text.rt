@@ -75,27 +75,68 @@ fn failed_line(alloc: Global, gav: &Gav, reason: &str) -> Mem<String>
     Ok(format!(in alloc; "failed {gav}{reason}\n")?)
 }
 
+// The line of a module that was built.
+#[tactic(auto, unfolding(mvn_base::specs::Gav::gav_text))]
+fn built_line(alloc: Global, gav: &Gav) -> Mem<String>
+    ensures { IfOk result (λ text.
+        string_bytes text ≡ line (codes "built " ++ gav_text gav.now)) }
+{
+    Ok(format!(in alloc; "built {gav}\n")?)
+}
+
+// The line of a module that failed at a goal.
+#[tactic(auto, unfolding(mvn_base::specs::Gav::gav_text))]
+fn goal_line(alloc: Global, gav: &Gav, call: &Text, text: &Text) -> Mem<String>
+    ensures { IfOk result (λ told. string_bytes told ≡ line (codes "failed "
+        ++ gav_text gav.now ++ codes " goal " ++ call.now ++ codes ": " ++ shown text.now)) }
+{
+    let text = shown(alloc, text)?;
+    Ok(format!(in alloc; "failed {gav} goal {call}: {text}\n")?)
+}
+
+// The line of a module for which a file is missing.
+#[tactic(auto, unfolding(mvn_base::specs::Gav::gav_text))]
+fn missing_line(alloc: Global, gav: &Gav, name: &FileName) -> Mem<String>
+    ensures { IfOk result (λ text. string_bytes text
+        ≡ line (codes "failed " ++ gav_text gav.now ++ codes " missing " ++ name.now)) }
+{
+    Ok(format!(in alloc; "failed {gav} missing {name}\n")?)
+}
+
+// The line of a module at which a device failed.
+#[tactic(auto, unfolding(mvn_base::specs::Gav::gav_text))]
+fn fault_line(alloc: Global, gav: &Gav, device: Device) -> Mem<String>
+    ensures { IfOk result (λ text. string_bytes text
+        ≡ line (codes "failed " ++ gav_text gav.now ++ codes " fault " ++ device_name device)) }
+{
+    let device = device_name(device);
+    Ok(format!(in alloc; "failed {gav} fault {device}\n")?)
+}
+
+// The line of a module that was skipped.
+#[tactic(auto, unfolding(mvn_base::specs::Gav::gav_text))]
+fn skipped_line(alloc: Global, gav: &Gav, upstream: &Gav) -> Mem<String>
+    ensures { IfOk result (λ text. string_bytes text
+        ≡ line (codes "skipped " ++ gav_text gav.now ++ codes " after " ++ gav_text upstream.now)) }
+{
+    Ok(format!(in alloc; "skipped {gav} after {upstream}\n")?)
+}
+
 // A module's own line.
-#[tactic(auto, unfolding(crate::specs::Report::end_text, mvn_base::specs::Gav::gav_text))]
+#[tactic(auto, unfolding(crate::specs::Report::end_text))]
 fn end_line(alloc: Global, gav: &Gav, end: &RowEnd) -> Mem<String>
     ensures { IfOk result (λ text. string_bytes text ≡ line (end_text gav.now end.now)) }
 {
     match end {
-        RowEnd::Built => Ok(format!(in alloc; "built {gav}\n")?),
-        RowEnd::Goal { call, text } => {
-            let text = shown(alloc, text)?;
-            Ok(format!(in alloc; "failed {gav} goal {call}: {text}\n")?)
-        }
-        RowEnd::Missing(name) => Ok(format!(in alloc; "failed {gav} missing {name}\n")?),
+        RowEnd::Built => built_line(alloc, gav),
+        RowEnd::Goal { call, text } => goal_line(alloc, gav, call, text),
+        RowEnd::Missing(name) => missing_line(alloc, gav, name),
         RowEnd::NoArtifact => failed_line(alloc, gav, " no artifact"),
         RowEnd::OutputTooLarge => failed_line(alloc, gav, " output too large"),
         RowEnd::ClasspathTooLarge => failed_line(alloc, gav, " classpath too large"),
-        RowEnd::Fault(device) => {
-            let device = device_name(*device);
-            Ok(format!(in alloc; "failed {gav} fault {device}\n")?)
-        }
+        RowEnd::Fault(device) => fault_line(alloc, gav, *device),
         RowEnd::Memory => failed_line(alloc, gav, " memory"),
-        RowEnd::Skipped(upstream) => Ok(format!(in alloc; "skipped {gav} after {upstream}\n")?),
+        RowEnd::Skipped(upstream) => skipped_line(alloc, gav, upstream),
     }
 }
 

@@ -60,10 +60,10 @@ fn takes<S: Shelf>(shelf: &mut S, area: &mut S::Area, name: &FileName, bytes: &[
 }
 
 // The same of the repository in a folder, by this area.
-fn is_taken_by(
-    rt: &HostRuntime,
+fn is_taken_by<'a>(
+    rt: &'a HostRuntime,
     folder: &str,
-    area: &mut RealArea<HostRuntime>,
+    area: &mut RealArea<'a, HostRuntime>,
     name: &FileName,
     bytes: &[u8],
 ) -> Mem<bool> {

@@ -7,7 +7,7 @@ ghost use Rattle.goal_requests.specs.Calls.{plugin_in, plugin_parts, call_of, ca
 use crate::members::{items_at, text_at};
 use crate::setting::configuration_in;
 use crate::text::cut;
-use goal_types::{GoalCall, goal_rule};
+use goal_types::{GoalCall, GoalRule, goal_rule};
 use mvn_base::{Gav, Phase, Setting, phase_of};
 use mvn_shared::{List, Mem, Text};
 use serde_json::Value;
@@ -49,6 +49,70 @@ fn coordinates_of(alloc: Global, group: &str, artifact: &str, version: &str) -> 
     })
 }
 
+// What a call is named by.
+#[derive(Drop)]
+struct Named {
+    coordinates: Gav,
+    goal: Text,
+    execution: Text,
+}
+
+fn name_of(alloc: Global, plugin: Plugin<'_>, goal: &str, execution: &str) -> Mem<Named>
+    ensures coordinates { IfOk result (λ named. named.coordinates ≡ (record {
+      group = (plugin_parts plugin.entry).group;
+      artifact = (plugin_parts plugin.entry).artifact;
+      version = (plugin_parts plugin.entry).version;
+    })) }
+    ensures goal { IfOk result (λ named. named.goal ≡ goal.now) }
+    ensures execution { IfOk result (λ named. named.execution ≡ execution.now) }
+{
+    let goal = Text::from_str(alloc, goal)?;
+    let execution = Text::from_str(alloc, execution)?;
+    let coordinates = coordinates_of(alloc, plugin.group, plugin.artifact, plugin.version)?;
+    Ok(Named {
+        coordinates,
+        goal,
+        execution,
+    })
+}
+
+// A call of these.
+fn joined(named: Named, phase: Phase, configuration: List<Setting>, rule: GoalRule) -> GoalCall
+    ensures { result ≡ (record {
+      group = named.coordinates.group;
+      artifact = named.coordinates.artifact;
+      version = named.coordinates.version;
+      goal = named.goal;
+      execution = named.execution;
+      phase = phase;
+      configuration = configuration;
+      slot = rule.slot;
+      need = rule.need;
+    }) }
+{
+    let Named {
+        coordinates,
+        goal,
+        execution,
+    } = named;
+    let Gav {
+        group,
+        artifact,
+        version,
+    } = coordinates;
+    GoalCall {
+        group,
+        artifact,
+        version,
+        goal,
+        execution,
+        phase,
+        configuration,
+        slot: rule.slot,
+        need: rule.need,
+    }
+}
+
 // A call of these parts, with the slot and the classpath that its goal has by default.
 fn call_of(
     alloc: Global,
@@ -67,25 +131,8 @@ fn call_of(
         plugin.artifact.as_bytes(),
         goal.as_bytes(),
     );
-    let goal = Text::from_str(alloc, goal)?;
-    let execution = Text::from_str(alloc, execution)?;
-    let coordinates = coordinates_of(alloc, plugin.group, plugin.artifact, plugin.version)?;
-    let Gav {
-        group,
-        artifact,
-        version,
-    } = coordinates;
-    Ok(GoalCall {
-        group,
-        artifact,
-        version,
-        goal,
-        execution,
-        phase,
-        configuration,
-        slot: rule.slot,
-        need: rule.need,
-    })
+    let named = name_of(alloc, plugin, goal, execution)?;
+    Ok(joined(named, phase, configuration, rule))
 }
 
 /// The call that a request's line names.

@@ -30,7 +30,7 @@ struct Taken {
     exclusions: List<Exclusion>,
 }
 
-fn taken(own: &Dependency, managed: &Dependency) -> Mem<Taken>
+fn stated_or_managed(own: &Dependency, managed: &Dependency) -> Mem<Taken>
     ensures { IfOk result (λ taken. taken ≡ (record {
       version = option_or own.now.version managed.now.version;
       scope = option_or own.now.scope managed.now.scope;
@@ -92,7 +92,7 @@ fn with_managed(alloc: Global, own: &Dependency, managed: &Dependency) -> Mem<De
     ensures { IfOk result (λ value. value ≡ with_managed own.now (Some managed.now)) }
 {
     let key = own.key(alloc)?;
-    let taken = taken(own, managed)?;
+    let taken = stated_or_managed(own, managed)?;
     Ok(declared(key, taken))
 }
 

@@ -2,14 +2,14 @@
 #![tactic(auto)]
 
 mod files;
-mod outputs;
+mod installed;
 mod places;
 mod selected;
 mod uses;
 mod winners;
 
 pub use files::FileList;
-pub use outputs::{is_pom, outputs, pom_file};
+pub use installed::{is_pom, outputs, pom_file};
 pub use places::{Item, Places, small};
 pub use selected::{Output, Planned, SelectedModule};
 pub use uses::{add_text, fetched_files, fetched_locks, texts_of};

@@ -7,7 +7,7 @@ ghost use Rattle.plan_files.specs.Numbers.{ascending, with_text, with_texts};
 ghost use Rattle.plan_files.specs.Uses.{fetched_files, fetched_locks, has_names, is_selected, used_by};
 
 use crate::files::FileList;
-use crate::outputs::pom_file;
+use crate::installed::pom_file;
 use crate::places::Places;
 use crate::winners::{artifact_file, has_names, needs_path};
 use classpaths::Resolved;

@@ -14,8 +14,8 @@ use import_store::{RunStore, asked_gav, lineage_of};
 use model_types::{Model, RawModel};
 use mvn_base::PomId;
 use mvn_shared::{List, Mem, Shared, Text};
-use parent_poms::read_at;
 use pom_source::{BuildFault, Given, PomSource};
+use poms_by_path::read_at;
 use std::alloc::Global;
 
 // A list of one POM.

@@ -8,9 +8,9 @@ use mvn_base::{Gav, PomId};
 use mvn_outside::{ReadFault, Tree};
 use mvn_shared::{Bytes, Mem, OutOfMemory, Shared, Text};
 use outside_mem::NoFailures;
-use parent_poms::raw_gav;
 use pom_source::{BuildFault, Found, Given};
 use pom_store::read;
+use poms_by_path::raw_gav;
 use source_mem::MemPoms;
 use std::alloc::Global;
 

@@ -12,10 +12,10 @@ use crate::found::FoundPoms;
 use crate::pom::{Listed, ModulePom};
 use mvn_base::{PomId, Rule};
 use mvn_shared::{Bytes, Mem, Text};
-use parent_poms::read_found;
 use pom_paths::joined;
 use pom_source::{BuildFault, PomSource, text_refused};
 use pom_store::{Store, has_expression};
+use poms_by_path::read_found;
 use std::alloc::Global;
 
 /// A refusal of the POM at a path, which names a text. Costs both.

@@ -1,12 +1,10 @@
 //! Where the parent of a POM is found: at its path in the project, or by its coordinates.
 #![tactic(auto)]
 
-mod beside;
 mod coordinates;
 mod judged;
 mod parents;
 
-pub use beside::{raw_gav, read_at, read_found};
 pub use coordinates::pom_at;
 pub use judged::{active_at, active_from, active_places};
 pub use parents::{

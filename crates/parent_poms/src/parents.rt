@@ -9,7 +9,6 @@ ghost use Rattle.pom_store.specs.declared.origin.Candidate.TheVariants.{Read};
 ghost use Rattle.pom_store.specs.Stores.{Holds, IsAt, KeepsLines, KeepsRead};
 ghost use Rattle.pom_store.specs.Lineage.{candidate, first_of, gav_of, has_range, is_in, next_poms, origin_of, packed, parent_at, parent_from, pom_of, put_over, text_of, top, unmet, unstated};
 
-use crate::beside::{found_origin, raw_gav};
 use crate::coordinates::pom_at;
 use inheritance::inherit;
 use model_types::{Parent, RawModel};
@@ -17,6 +16,7 @@ use mvn_base::{Gav, PomId, Rule};
 use mvn_shared::{List, Mem, Shared, Text};
 use pom_source::{BuildFault, PomSource, gav_refused, text_refused};
 use pom_store::{Candidate, Joined, Origin, Store, has_expression, is_in, next_poms};
+use poms_by_path::{found_origin, raw_gav};
 use root_pom::super_pom;
 use std::alloc::Global;
 

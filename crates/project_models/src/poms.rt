@@ -11,9 +11,9 @@ use model_resolver::ProjectPom;
 use module_discovery::discover;
 use module_poms::ModulePom;
 use mvn_shared::{List, Mem};
-use parent_poms::raw_gav;
 use pom_source::{BuildFault, Given, PomSource};
 use pom_store::Store;
+use poms_by_path::raw_gav;
 use std::alloc::Global;
 
 // A POM that was discovered, with its coordinates as it says them and with its text. Neither its path nor its text is copied.

@@ -4,6 +4,7 @@ ghost use Rattle.profile_activation.specs.Judging.{TellsOn};
 ghost use Rattle.pom_source.specs.Answers.{Says, build_failed};
 ghost use Rattle.pom_source.specs.Worlds.{World};
 ghost use Rattle.pom_source.specs.declared.found.Given as givens;
+ghost use Rattle.mvn_base.specs.declared.refusal.PomId.TheVariants as poms;
 ghost use Rattle.mvn_base.specs.Gav.{gav_eq};
 ghost use Rattle.pom_store.specs.Beside.{at_either, at_path, at_second, of_gav, origin_from, found_origin, raw_gav, read_at};
 ghost use Rattle.pom_paths.specs.Paths.{joined};
@@ -105,6 +106,22 @@ fn read_file(
     }
 }
 
+// What the file at a path says, if there is one.
+fn read_path(
+    alloc: Global,
+    path: &Text,
+    found: &Option<Bytes>,
+) -> Result<Option<Shared<RawModel>>, BuildFault>
+    ensures says { Says (read_file (poms.Path path.now) found.now) result }
+    ensures cause { build_failed result ≡ false }
+{
+    let pom = PomId::Path(path.clone()?);
+    match read_file(alloc, &pom, found) {
+        Ok(raw) => Ok(raw),
+        Err(fault) => Err(fault),
+    }
+}
+
 // The POM at a path of the project, asked for and read.
 #[tactic(auto, using(pom_store::proofs::Telling::told_once, pom_store::proofs::Telling::untold))]
 fn read_anew<P: PomSource>(
@@ -118,9 +135,8 @@ fn read_anew<P: PomSource>(
     ensures same { TellsOn P.tells_same source.old source.new }
     ensures cause { HasCause (P.faults source.old) (P.faults source.new) (build_failed result) }
 {
-    let pom = PomId::Path(path.clone()?);
     let found = source.by_path(path)?;
-    match read_file(alloc, &pom, &found) {
+    match read_path(alloc, path, &found) {
         Ok(raw) => Ok(raw),
         Err(fault) => Err(fault),
     }
@@ -181,8 +197,7 @@ pub fn read_found(
     if let Some(raw) = store.find_read(path)? {
         return Ok(raw);
     }
-    let pom = PomId::Path(path.clone()?);
-    let raw = match read_file(alloc, &pom, found) {
+    let raw = match read_path(alloc, path, found) {
         Ok(raw) => raw,
         Err(fault) => return Err(fault),
     };

@@ -69,11 +69,7 @@ impl RunStore {
     }
 
     /// The plugins of a filled model. Costs what `model_steps::built` costs.
-    pub fn built(
-        &mut self,
-        alloc: Global,
-        full: &RawModel,
-    ) -> Result<Shared<BuildBase>, BuildFault>
+    pub fn built(&mut self, alloc: Global, full: &RawModel) -> Result<Shared<BuildBase>, BuildFault>
         ensures says { Says (built full.now) result }
         ensures holds { (world : World) (given : givens.Given) → HoldsAll world given self.old
             → HoldsAll world given self.new }

@@ -2,7 +2,10 @@
 use inheritance::inherited_plugins;
 use keyed_lists::{Keyed, copies};
 use managed_deps::{ManagedSet, managed};
-use model_merge::{Mergeable, absorbed, each_settled, merged_execution, merged_lists, merged_over, merged_under, settled_plugin, settled_plugins};
+use model_merge::{
+    Mergeable, absorbed, each_settled, merged_execution, merged_lists, merged_over, merged_under,
+    settled_plugin, settled_plugins,
+};
 use model_types::{Dependency, Plugin};
 use mvn_base::ModelError;
 use mvn_shared::{List, Mem, Shared, Text};

@@ -1,3 +1,3 @@
 pub mod Counting
 pub mod Joined
-pub mod Entries
+pub mod EntryWalks

@@ -107,7 +107,7 @@ fn push_entry(
 }
 
 // The entries of all dependencies.
-#[tactic(auto, using(crate::proofs::Entries::one_entry_more))]
+#[tactic(auto, using(crate::proofs::EntryWalks::one_entry_more))]
 fn all_entries(
     alloc: Global,
     built: &Places<Gav>,

@@ -4,7 +4,7 @@ use Rattle.build_core.specs.declared.plan.Entry.{Entry}
 use Rattle.classpaths.specs.declared.resolution.Resolved.{Resolved}
 use Rattle.plan_numbers.specs.Plans.{entries_of}
 use Rattle.plan_files.specs.Uses.{has_names}
-use Rattle.plan_numbers.proofs.Entries.{one_entry_more}
+use Rattle.plan_numbers.proofs.EntryWalks.{one_entry_more}
 use Rattle.plan_numbers.proofs.entries.all_entries.Goals as goal
 
 pub loop-winner-preserved : goal.loop-winner-preserved

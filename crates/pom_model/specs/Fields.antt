@@ -27,6 +27,14 @@ os nodes node = record {
 unfoldable pub file_text : List Node → List ℕ → Node → Option (List ℕ)
 file_text nodes name node = text_of nodes name (child nodes (codes "file") (Some node))
 
+-- the texts that a profile goes by: the files that have to be there and not to be there, and the JDK
+abbrev pub criteria_texts : List Node → Node → Option (List ℕ) × Option (List ℕ) × Option (List ℕ)
+criteria_texts nodes node = (file_text nodes (codes "exists") node, file_text nodes (codes "missing") node, text_of nodes (codes "jdk") (Some node))
+
+-- the property and the system that it goes by
+abbrev pub criteria : List Node → Node → Option Property × Option Os
+criteria nodes node = (property nodes (child nodes (codes "property") (Some node)), option_map (os nodes) (child nodes (codes "os") (Some node)))
+
 unfoldable pub activation : List Node → Node → Activation
 activation nodes node = record {
   by_default = text_is nodes (codes "activeByDefault") (codes "true") (Some node);
@@ -66,6 +74,10 @@ coordinates nodes node = record {
   version = text_of nodes (codes "version") node;
   packaging = text_or nodes (codes "packaging") (codes "jar") node;
 }
+
+-- which POM this is: its parent and its coordinates
+abbrev pub names : List Node → Option Node → Option Parent × Coordinates
+names nodes node = (parent_in nodes node, coordinates nodes node)
 
 abbrev pub profiles : List Node → Option Node → List Profile
 profiles nodes node = list_in profile nodes (codes "profiles") (codes "profile") node

@@ -1,7 +1,7 @@
 ghost use Rattle.std.specs.Prelude.{◌≡◌, codes, map, option_map, Some, IfOk};
 ghost use Rattle.std.specs.Option.{option_copied};
-ghost use Rattle.pom_model.specs.Fields.{activation, activation_in, file_text, os, profile, profiles, property};
-ghost use Rattle.pom_table.specs.Elements.{child, items, named_among, text_of};
+ghost use Rattle.pom_model.specs.Fields.{activation, activation_in, criteria, criteria_texts, file_text, os, profile, profiles, property};
+ghost use Rattle.pom_table.specs.Elements.{items, named_among};
 
 use model_types::{Activation, Os, Profile, Property};
 use mvn_shared::{List, Mem, Shared, Text};
@@ -54,7 +54,7 @@ fn texts(
     nodes: &[Node],
     node: &Node,
 ) -> Mem<(Option<Text>, Option<Text>, Option<Text>)>
-    ensures { IfOk result (λ texts. texts ≡ (file_text nodes.now (codes "exists") node.now, file_text nodes.now (codes "missing") node.now, text_of nodes.now (codes "jdk") (Some node.now))) }
+    ensures { IfOk result (λ texts. texts ≡ criteria_texts nodes.now node.now) }
 {
     let exists = file_text(alloc, nodes, node, "exists")?;
     let missing = file_text(alloc, nodes, node, "missing")?;
@@ -64,7 +64,7 @@ fn texts(
 
 // The property and the system that it goes by.
 fn criteria(alloc: Global, nodes: &[Node], node: &Node) -> Mem<(Option<Property>, Option<Os>)>
-    ensures { IfOk result (λ both. both ≡ (property nodes.now (child nodes.now (codes "property") (Some node.now)), option_map (os nodes.now) (child nodes.now (codes "os") (Some node.now)))) }
+    ensures { IfOk result (λ both. both ≡ criteria nodes.now node.now) }
 {
     let property = property(alloc, nodes, child(nodes, Some(node), "property"))?;
     let os = os(alloc, nodes, child(nodes, Some(node), "os"))?;

@@ -2,7 +2,7 @@ ghost use Rattle.std.specs.Prelude.{◌≡◌, codes, slice_get, Some, IfOk};
 ghost use Rattle.std.specs.Option.{option_copied};
 ghost use Rattle.mvn_base.specs.Says.{Says};
 ghost use Rattle.pom_table.specs.Elements.{child};
-ghost use Rattle.pom_model.specs.Fields.{coordinates, model, parent, parent_in, path_text};
+ghost use Rattle.pom_model.specs.Fields.{coordinates, model, names, parent, parent_in, path_text};
 ghost use Rattle.pom_model.specs.Raw.{raw, refusal};
 
 use crate::profile::profiles;
@@ -90,7 +90,7 @@ fn names(
     nodes: &[Node],
     node: Option<&Node>,
 ) -> Mem<(Option<Shared<Parent>>, Shared<Coordinates>)>
-    ensures { IfOk result (λ value. value ≡ (parent_in nodes.now (option_copied node.entry), coordinates nodes.now (option_copied node.entry))) }
+    ensures { IfOk result (λ value. value ≡ names nodes.now (option_copied node.entry)) }
 {
     let parent = parent_in(alloc, nodes, node)?;
     let coordinates = coordinates(alloc, nodes, node)?;

@@ -1,13 +1,14 @@
 ghost use Rattle.std.specs.Prelude.{◌≡◌, ◌++◌, [], unwrap_or, option_to_list, IfOk, OnOk};
 ghost use Rattle.std.specs.List.{list_any};
 ghost use Rattle.std.specs.Str.{bytes_eq};
+ghost use Rattle.settings_merge.specs.Configuration.{merged_configuration};
 ghost use Rattle.lifecycle.specs.Bindings.{bound_id, row_view};
 ghost use Rattle.lifecycle.specs.Goals.{call_at, call_in, calls_of, is_bound_by, is_free, is_install, phase_at};
 
 use crate::table::Row;
-use goal_types::{GoalCall, goal_rule};
+use goal_types::{GoalCall, Need, Slot, goal_rule};
 use model_types::{Execution, Plugin};
-use mvn_base::{MAVEN_PLUGINS, Phase, phase_of};
+use mvn_base::{MAVEN_PLUGINS, Phase, Setting, phase_of};
 use mvn_shared::{List, Mem, Text};
 use settings_merge::merged_configuration;
 use std::alloc::Global;
@@ -71,6 +72,110 @@ fn version_of(alloc: Global, plugin: &Plugin) -> Mem<Text>
     }
 }
 
+// The plugin of a call.
+#[derive(Drop)]
+struct CalledPlugin {
+    group: Text,
+    artifact: Text,
+    version: Text,
+}
+
+// The goal of a call, its execution, and how it is configured.
+#[derive(Drop)]
+struct CalledGoal {
+    goal: Text,
+    execution: Text,
+    configuration: List<Setting>,
+}
+
+// A plugin's name, and its version.
+fn called_plugin(alloc: Global, plugin: &Plugin) -> Mem<CalledPlugin>
+    ensures { IfOk result (λ called. called ≡ (record {
+      group = plugin.now.group;
+      artifact = plugin.now.artifact;
+      version = unwrap_or plugin.now.version [];
+    })) }
+{
+    let version = version_of(alloc, plugin)?;
+    let group = plugin.group.clone()?;
+    let artifact = plugin.artifact.clone()?;
+    Ok(CalledPlugin {
+        group,
+        artifact,
+        version,
+    })
+}
+
+// A goal's name, that of its execution, and the configuration of both.
+fn called_goal(
+    alloc: Global,
+    plugin: &Plugin,
+    execution: &Execution,
+    goal: &Text,
+) -> Mem<CalledGoal>
+    ensures { IfOk result (λ called. called ≡ (record {
+      goal = goal.now;
+      execution = execution.now.id;
+      configuration = merged_configuration execution.now.configuration plugin.now.configuration;
+    })) }
+{
+    let name = goal.clone()?;
+    let id = execution.id.clone()?;
+    let configuration = merged_configuration(
+        alloc,
+        execution.configuration.as_slice(),
+        plugin.configuration.as_slice(),
+    )?;
+    Ok(CalledGoal {
+        goal: name,
+        execution: id,
+        configuration,
+    })
+}
+
+// The call of a plugin's goal in a phase, with its output's slot and its classpath.
+fn call_of(
+    plugin: CalledPlugin,
+    called: CalledGoal,
+    phase: Phase,
+    slot: Slot,
+    need: Need,
+) -> GoalCall
+    ensures { result ≡ (record {
+      group = plugin.group;
+      artifact = plugin.artifact;
+      version = plugin.version;
+      goal = called.goal;
+      execution = called.execution;
+      phase = phase;
+      configuration = called.configuration;
+      slot = slot;
+      need = need;
+    }) }
+{
+    let CalledPlugin {
+        group,
+        artifact,
+        version,
+    } = plugin;
+    let CalledGoal {
+        goal,
+        execution,
+        configuration,
+    } = called;
+    GoalCall {
+        group,
+        artifact,
+        version,
+        goal,
+        execution,
+        phase,
+        configuration,
+        slot,
+        need,
+    }
+}
+
 // The call of a goal in a phase.
 fn call_at(
     alloc: Global,
@@ -86,27 +191,9 @@ fn call_at(
         plugin.artifact.as_bytes(),
         goal.as_bytes(),
     );
-    let version = version_of(alloc, plugin)?;
-    let group = plugin.group.clone()?;
-    let artifact = plugin.artifact.clone()?;
-    let name = goal.clone()?;
-    let id = execution.id.clone()?;
-    let configuration = merged_configuration(
-        alloc,
-        execution.configuration.as_slice(),
-        plugin.configuration.as_slice(),
-    )?;
-    Ok(GoalCall {
-        group,
-        artifact,
-        version,
-        goal: name,
-        execution: id,
-        phase,
-        configuration,
-        slot: rule.slot,
-        need: rule.need,
-    })
+    let named = called_plugin(alloc, plugin)?;
+    let called = called_goal(alloc, plugin, execution, goal)?;
+    Ok(call_of(named, called, phase, rule.slot, rule.need))
 }
 
 // A goal's call, where it ever runs, behind a list.

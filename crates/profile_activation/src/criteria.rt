@@ -1,9 +1,9 @@
-ghost use Rattle.std.specs.Prelude.{◌≡◌, ℕ, List as Items, option_map, option_to_list, ◌++◌, IfOk, OnOk};
+ghost use Rattle.std.specs.Prelude.{◌≡◌, ℕ, List as Items, option_map, option_to_list, ◌++◌, IfErr, IfOk, OnOk};
 ghost use Rattle.std.specs.List.{list_all};
 ghost use Rattle.std.specs.Str.{str_eq_ignore_ascii_case};
 ghost use Rattle.profile_activation.specs.Activation.{admitted_by, all_hold, given, is_jdk, is_system, is_value, os_criteria, property_criterion, property_holds, turn, turned};
 ghost use Rattle.profile_activation.specs.Known.{known_value};
-ghost use Rattle.version_order.specs.Requirements.{requirement};
+ghost use Rattle.version_order.specs.Requirements.{Refuses, admits, requirement};
 
 use crate::lookup::{Known, behind};
 use model_types::{Os, Property};
@@ -34,12 +34,20 @@ fn is_value(own: &Option<Text>, wanted: &str) -> bool
     is_there != is_turned
 }
 
+// The value of a property of this name.
+fn property_value(alloc: Global, known: &Known, name: &str) -> Mem<Option<Text>>
+    ensures { IfOk result (λ value. value ≡ known_value known.now name.now) }
+{
+    let name = Text::from_str(alloc, name)?;
+    known.value(alloc, &name)
+}
+
 // Whether a property is defined, or has the value that is asked for.
 fn property_holds(alloc: Global, known: &Known, property: &Property) -> Mem<bool>
     ensures { IfOk result (λ holds. holds ≡ property_holds (known_value known.now) property.now) }
 {
     let (is_turned, name) = turn(property.name.as_str());
-    let value = known.value(alloc, &Text::from_str(alloc, name)?)?;
+    let value = property_value(alloc, known, name)?;
     if is_turned {
         return Ok(value.is_none());
     }
@@ -49,12 +57,29 @@ fn property_holds(alloc: Global, known: &Known, property: &Property) -> Mem<bool
     }
 }
 
+// Whether a requirement admits the jdk's version.
+fn is_admitted(alloc: Global, requirement: &Requirement, jdk: &Text) -> Mem<bool>
+    ensures { IfOk result (λ holds. holds ≡ admits requirement.now jdk.now) }
+{
+    let version = Version::parse(alloc, jdk)?;
+    Ok(requirement.admits(&version))
+}
+
+// What a range requires.
+fn range_of(alloc: Global, range: &str) -> Result<Requirement, RequirementError>
+    ensures value { IfOk result (λ parsed. requirement range.now ≡ Ok parsed) }
+    ensures refused { IfErr result (λ error. Refuses error (requirement range.now)) }
+{
+    let range = Text::from_str(alloc, range)?;
+    Requirement::parse(alloc, &range)
+}
+
 // Whether a range admits the jdk's version.
 fn is_in_range(alloc: Global, jdk: &Text, range: &str) -> Mem<bool>
     ensures { IfOk result (λ holds. holds ≡ admitted_by (requirement range.now) jdk.now) }
 {
-    match Requirement::parse(alloc, &Text::from_str(alloc, range)?) {
-        Ok(requirement) => Ok(requirement.admits(&Version::parse(alloc, jdk)?)),
+    match range_of(alloc, range) {
+        Ok(requirement) => is_admitted(alloc, &requirement, jdk),
         Err(RequirementError::BadRange { .. }) => Ok(false),
         Err(RequirementError::Memory) => Err(OutOfMemory),
     }

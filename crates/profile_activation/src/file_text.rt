@@ -111,16 +111,21 @@ pub(crate) fn filled(alloc: Global, basedir: &Text, known: &Known, text: &Text) 
     filled_parts(alloc, basedir, known, list.as_slice())
 }
 
+// A path, followed from the root on.
+fn from_root(alloc: Global, path: &str) -> Mem<Text>
+    ensures { IfOk result (λ end. end ≡ joined [] path.now) }
+{
+    let path = Text::from_str(alloc, path)?;
+    let root = Text::of(String::new(alloc));
+    joined(alloc, &root, &path)
+}
+
 // What stands behind the beginning of a text, followed from the root on.
 fn joined_behind(alloc: Global, front: &str, text: &str) -> Mem<Option<Text>>
     ensures { IfOk result (λ path. path ≡ option_map (joined []) (behind front.now text.now)) }
 {
     match behind(front, text) {
-        Some(rest) => {
-            let rest = Text::from_str(alloc, rest)?;
-            let root = Text::of(String::new(alloc));
-            Ok(Some(joined(alloc, &root, &rest)?))
-        }
+        Some(rest) => Ok(Some(from_root(alloc, rest)?)),
         None => Ok(None),
     }
 }

@@ -1,6 +1,6 @@
 ghost use Rattle.std.specs.Prelude.{◌≡◌, ◌&&◌, false, is_some, option_map, option_to_list, IfOk};
 ghost use Rattle.std.specs.Option.{option_map_or};
-ghost use Rattle.profile_activation.specs.Activation.{asks_file, file_holds, for_project, is_listed, stands};
+ghost use Rattle.profile_activation.specs.Activation.{asks_file, file_holds, folder_of, for_project, is_listed, stands};
 ghost use Rattle.profile_activation.specs.Judging.{Alone, Asks, Judges, asked_path, asks_for, asks_of, criteria_by, holds_by, is_chosen_by, is_default_by, named_by, place_of};
 
 use crate::criteria::{all_hold, push_given, push_jdk, push_os, push_property};
@@ -21,13 +21,21 @@ pub(crate) struct Place {
     basedir: Text,
 }
 
+// The folder of a POM.
+fn folder_of(alloc: Global, pom: &Text) -> Mem<Text>
+    ensures { IfOk result (λ folder. folder ≡ folder_of pom.now) }
+{
+    let up = Text::from_str(alloc, "..")?;
+    joined(alloc, pom, &up)
+}
+
 // Where a POM stands, where it is one of the project.
 fn place_of(alloc: Global, machine: &Machine, pom: &PomId) -> Mem<Option<Place>>
     ensures { IfOk result (λ place. place ≡ place_of machine.now pom.now) }
 {
     match pom {
         PomId::Path(path) => {
-            let folder = joined(alloc, path, &Text::from_str(alloc, "..")?)?;
+            let folder = folder_of(alloc, path)?;
             let basedir = basedir_of(alloc, &machine.root, &folder)?;
             Ok(Some(Place { folder, basedir }))
         }
@@ -69,9 +77,9 @@ impl<'a> Judge<'a> {
         ensures { IfOk result (λ judge. Judges judge machine.now defines.now choice.now
             raw.now.pom raw.now.profiles) }
     {
-        let known = Known::of(alloc, defines, machine)?;
         let pom = raw.pom.value();
         let place = place_of(alloc, machine, pom)?;
+        let known = Known::of(alloc, defines, machine)?;
         Ok(Judge {
             machine,
             pom,

@@ -8,7 +8,8 @@ ghost use Rattle.profile_injection.specs.Injection.{inject, inject_base, inject_
 use crate::contents::{gathered_base, gathered_build};
 use keyed_lists::{copies, settled};
 use model_merge::{absorbed, each_settled};
-use model_types::{Build, BuildBase, ModelBase, Plugin, Profile, RawModel};
+use model_types::{Build, BuildBase, Coordinates, ModelBase, Parent, Plugin, Profile, RawModel};
+use mvn_base::PomId;
 use mvn_shared::{List, Mem, Shared};
 use std::alloc::Global;
 
@@ -99,6 +100,90 @@ fn inject_build(alloc: Global, own: &Build, profiles: &[Profile], places: &[usiz
     })
 }
 
+// What a POM has that its profiles leave as it is.
+#[derive(Drop)]
+struct Unchanged {
+    pom: Shared<PomId>,
+    parent: Option<Shared<Parent>>,
+    coordinates: Shared<Coordinates>,
+}
+
+// What a POM has with its profiles, and these.
+#[derive(Drop)]
+struct Injected {
+    base: Shared<ModelBase>,
+    build: Shared<Build>,
+    profiles: Shared<List<Profile>>,
+}
+
+// What the profiles of a POM leave as it is.
+fn unchanged(raw: &RawModel) -> Mem<Unchanged>
+    ensures { IfOk result (λ same. same ≡ (record {
+      pom = raw.now.pom;
+      parent = raw.now.parent;
+      coordinates = raw.now.coordinates;
+    })) }
+{
+    let pom = raw.pom.share()?;
+    let parent = raw.parent.clone()?;
+    let coordinates = raw.coordinates.share()?;
+    Ok(Unchanged {
+        pom,
+        parent,
+        coordinates,
+    })
+}
+
+// What a POM has with its profiles at some places, and all its profiles.
+fn injected(alloc: Global, raw: &RawModel, places: &[usize]) -> Mem<Injected>
+    ensures { IfOk result (λ injected. injected ≡ (record {
+      base = inject_base raw.now.base (profiles_at raw.now.profiles places.now);
+      build = inject_build raw.now.build (profiles_at raw.now.profiles places.now);
+      profiles = raw.now.profiles;
+    })) }
+{
+    let profiles = raw.profiles.as_slice();
+    let kept = raw.profiles.share()?;
+    let base = Shared::new(alloc, inject_base(alloc, &raw.base, profiles, places)?)?;
+    let build = Shared::new(alloc, inject_build(alloc, &raw.build, profiles, places)?)?;
+    Ok(Injected {
+        base,
+        build,
+        profiles: kept,
+    })
+}
+
+// The POM of these parts.
+fn model_of(same: Unchanged, injected: Injected) -> RawModel
+    ensures { result ≡ (record {
+      pom = same.pom;
+      parent = same.parent;
+      coordinates = same.coordinates;
+      base = injected.base;
+      build = injected.build;
+      profiles = injected.profiles;
+    }) }
+{
+    let Unchanged {
+        pom,
+        parent,
+        coordinates,
+    } = same;
+    let Injected {
+        base,
+        build,
+        profiles,
+    } = injected;
+    RawModel {
+        pom,
+        parent,
+        coordinates,
+        base,
+        build,
+        profiles,
+    }
+}
+
 /// A POM with what its profiles at some places have, in the order of these: modules behind its own, entries
 /// at the place of the one of their key or else at the end, and plugins merged as children with the ones of
 /// their names. Costs the lists that are joined, on the average, besides the merging; all else is shared.
@@ -107,19 +192,7 @@ fn inject_build(alloc: Global, own: &Build, profiles: &[Profile], places: &[usiz
 pub fn inject(alloc: Global, raw: &RawModel, places: &[usize]) -> Mem<RawModel>
     ensures { IfOk result (λ model. model ≡ inject raw.now places.now) }
 {
-    let profiles = raw.profiles.as_slice();
-    let pom = raw.pom.share()?;
-    let parent = raw.parent.clone()?;
-    let coordinates = raw.coordinates.share()?;
-    let kept = raw.profiles.share()?;
-    let base = Shared::new(alloc, inject_base(alloc, &raw.base, profiles, places)?)?;
-    let build = Shared::new(alloc, inject_build(alloc, &raw.build, profiles, places)?)?;
-    Ok(RawModel {
-        pom,
-        parent,
-        coordinates,
-        base,
-        build,
-        profiles: kept,
-    })
+    let same = unchanged(raw)?;
+    let injected = injected(alloc, raw, places)?;
+    Ok(model_of(same, injected))
 }

@@ -297,6 +297,36 @@ fn beside(path: &Text, raw: &Shared<RawModel>) -> Mem<Origin>
     Ok(Origin::Beside(path, raw.share()?))
 }
 
+// What a POM comes to as a parent of this origin, where no other was met: kept, or built and then kept.
+fn from_origin<P: PomSource>(
+    alloc: Global,
+    store: &mut Store,
+    source: &mut P,
+    given: &Given,
+    child: &PomId,
+    origin: &Origin,
+) -> Result<Shared<Joined>, BuildFault>
+    ensures says { (world : World) → P.fits_poms source.old world → Holds world given.now store.old
+        → IsAt world origin.now
+        → Says (joined_from world given.now 32 child.now [] origin.now) result }
+    ensures fit { (world : World) → P.fits_poms source.old world → P.fits_poms source.new world }
+    ensures same { TellsOn P.tells_same source.old source.new }
+    ensures holds { (world : World) → P.fits_poms source.old world → Holds world given.now store.old
+        → IsAt world origin.now → Holds world given.now store.new }
+    ensures kept { OnOk result (is_some (line_in store.new origin.now) ≡ true) }
+    ensures unasked { IfSome (line_in store.old origin.now) (λ line.
+        serves 32 [] line ≡ true → source.new ≡ source.old) }
+    ensures keeps { KeepsRead store.old store.new }
+    ensures keeps_lines { KeepsLines store.old store.new }
+    ensures cause { HasCause (P.faults source.old) (P.faults source.new) (build_failed result) }
+{
+    let none = List::new(alloc);
+    match joined_from(alloc, store, source, given, 32, child, &none, origin) {
+        Ok(line) => Ok(line),
+        Err(fault) => Err(fault),
+    }
+}
+
 // What a POM at a path comes to as a parent: kept, or built and then kept.
 #[tactic(auto, using(pom_store::proofs::Joining::at_path, pom_store::proofs::Joining::as_parent, pom_store::proofs::Telling::untold))]
 fn as_parent<P: PomSource>(
@@ -323,8 +353,7 @@ fn as_parent<P: PomSource>(
     ensures cause { HasCause (P.faults source.old) (P.faults source.new) (build_failed result) }
 {
     let origin = beside(path, raw)?;
-    let none = List::new(alloc);
-    match joined_from(alloc, store, source, given, 32, &raw.pom, &none, &origin) {
+    match from_origin(alloc, store, source, given, &raw.pom, &origin) {
         Ok(line) => Ok(line),
         Err(fault) => Err(fault),
     }

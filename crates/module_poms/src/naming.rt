@@ -6,7 +6,7 @@ ghost use Rattle.pom_source.specs.Worlds.{World};
 ghost use Rattle.pom_source.specs.declared.found.Given as givens;
 ghost use Rattle.pom_paths.specs.Paths.{joined};
 ghost use Rattle.pom_store.specs.Stores.{Holds, KeepsLines, KeepsRead};
-ghost use Rattle.module_poms.specs.Discovery.{as_taken, at_either, at_last, taken_up, named, new_at, one_too_many, path_of, read_pom, refuse, root};
+ghost use Rattle.module_poms.specs.Discovery.{as_taken, at_either, at_last, taken_up, named, new_at, one_too_many, path_of, pom_xml, read_pom, refuse, root};
 
 use crate::found::FoundPoms;
 use crate::pom::{Listed, ModulePom};
@@ -202,8 +202,48 @@ fn at_last<P: PomSource>(
     }
 }
 
+// The path of `pom.xml` in the folder at a path.
+fn inside(alloc: Global, path: &Text) -> Mem<Text>
+    ensures { IfOk result (λ inside. inside ≡ joined path.now pom_xml) }
+{
+    let name = Text::from_str(alloc, "pom.xml")?;
+    let inside = joined(alloc, path, &name)?;
+    Ok(inside)
+}
+
+// `pom.xml` in the folder at a path, if one is there that wasn't met.
+#[tactic(auto, using(pom_store::proofs::Telling::untold))]
+fn new_inside<P: PomSource>(
+    alloc: Global,
+    store: &mut Store,
+    source: &mut P,
+    full: bool,
+    listed: &Listed,
+    found: &FoundPoms,
+    path: &Text,
+) -> Result<Option<ModulePom>, BuildFault>
+    ensures says { (world : World) (given : givens.Given) → P.fits_poms source.old world
+        → Holds world given store.old
+        → Says (new_at world (as_taken full listed.now) listed.now found.now
+        (joined path.now pom_xml)) result }
+    ensures none { full ≡ true → IfOk result (λ pom. pom ≡ None) }
+    ensures fit { (world : World) → P.fits_poms source.old world → P.fits_poms source.new world }
+    ensures same { TellsOn P.tells_same source.old source.new }
+    ensures holds { (world : World) (given : givens.Given) → P.fits_poms source.old world
+        → Holds world given store.old → Holds world given store.new }
+    ensures keeps { KeepsRead store.old store.new }
+    ensures keeps_lines { KeepsLines store.old store.new }
+    ensures cause { HasCause (P.faults source.old) (P.faults source.new) (build_failed result) }
+{
+    let path = inside(alloc, path)?;
+    match new_at(alloc, store, source, full, listed, found, &path) {
+        Ok(pom) => Ok(pom),
+        Err(fault) => Err(fault),
+    }
+}
+
 // `pom.xml` in the folder at a path, or else the file.
-#[tactic(auto, using(pom_store::proofs::Telling::untold, pom_store::proofs::Telling::told_both))]
+#[tactic(auto, using(pom_store::proofs::Telling::told_both))]
 fn at_either<P: PomSource>(
     alloc: Global,
     store: &mut Store,
@@ -225,8 +265,7 @@ fn at_either<P: PomSource>(
     ensures keeps_lines { KeepsLines store.old store.new }
     ensures cause { HasCause (P.faults source.old) (P.faults source.new) (build_failed result) }
 {
-    let inside = joined(alloc, path, &Text::from_str(alloc, "pom.xml")?)?;
-    match new_at(alloc, store, source, full, listed, found, &inside)? {
+    match new_inside(alloc, store, source, full, listed, found, path)? {
         Some(pom) => Ok(pom),
         None => match at_last(alloc, store, source, full, listed, found, path) {
             Ok(pom) => Ok(pom),

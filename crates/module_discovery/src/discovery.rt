@@ -77,11 +77,34 @@ fn with_module<P: PomSource>(
     ensures keeps_lines { KeepsLines store.old store.new }
     ensures cause { HasCause (P.faults source.old) (P.faults source.new) (build_failed result) }
 {
-    let pom = named(alloc, store, source, false, listed, &found)?;
-    match with_pom(alloc, store, source, given, found, waiting, pom) {
-        Ok(progress) => Ok(progress),
+    match named(alloc, store, source, false, listed, &found) {
+        Ok(pom) => with_pom(alloc, store, source, given, found, waiting, pom),
         Err(fault) => Err(fault),
     }
+}
+
+// The same of a module that isn't needed afterwards.
+fn with_next<P: PomSource>(
+    alloc: Global,
+    store: &mut Store,
+    source: &mut P,
+    given: &Given,
+    found: FoundPoms,
+    waiting: Waiting,
+    listed: Listed,
+) -> Result<Progress, BuildFault>
+    ensures says { (world : World) → P.fits_poms source.old world → Holds world given.now store.old
+        → Says (with_module world given.now found waiting listed) result }
+    ensures one { IfOk result (λ progress. length progress.found ≡ length found + 1) }
+    ensures fit { (world : World) → P.fits_poms source.old world → P.fits_poms source.new world }
+    ensures same { TellsOn P.tells_same source.old source.new }
+    ensures holds { (world : World) → P.fits_poms source.old world → Holds world given.now store.old
+        → Holds world given.now store.new }
+    ensures keeps { KeepsRead store.old store.new }
+    ensures keeps_lines { KeepsLines store.old store.new }
+    ensures cause { HasCause (P.faults source.old) (P.faults source.new) (build_failed result) }
+{
+    with_module(alloc, store, source, given, found, waiting, &listed)
 }
 
 // What there is if no more POMs may come: a module that waits is one too many.
@@ -140,7 +163,7 @@ fn collected<P: PomSource>(
         let Some((listed, waiting)) = waiting.next() else {
             return Ok(found.into_list());
         };
-        progress = match with_module(alloc, store, source, given, found, waiting, &listed) {
+        progress = match with_next(alloc, store, source, given, found, waiting, listed) {
             Ok(progress) => progress,
             Err(fault) => return Err(fault),
         };

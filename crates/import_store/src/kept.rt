@@ -39,6 +39,21 @@ pub struct BuiltModel {
     pub model: Model,
 }
 
+// What a model manages.
+fn managed_in(model: &Model) -> Mem<Entries>
+    ensures { IfOk result (λ managed. managed ≡ model.now.base.managed) }
+{
+    let managed = model.base.managed.clone()?;
+    Ok(managed)
+}
+
+// The same of a model that isn't needed besides.
+fn managed_of(model: Model) -> Mem<Entries>
+    ensures { IfOk result (λ managed. managed ≡ model.base.managed) }
+{
+    managed_in(&model)
+}
+
 // Lists behind others.
 fn behind(done: List<Entries>, lists: List<Entries>) -> Mem<List<Entries>>
     ensures { IfOk result (λ all. all ≡ done ++ lists) }
@@ -68,8 +83,9 @@ impl Import {
         ensures poms { IfOk result (λ import. (seen : Items ids.PomId)
             → meets import.below.poms seen ≡ (meets built.below.poms seen || is_in pom.now seen)) }
     {
-        let managed = built.model.base.managed.clone()?;
-        let below = built.below.with_own(pom)?;
+        let BuiltModel { below, model } = built;
+        let managed = managed_of(model)?;
+        let below = below.with_own(pom)?;
         Ok(Import { below, managed })
     }
 

@@ -14,3 +14,8 @@ winners_in (Err fault) = Err fault
 
 abbrev pub ResolvesGraph : Libraries → Graph → Result DependencyGraph MediationFault → Type 0
 ResolvesGraph libraries graph result = Resolves libraries graph (winners_in result)
+
+-- the winners that are left, unless the search for them was refused
+abbrev pub left_in : List Winner → Result (Unit {0}) MediationFault → Result (List Winner) MediationFault
+left_in rows (Ok x) = Ok rows
+left_in rows (Err fault) = Err fault

@@ -9,8 +9,8 @@ ghost use Rattle.collector.specs.declared.edge.Edge as edge_rows;
 ghost use Rattle.mediation.specs.declared.winner.Winner as rows;
 ghost use Rattle.library_lookup.specs.Telling.{TellsOn};
 ghost use Rattle.library_lookup.specs.Libraries.{Libraries, declarations, gav_of, graph_of};
-ghost use Rattle.mediation.specs.Rows.{Adds, ArePlaced, IsPicked, IsPrefix, Leads, edges_below, paths_of, place_of, row_of, won_by};
-ghost use Rattle.mediation.specs.Found.{ResolvesGraph};
+ghost use Rattle.mediation.specs.Rows.{Adds, ArePlaced, IsPicked, IsPrefix, Leads, Resolves, edges_below, paths_of, place_of, row_of, won_by};
+ghost use Rattle.mediation.specs.Found.{ResolvesGraph, left_in};
 ghost use Rattle.winner_law.specs.Winners.{Path, longer};
 
 use crate::winner::{Winner, Winners};
@@ -337,6 +337,47 @@ fn with_room<T>(alloc: Global, room: usize) -> Mem<List<T>>
     Ok(List::of(Vec::with_capacity(alloc, room)?))
 }
 
+// Fills what is empty with the winners of a project that declares these edges, with what each of them leads to, and with the places.
+#[tactic(auto, using(library_lookup::proofs::Telling::untold, library_lookup::proofs::Telling::told_both))]
+fn add_levels<L: Lookup>(
+    alloc: Global,
+    lookup: &mut L,
+    managed: &ManagedSet,
+    own: &[Edge],
+    winners: &mut Winners,
+    places: &mut List<usize>,
+    below: &mut List<Shared<List<Edge>>>,
+) -> Result<(), MediationFault>
+    requires winners { winners.old ≡ [] }
+    requires places { places.old ≡ [] }
+    requires below { below.old ≡ [] }
+    ensures resolves { (libraries : Libraries) (direct : logic.List dependencies.Dependency)
+        → own.now ≡ direct_edges direct → L.fits lookup.old libraries
+        → Resolves libraries (graph_of libraries managed.now direct) (left_in winners.new result) }
+    ensures below { OnOk result (below.new ≡ map (edges_below managed.now) winners.new) }
+    ensures placed { OnOk result (ArePlaced winners.new
+        (own.now ++ flat_map (λ edges. edges) below.new) places.new) }
+    ensures same { (libraries : Libraries) → L.fits lookup.old libraries
+        → L.fits lookup.new libraries }
+    ensures alike { TellsOn L.tells_same lookup.old lookup.new }
+    ensures cause { HasCause (L.faults lookup.old) (L.faults lookup.new) (is_faulty result) }
+{
+    match add_edges(alloc, lookup, winners, places, own, None) {
+        Ok(()) => {}
+        Err(fault) => return Err(fault),
+    }
+    let mut from = 0;
+    while from < winners.len() {
+        let to = winners.len();
+        match add_level(alloc, lookup, managed, winners, places, below, from, to) {
+            Ok(()) => {}
+            Err(fault) => return Err(fault),
+        }
+        from = to;
+    }
+    Ok(())
+}
+
 /// The winners of a project's dependency graph, and what is declared in it.
 #[derive(Drop)]
 pub struct DependencyGraph {
@@ -378,37 +419,26 @@ pub fn find_winners<L: Lookup>(
     ensures cause { HasCause (L.faults lookup.old) (L.faults lookup.new) (is_faulty result) }
 {
     let room = room_for(direct.len());
-    let mut winners = Winners::new(alloc, room)?;
-    let mut below = with_room(alloc, room)?;
     let mut places = with_room(alloc, room)?;
+    let mut below = with_room(alloc, room)?;
     let own = direct_edges(alloc, direct)?;
+    let mut winners = Winners::new(alloc, room)?;
     let declared = own.as_slice();
-    match add_edges(alloc, lookup, &mut winners, &mut places, declared, None) {
-        Ok(()) => {}
-        Err(fault) => return Err(fault),
+    match add_levels(
+        alloc,
+        lookup,
+        managed,
+        declared,
+        &mut winners,
+        &mut places,
+        &mut below,
+    ) {
+        Ok(()) => Ok(DependencyGraph {
+            winners,
+            own,
+            below,
+            places,
+        }),
+        Err(fault) => Err(fault),
     }
-    let mut from = 0;
-    while from < winners.len() {
-        let to = winners.len();
-        match add_level(
-            alloc,
-            lookup,
-            managed,
-            &mut winners,
-            &mut places,
-            &mut below,
-            from,
-            to,
-        ) {
-            Ok(()) => {}
-            Err(fault) => return Err(fault),
-        }
-        from = to;
-    }
-    Ok(DependencyGraph {
-        winners,
-        own,
-        below,
-        places,
-    })
 }

@@ -1,5 +1,5 @@
 -- A plan that was made over a repository in memory, and builds that begin over one.
-use Rattle.std.proofs.Common.{◌≡◌, Bool, false, List, [], Some, sym, ap, subst, ◌∙◌}
+use Rattle.std.proofs.Common.{◌≡◌, Bool, false, List, [], Some, Result, IfOk, sym, ap, subst, ◌∙◌}
 use Rattle.std.proofs.lemmas.List.{get_or-map}
 use Rattle.mvn_shared.specs.Files.{Files}
 use Rattle.mvn_outside.specs.Shelf.{files_now}
@@ -25,11 +25,15 @@ there_is : (plan : Plan) (start : Files) → plan.present ≡ present_in start p
 there_is plan start e = λ f low.
     ap (λ (list : List Bool). is_there list f) e ∙ get_or-map (is_present start) plan.files f [] false low
 
--- what is planned over a repository says which of these files are there
-pub knows : (files : Files) (told : ShelfTold) (p : Planned) → told.opening ≡ files → told.publishes ≡ []
-    → KnowsFiles (Some told) p → IsPresent p.plan files
-knows files told p opening none e =
-    subst (λ (start : Files). IsPresent p.plan start) (files_first told files opening none) (there_is p.plan (files_now told) e)
+-- what is planned over a repository says which of its files are there
+pub knows : (told : ShelfTold) (p : Planned) → KnowsFiles (Some told) p → IsPresent p.plan (files_now told)
+knows told p e = there_is p.plan (files_now told) e
+
+-- and so which files of the opening
+pub knows_first : {E : Type 0} (files : Files) (told : ShelfTold) (made : Result Plan E) → told.opening ≡ files → told.publishes ≡ []
+    → IfOk made (λ plan. IsPresent plan (files_now told)) → IfOk made (λ plan. IsPresent plan files)
+knows_first files told made opening none is =
+    subst (λ (start : Files). IfOk made (λ plan. IsPresent plan start)) (files_first told files opening none) is
 
 -- so it can be built over a repository of these files
 pub starts : (files : Files) (plan : Plan) (told : ShelfTold) → told.opening ≡ files → told.publishes ≡ []

@@ -1,7 +1,8 @@
 // The plan of a project over repositories in memory.
-ghost use Rattle.std.specs.Prelude.{◌<◌, ◌^◌, length, Some, IfOk};
+ghost use Rattle.std.specs.Prelude.{◌<◌, ◌≤◌, ◌^◌, length, Some, IfOk};
 ghost use Rattle.event_core.specs.SoundPlans.{IsSoundPlan};
 ghost use Rattle.run_law.specs.Given.{IsPresent};
+ghost use Rattle.mvn_outside.specs.Shelf.{files_now};
 ghost use Rattle.outside_mem.specs.FilesNamed.{files_named};
 ghost use Rattle.outside_mem.specs.Shelf.{shelf_told};
 ghost use Rattle.build_plan.specs.Planning.{IsPlan, KnowsFiles};
@@ -78,7 +79,23 @@ fn install(alloc: Global, workers: u32) -> CommandLine {
     }
 }
 
-// What planning gives.
+// What planning gives on a machine of which nothing is known.
+fn planning(
+    alloc: Global,
+    tree: &mut MemTree<NoFailures>,
+    shelf: &mut MemShelf<NoFailures>,
+    remote: &mut MemRemote<NoFailures>,
+    line: &CommandLine,
+) -> Planning
+    requires workers { (1 ≤ line.now.workers) × (line.now.workers ≤ 16) }
+    ensures made { IfOk result.answer (IsPlan line.now) }
+    ensures present { IfOk result.answer (KnowsFiles (Some (shelf_told shelf.old))) }
+{
+    let given = given(alloc);
+    plan_build(alloc, tree, shelf, remote, &given, line)
+}
+
+// What is planned, where the project isn't refused.
 fn planned(
     alloc: Global,
     tree: &mut MemTree<NoFailures>,
@@ -92,16 +109,36 @@ fn planned(
     if line.workers < 1 || line.workers > 16 {
         return Err(OutOfMemory);
     }
-    let given = given(alloc);
-    let Planning { answer, failed: _ } = plan_build(alloc, tree, shelf, remote, &given, line);
+    let Planning { answer, failed: _ } = planning(alloc, tree, shelf, remote, line);
     match answer {
         Ok(planned) => Ok(planned),
         Err(_) => Err(OutOfMemory),
     }
 }
 
-// The plan of a project for so many workers.
+// The plan of a project for so many workers, over these repositories.
 #[tactic(auto, using(crate::proofs::Planned::is_sound, build_plan::proofs::Few::few_events, build_plan::proofs::Few::few_names, crate::proofs::Planned::knows))]
+fn plan_over(
+    alloc: Global,
+    tree: &mut MemTree<NoFailures>,
+    shelf: &mut MemShelf<NoFailures>,
+    remote: &mut MemRemote<NoFailures>,
+    workers: u32,
+) -> Mem<Plan>
+    ensures sound { IfOk result IsSoundPlan }
+    ensures few { IfOk result (λ plan. plan.events < 2 ^ 32) }
+    ensures names { IfOk result (λ plan. length plan.names < 2 ^ 32) }
+    ensures present { IfOk result (λ plan. IsPresent plan (files_now (shelf_told shelf.old))) }
+{
+    let line = install(alloc, workers);
+    match planned(alloc, tree, shelf, remote, &line) {
+        Ok(planned) => Ok(planned.plan),
+        Err(short) => Err(short),
+    }
+}
+
+// The plan of a project for so many workers.
+#[tactic(auto, using(crate::proofs::Planned::knows_first))]
 fn plan_of(
     alloc: Global,
     tree: &mut MemTree<NoFailures>,
@@ -115,11 +152,7 @@ fn plan_of(
     ensures present { IfOk result (λ plan. IsPresent plan (files_named local.now)) }
 {
     let mut shelf = MemShelf::<NoFailures>::without_failures(alloc, local.clone()?)?;
-    let line = install(alloc, workers);
-    match planned(alloc, tree, &mut shelf, remote, &line) {
-        Ok(planned) => Ok(planned.plan),
-        Err(short) => Err(short),
-    }
+    plan_over(alloc, tree, &mut shelf, remote, workers)
 }
 
 // The same, with the remote repository made from its files.

@@ -1,5 +1,5 @@
 // The report of a build.
-ghost use Rattle.std.specs.Prelude.{◌≡◌, IfOk};
+ghost use Rattle.std.specs.Prelude.{◌≡◌, ◌∷◌, ◌++◌, [], IfOk, OnOk};
 ghost use Rattle.build_core.specs.OneThread.{answer_at};
 ghost use Rattle.run_report.specs.Report.{report_text};
 ghost use Rattle.build_report.specs.Rows.{NamesFiles, row_of, rows, state_row};
@@ -9,9 +9,56 @@ ghost use Rattle.std.specs.Prelude.{true};
 use crate::details::Details;
 use crate::ending::row_end;
 use build_core::{Answered, Plan, PlanModule, State};
+use mvn_base::Gav;
 use mvn_shared::{Bytes, List, Mem};
-use run_report::{ReportRow, report};
+use run_report::{ReportRow, RowEnd, report};
 use std::alloc::Global;
+
+// What a module's row says of the module and of how it ended.
+#[derive(Drop)]
+struct RowHead {
+    gav: Gav,
+    end: RowEnd,
+}
+
+// What a module's row says so.
+fn head_of(
+    alloc: Global,
+    plan: &Plan,
+    module: &PlanModule,
+    answers: &[Answered],
+    number: usize,
+    state: State,
+) -> Mem<RowHead>
+    requires { names_file plan.now state ≡ true }
+    ensures { IfOk result (λ head. head ≡ (record {
+      gav = module.now.gav;
+      end = state_row plan.now module.now (answer_at answers.now number) state;
+    })) }
+{
+    let gav = module.gav.clone()?;
+    let end = row_end(alloc, plan, module, answers, number, state)?;
+    Ok(RowHead { gav, end })
+}
+
+// The row that says so, and what is told of the module besides.
+fn row_with(head: RowHead, details: Details) -> ReportRow
+    ensures { result ≡ (record {
+      gav = head.gav;
+      end = head.end;
+      notes = details.notes;
+      full = details.full;
+    }) }
+{
+    let RowHead { gav, end } = head;
+    let Details { notes, full } = details;
+    ReportRow {
+        gav,
+        end,
+        notes,
+        full,
+    }
+}
 
 // A module's row.
 fn row_of(
@@ -27,19 +74,58 @@ fn row_of(
     ensures { IfOk result (λ row. row ≡ row_of module.now
         (state_row plan.now module.now (answer_at answers.now number) state) details) }
 {
-    let end = row_end(alloc, plan, module, answers, number, state)?;
-    let gav = module.gav.clone()?;
-    let Details { notes, full } = details;
-    Ok(ReportRow {
-        gav,
-        end,
-        notes,
-        full,
-    })
+    let head = head_of(alloc, plan, module, answers, number, state)?;
+    Ok(row_with(head, details))
+}
+
+// A module's row, behind others.
+fn push_row(
+    alloc: Global,
+    list: &mut Vec<ReportRow>,
+    plan: &Plan,
+    module: &PlanModule,
+    answers: &[Answered],
+    number: usize,
+    state: State,
+    details: Details,
+) -> Mem<()>
+    requires { names_file plan.now state ≡ true }
+    ensures { OnOk result (list.new.items ≡ list.old.items ++ row_of module.now
+        (state_row plan.now module.now (answer_at answers.now number) state) details ∷ []) }
+{
+    list.push(row_of(alloc, plan, module, answers, number, state, details)?)?;
+    Ok(())
+}
+
+// The rows of a plan's modules, behind others.
+#[tactic(auto, using(crate::proofs::Rows::rows_step, crate::proofs::Rows::rows_out, crate::proofs::Rows::rows_stop, crate::proofs::Rows::named_at))]
+fn push_rows(
+    alloc: Global,
+    list: &mut Vec<ReportRow>,
+    plan: &Plan,
+    answers: &[Answered],
+    states: &[State],
+    details: List<Details>,
+) -> Mem<()>
+    requires files { NamesFiles plan.now states.now }
+    ensures { OnOk result (list.new.items ≡ list.old.items
+        ++ rows plan.now (answer_at answers.now) 0 details plan.now.modules states.now) }
+{
+    let mut number = 0;
+    for detail in details.into_vec() {
+        let Some(module) = plan.modules.as_slice().get(number) else {
+            return Ok(());
+        };
+        let Some(state) = states.get(number) else {
+            return Ok(());
+        };
+        push_row(alloc, list, plan, module, answers, number, *state, detail)?;
+        number += 1;
+    }
+    Ok(())
 }
 
 // The rows of a plan's modules.
-#[tactic(auto, using(crate::proofs::Rows::rows_step, crate::proofs::Rows::rows_out, crate::proofs::Rows::rows_stop, crate::proofs::Rows::named_at))]
 fn rows_of(
     alloc: Global,
     plan: &Plan,
@@ -52,17 +138,7 @@ fn rows_of(
         ≡ rows plan.now (answer_at answers.now) 0 details plan.now.modules states.now) }
 {
     let mut list = Vec::new(alloc);
-    let mut number = 0;
-    for detail in details.into_vec() {
-        let Some(module) = plan.modules.as_slice().get(number) else {
-            return Ok(list);
-        };
-        let Some(state) = states.get(number) else {
-            return Ok(list);
-        };
-        list.push(row_of(alloc, plan, module, answers, number, *state, detail)?)?;
-        number += 1;
-    }
+    push_rows(alloc, &mut list, plan, answers, states, details)?;
     Ok(list)
 }
 

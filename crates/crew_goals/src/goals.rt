@@ -231,6 +231,68 @@ fn goal_count(task: &Task) -> u32
     small(count)
 }
 
+// Asks all goals in order until one stops them, from a request of the module without outputs. Says how the module ends, if one does.
+fn answer_each<'b, W: Wait, S: Shelf, G: Gate>(
+    alloc: Global,
+    rt: &W,
+    lock: &TurnLock<Board<'b, S>>,
+    pass: &mut Pass<Board<'b, S>>,
+    task: &Task,
+    gate: &mut G,
+    paths: &[PathEntry],
+    request: &mut GoalRequest,
+) -> Option<Ending>
+    requires few { task.now.plan.events < 2 ^ 32 }
+    requires beside { length paths.now ≡ length task.now.unit.entries }
+    requires stands { IsAnswering task.now lock.now paths.now 0 request.old pass.old }
+    ensures left { IsLeft task.now lock.now paths.now (length task.now.unit.goals)
+        request.new result pass.new }
+    ensures way { Goes task.now (G.answers gate.old) pass.old pass.new }
+    ensures same { G.answers gate.new ≡ G.answers gate.old }
+    ensures cause { HasCause (G.faults gate.old) (G.faults gate.new) (stops_by device.Gate result) }
+{
+    let count = goal_count(task);
+    for goal in 0..count {
+        match answer_goal(alloc, rt, lock, pass, task, gate, paths, request, goal) {
+            None => {}
+            Some(ending) => return Some(ending),
+        }
+    }
+    None
+}
+
+// Takes all outputs, and leaves none.
+fn take_own(alloc: Global, own: &mut List<OwnBytes>) -> List<OwnBytes>
+    ensures { result ≡ own.old }
+{
+    mem::replace(own, List::new(alloc))
+}
+
+// The outputs that are kept when all goals are answered, which are taken from the request; or how the module ends, where one stops them.
+fn answer_from<'b, W: Wait, S: Shelf, G: Gate>(
+    alloc: Global,
+    rt: &W,
+    lock: &TurnLock<Board<'b, S>>,
+    pass: &mut Pass<Board<'b, S>>,
+    task: &Task,
+    gate: &mut G,
+    paths: &[PathEntry],
+    request: &mut GoalRequest,
+) -> Result<List<OwnBytes>, Ending>
+    requires few { task.now.plan.events < 2 ^ 32 }
+    requires beside { length paths.now ≡ length task.now.unit.entries }
+    requires stands { IsAnswering task.now lock.now paths.now 0 request.old pass.old }
+    ensures done { IsDone task.now lock.now result pass.new }
+    ensures way { Goes task.now (G.answers gate.old) pass.old pass.new }
+    ensures same { G.answers gate.new ≡ G.answers gate.old }
+    ensures cause { HasCause (G.faults gate.old) (G.faults gate.new) (fails_by device.Gate result) }
+{
+    match answer_each(alloc, rt, lock, pass, task, gate, paths, request) {
+        None => Ok(take_own(alloc, &mut request.own)),
+        Some(ending) => Err(ending),
+    }
+}
+
 // Asks all goals in order until one stops them, from a request of the module without outputs.
 fn answer_all<'b, W: Wait, S: Shelf, G: Gate>(
     alloc: Global,
@@ -250,15 +312,8 @@ fn answer_all<'b, W: Wait, S: Shelf, G: Gate>(
     ensures same { G.answers gate.new ≡ G.answers gate.old }
     ensures cause { HasCause (G.faults gate.old) (G.faults gate.new) (fails_by device.Gate result) }
 {
-    let count = goal_count(task);
     let mut request = request;
-    for goal in 0..count {
-        match answer_goal(alloc, rt, lock, pass, task, gate, paths, &mut request, goal) {
-            None => {}
-            Some(ending) => return Err(ending),
-        }
-    }
-    Ok(request.own)
+    answer_from(alloc, rt, lock, pass, task, gate, paths, &mut request)
 }
 
 // Asks the module's goals, where it has any, in order until one stops them.

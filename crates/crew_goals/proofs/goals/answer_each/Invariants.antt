@@ -1,6 +1,6 @@
 use Rattle.std.specs.Prelude.{◌≡◌, ◌≤◌, length}
 use Rattle.crew_goals.specs.Answering.{Goes, IsAnswering}
-use Rattle.crew_goals.proofs.goals.answer_all.Given as goal
+use Rattle.crew_goals.proofs.goals.answer_each.Given as goal
 
 -- so many goals are answered, all well, and the gate has not failed
 abbrev pub invariant-loop-goal : goal.invariant-loop-goal

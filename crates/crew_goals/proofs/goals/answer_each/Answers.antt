@@ -1,6 +1,7 @@
-use Rattle.std.proofs.Common.{length, ap, arith, ◌∙◌}
+use Rattle.std.proofs.Common.{◌≡◌, length, subst, arith, ◌∙◌}
+use Rattle.crew_goals.specs.Answering.{IsAnswering}
 use Rattle.crew_goals.proofs.Rounds.{goes_further}
-use Rattle.crew_goals.proofs.goals.answer_all.Goals as goal
+use Rattle.crew_goals.proofs.goals.answer_each.Goals as goal
 
 pub goal_count-count-requires : goal.goal_count-count-requires
 goal_count-count-requires g c = record { sound = c.requires.stands.of.sound; few = c.requires.few }
@@ -21,3 +22,11 @@ loop-goal-preserved g c =
       same = c.in-None.ensures.same ∙ c.loop-goal.invariant.same;
       quiet = c.in-None.ensures.cause ∙ c.loop-goal.invariant.quiet;
     }
+
+pub returns-clause-left : goal.returns-clause-left
+returns-clause-left g c =
+    let over = c.loop-goal-test.false in
+    let low = c.loop-goal.invariant.low in
+    let all = c.goal_count-count.ensures in
+    let last : c.loop-goal.goal ≡ length c.args.task.now.unit.goals = omega (arith, over, low, all) in
+    subst (λ n. IsAnswering c.args.task.now c.args.lock.now c.args.paths.now n c.loop-goal.request c.loop-goal.pass) last c.loop-goal.invariant.stands

@@ -102,7 +102,7 @@ fn inject_build(alloc: Global, own: &Build, profiles: &[Profile], places: &[usiz
 
 // What a POM has that its profiles leave as it is.
 #[derive(Drop)]
-struct Unchanged {
+struct OwnParts {
     pom: Shared<PomId>,
     parent: Option<Shared<Parent>>,
     coordinates: Shared<Coordinates>,
@@ -110,14 +110,14 @@ struct Unchanged {
 
 // What a POM has with its profiles, and these.
 #[derive(Drop)]
-struct Injected {
+struct InjectedParts {
     base: Shared<ModelBase>,
     build: Shared<Build>,
     profiles: Shared<List<Profile>>,
 }
 
 // What the profiles of a POM leave as it is.
-fn unchanged(raw: &RawModel) -> Mem<Unchanged>
+fn unchanged(raw: &RawModel) -> Mem<OwnParts>
     ensures { IfOk result (λ same. same ≡ (record {
       pom = raw.now.pom;
       parent = raw.now.parent;
@@ -127,7 +127,7 @@ fn unchanged(raw: &RawModel) -> Mem<Unchanged>
     let pom = raw.pom.share()?;
     let parent = raw.parent.clone()?;
     let coordinates = raw.coordinates.share()?;
-    Ok(Unchanged {
+    Ok(OwnParts {
         pom,
         parent,
         coordinates,
@@ -135,7 +135,7 @@ fn unchanged(raw: &RawModel) -> Mem<Unchanged>
 }
 
 // What a POM has with its profiles at some places, and all its profiles.
-fn injected(alloc: Global, raw: &RawModel, places: &[usize]) -> Mem<Injected>
+fn injected(alloc: Global, raw: &RawModel, places: &[usize]) -> Mem<InjectedParts>
     ensures { IfOk result (λ injected. injected ≡ (record {
       base = inject_base raw.now.base (profiles_at raw.now.profiles places.now);
       build = inject_build raw.now.build (profiles_at raw.now.profiles places.now);
@@ -146,7 +146,7 @@ fn injected(alloc: Global, raw: &RawModel, places: &[usize]) -> Mem<Injected>
     let kept = raw.profiles.share()?;
     let base = Shared::new(alloc, inject_base(alloc, &raw.base, profiles, places)?)?;
     let build = Shared::new(alloc, inject_build(alloc, &raw.build, profiles, places)?)?;
-    Ok(Injected {
+    Ok(InjectedParts {
         base,
         build,
         profiles: kept,
@@ -154,7 +154,7 @@ fn injected(alloc: Global, raw: &RawModel, places: &[usize]) -> Mem<Injected>
 }
 
 // The POM of these parts.
-fn model_of(same: Unchanged, injected: Injected) -> RawModel
+fn model_of(same: OwnParts, injected: InjectedParts) -> RawModel
     ensures { result ≡ (record {
       pom = same.pom;
       parent = same.parent;
@@ -164,12 +164,12 @@ fn model_of(same: Unchanged, injected: Injected) -> RawModel
       profiles = injected.profiles;
     }) }
 {
-    let Unchanged {
+    let OwnParts {
         pom,
         parent,
         coordinates,
     } = same;
-    let Injected {
+    let InjectedParts {
         base,
         build,
         profiles,

@@ -19,7 +19,7 @@ use Rattle.pom_source.specs.declared.found.Given.{Given}
 use Rattle.pom_store.specs.Lineage.{is_in, known_at, next_poms}
 use Rattle.pom_store.specs.Stores.{meets}
 use Rattle.pom_store.proofs.Keeping.{apart_both, apart_first, apart_last, or_left, or_right}
-use Rattle.model_steps.specs.Building.{built}
+use Rattle.module_plugins.specs.Building.{built}
 use Rattle.model_steps.specs.Imports.{import_gav}
 use Rattle.import_store.specs.Effective.{ended, entry, full, imported, imports_from, managed_of, whole}
 use Rattle.import_store.specs.Kept.{AreKept, IsBuilt, IsEntry, IsFound, IsImport, IsRead}

@@ -5,13 +5,13 @@ ghost use Rattle.model_types.specs.declared.dependency.Dependency as entries;
 ghost use Rattle.model_steps.specs.Assembly.{base_of, build_of, completed, gav_of, is_dropped, kept_as, model_of, plugins_as, settled_base, with_scope};
 ghost use Rattle.model_validation.specs.Valid.{has_no_import, is_scoped};
 
-use crate::once::{once, plugins_once};
 use keyed_lists::{Keyed, copies, settled};
 use managed_deps::{ManagedSet, apply, managed};
 use model_types::{
     Build, BuildBase, Coordinates, Dependency, Exclusion, Model, ModelBase, Parent, RawModel,
 };
 use model_validation::{is_scope, text_or_empty};
+use module_plugins::{once, plugins_once};
 use mvn_base::{Gav, Key, PomId};
 use mvn_shared::{List, Mem, Shared, Text};
 use std::alloc::Global;

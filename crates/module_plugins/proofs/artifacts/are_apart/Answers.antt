@@ -1,9 +1,9 @@
 use Rattle.std.proofs.Common.{false}
 use Rattle.std.specs.HashSet.{contains}
 use Rattle.std.specs.Str.{bytes_eq}
-use Rattle.model_steps.specs.Once.{are_new}
-use Rattle.model_steps.proofs.Apart.{turned}
-use Rattle.model_steps.proofs.once.are_apart.Goals as goal
+use Rattle.module_plugins.specs.Once.{are_new}
+use Rattle.module_plugins.proofs.Apart.{turned}
+use Rattle.module_plugins.proofs.artifacts.are_apart.Goals as goal
 
 pub loop-item-preserved : goal.loop-item-preserved
 loop-item-preserved g c =

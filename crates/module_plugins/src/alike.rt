@@ -1,5 +1,5 @@
 ghost use Rattle.std.specs.Prelude.{◌≡◌, drop};
-ghost use Rattle.model_steps.specs.Alike.{are_alike, begins_alike, has_none, is_alike, is_base_alike, is_plain, is_same, is_stated_alike};
+ghost use Rattle.module_plugins.specs.Alike.{are_alike, begins_alike, has_none, is_alike, is_base_alike, is_plain, is_same, is_stated_alike};
 
 use model_types::{BuildBase, Plugin};
 use mvn_shared::{Shared, Text};

@@ -3,7 +3,7 @@ ghost use Rattle.std.specs.HashSet.{contains};
 ghost use Rattle.std.specs.Str.{bytes_eq};
 ghost use Rattle.keyed_lists.specs.Keyed.{settled};
 ghost use Rattle.model_merge.specs.Merging.{settled_plugins};
-ghost use Rattle.model_steps.specs.Once.{are_new};
+ghost use Rattle.module_plugins.specs.Once.{are_new};
 
 use keyed_lists::{Keyed, settled};
 use model_merge::each_settled;
@@ -13,7 +13,7 @@ use std::alloc::Global;
 use std::collections::HashSet;
 
 /// An item whose key names an artifact.
-pub(crate) trait Artifact: Keyed {
+pub trait Artifact: Keyed {
     ghost use Rattle.std.specs.Prelude.{◌≡◌};
 
     /// The artifact of its key.
@@ -59,7 +59,7 @@ fn are_apart<T: Artifact>(alloc: Global, items: &[Shared<T>]) -> Mem<bool>
 /// The items of a list, of equal keys the last one, at the place of the first. Costs a look-up of each artifact, on the average, and
 /// where one stands twice the keys too. Own rule.
 #[tactic(auto, using(crate::proofs::Apart::kept))]
-pub(crate) fn once<T: Artifact>(alloc: Global, items: List<Shared<T>>) -> Mem<List<Shared<T>>>
+pub fn once<T: Artifact>(alloc: Global, items: List<Shared<T>>) -> Mem<List<Shared<T>>>
     ensures { IfOk result (λ list. list ≡ settled T.key_of items) }
 {
     if are_apart(alloc, items.as_slice())? {
@@ -69,7 +69,7 @@ pub(crate) fn once<T: Artifact>(alloc: Global, items: List<Shared<T>>) -> Mem<Li
 }
 
 /// Plugins of which each name has one, each settled. Costs what they have, on the average. Own rule.
-pub(crate) fn plugins_once(alloc: Global, plugins: &[Shared<Plugin>]) -> Mem<List<Shared<Plugin>>>
+pub fn plugins_once(alloc: Global, plugins: &[Shared<Plugin>]) -> Mem<List<Shared<Plugin>>>
     ensures { IfOk result (λ list. list ≡ settled_plugins plugins.now) }
 {
     once(alloc, each_settled(alloc, plugins)?)

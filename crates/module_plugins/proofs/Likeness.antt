@@ -6,7 +6,7 @@ use Rattle.std.proofs.lemmas.List.{drop_all, drop_more}
 use Rattle.std.proofs.lemmas.Slice.Eq.{bytes_eq-Decides}
 use Rattle.model_types.specs.declared.build.BuildBase.{BuildBase}
 use Rattle.model_types.specs.declared.plugin.Plugin.{Plugin}
-use Rattle.model_steps.specs.Alike.{are_alike, begins_alike, has_none, is_alike, is_base_alike, is_plain, is_same, is_stated_alike}
+use Rattle.module_plugins.specs.Alike.{are_alike, begins_alike, has_none, is_alike, is_base_alike, is_plain, is_same, is_stated_alike}
 
 pub and_left : (a b : Bool) → (a && b) ≡ true → a ≡ true
 and_left true b e = refl

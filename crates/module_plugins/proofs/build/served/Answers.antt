@@ -1,6 +1,6 @@
 use Rattle.std.proofs.Common.{sym, ◌∙◌}
-use Rattle.model_steps.proofs.Building.{kept_serves}
-use Rattle.model_steps.proofs.build.served.Goals as goal
+use Rattle.module_plugins.proofs.Building.{kept_serves}
+use Rattle.module_plugins.proofs.build.served.Goals as goal
 
 pub returns : goal.returns
 returns c =

@@ -7,7 +7,7 @@ use Rattle.std.proofs.lemmas.Bool.{false≢true}
 use Rattle.std.proofs.lemmas.Slice.Eq.{bytes_eq-Decides}
 use Rattle.mvn_base.specs.declared.key.Key.{Key}
 use Rattle.keyed_lists.specs.Keyed.{put, same_key, settled}
-use Rattle.model_steps.specs.Once.{are_new}
+use Rattle.module_plugins.specs.Once.{are_new}
 
 text_self : (t : List ℕ) → bytes_eq t t ≡ true
 text_self t = (bytes_eq-Decides t t).1 refl

@@ -1,14 +1,14 @@
 ghost use Rattle.std.specs.Prelude.{◌≡◌, ◌&&◌, Some, false, option_map, IfOk, IfSome};
 ghost use Rattle.std.specs.Str.{bytes_eq};
 ghost use Rattle.pom_source.specs.Answers.{Says, build_failed};
-ghost use Rattle.model_steps.specs.Alike.{is_base_alike};
-ghost use Rattle.model_steps.specs.Building.{bound_base, built, built_by};
+ghost use Rattle.module_plugins.specs.Alike.{is_base_alike};
+ghost use Rattle.module_plugins.specs.Building.{bound_base, built, built_by};
 ghost use Rattle.lifecycle.specs.Bindings.{bindings};
 ghost use Rattle.managed_deps.specs.Managed.{apply_plugins};
 
 use crate::alike::is_base_alike;
+use crate::artifacts::plugins_once;
 use crate::bound::Bound;
-use crate::once::plugins_once;
 use lifecycle::{bind, bindings};
 use managed_deps::apply_plugins;
 use model_types::{BuildBase, Plugin, RawModel};

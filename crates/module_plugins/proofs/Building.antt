@@ -8,9 +8,9 @@ use Rattle.model_types.specs.declared.build.BuildBase.{BuildBase}
 use Rattle.model_types.specs.declared.plugin.Plugin.{Plugin}
 use Rattle.pom_source.specs.Answers.{Built}
 use Rattle.lifecycle.specs.Bindings.{bindings}
-use Rattle.model_steps.specs.Alike.{is_base_alike}
-use Rattle.model_steps.specs.Building.{bound_base, built_by}
-use Rattle.model_steps.proofs.Likeness.{and_left, and_right, base_same}
+use Rattle.module_plugins.specs.Alike.{is_base_alike}
+use Rattle.module_plugins.specs.Building.{bound_base, built_by}
+use Rattle.module_plugins.proofs.Likeness.{and_left, and_right, base_same}
 
 -- what is built for equal things is built for these
 pub bound_so : (packaging p : List ℕ) (base b built it : BuildBase) → p ≡ packaging → b ≡ base → it ≡ built

@@ -1,6 +1,6 @@
 ghost use Rattle.std.specs.Prelude.{◌≡◌, Some, option_map};
 ghost use Rattle.lifecycle.specs.Bindings.{bindings};
-ghost use Rattle.model_steps.specs.Building.{bound_base};
+ghost use Rattle.module_plugins.specs.Building.{bound_base};
 
 use model_types::BuildBase;
 use mvn_shared::{Shared, Text};

@@ -1,9 +1,9 @@
-ghost use Rattle.std.specs.Prelude.{◌≡◌, [], false, true, Ok, IfOk};
+ghost use Rattle.std.specs.Prelude.{◌≡◌, [], ◌∷◌, false, true, Ok, IfErr, IfOk};
 ghost use Rattle.std.specs.List.{list_all, list_any};
 ghost use Rattle.mvn_shared.specs.Cause.{HasCause};
 ghost use Rattle.profile_activation.specs.Judging.{TellsOn};
 ghost use Rattle.managed_deps.specs.Managed.{is_import};
-ghost use Rattle.pom_source.specs.Answers.{Says, build_failed};
+ghost use Rattle.pom_source.specs.Answers.{Fails, Says, build_failed};
 ghost use Rattle.pom_source.specs.Worlds.{World};
 ghost use Rattle.model_types.specs.declared.model.RawModel as models;
 ghost use Rattle.pom_store.specs.Lineage.{is_in, lineage, next_poms};
@@ -18,7 +18,7 @@ use model_steps::{filled, import_gav, is_import, model_of};
 use model_types::{BuildBase, Dependency, Model, RawModel};
 use model_validation::checked;
 use mvn_base::{Gav, PomId, Rule};
-use mvn_shared::{List, Shared};
+use mvn_shared::{List, Mem, Shared};
 use pom_source::{BuildFault, Given, PomSource, gav_refused};
 use pom_store::{Joined, next_poms};
 use std::alloc::Global;
@@ -51,6 +51,28 @@ fn ended(
     let model = model_of(alloc, full, base, imports.as_slice())?;
     match checked(alloc, model) {
         Ok(model) => Ok(model),
+        Err(fault) => Err(fault),
+    }
+}
+
+// A full model of which the imports are known, in all further steps.
+fn with_imports(
+    alloc: Global,
+    model: &RawModel,
+    base: &Shared<BuildBase>,
+    imports: ImportLists,
+) -> Result<BuiltModel, BuildFault>
+    ensures gives { IfOk result (λ built. ended model.now base.now imports.lists ≡ Ok built.model) }
+    ensures fails { IfErr result (Fails (ended model.now base.now imports.lists)) }
+    ensures below { IfOk result (λ built. built.below ≡ imports.below) }
+    ensures lawful { IfOk result (λ built. IsLawful built.model) }
+    ensures cause { build_failed result ≡ false }
+{
+    match ended(alloc, model, base, &imports.lists) {
+        Ok(model) => Ok(BuiltModel {
+            below: imports.below,
+            model,
+        }),
         Err(fault) => Err(fault),
     }
 }
@@ -192,7 +214,7 @@ fn import_read<P: PomSource>(
 
 /// A POM that was read, and what it builds on, in all further steps; `left` POMs more may be built.
 #[cycle(built)]
-#[tactic(auto, using(pom_store::proofs::Telling::told_both, pom_store::proofs::Telling::untold, crate::proofs::Standing::is_built, crate::proofs::Standing::built_fails))]
+#[tactic(auto, using(pom_store::proofs::Telling::untold))]
 pub(crate) fn whole<P: PomSource>(
     alloc: Global,
     store: &mut RunStore,
@@ -216,14 +238,40 @@ pub(crate) fn whole<P: PomSource>(
         → HoldsAll world given.now store.old → HoldsAll world given.now store.new }
     ensures cause { HasCause (P.faults source.old) (P.faults source.new) (build_failed result) }
 {
-    let full = full(alloc, given, joined)?;
-    let base = store.built(alloc, &full)?;
-    let imports = imports(alloc, store, source, given, left, &raw.pom, building, &full)?;
-    match ended(alloc, &full, &base, &imports.lists) {
-        Ok(model) => Ok(BuiltModel {
-            below: imports.below,
-            model,
-        }),
+    let model = full(alloc, given, joined)?;
+    over_full(alloc, store, source, given, left, building, raw, &model)
+}
+
+// The same of a POM that was filled.
+#[cycle(built)]
+#[tactic(auto, using(pom_store::proofs::Telling::told_both, pom_store::proofs::Telling::untold, crate::proofs::Standing::is_built, crate::proofs::Standing::built_fails))]
+fn over_full<P: PomSource>(
+    alloc: Global,
+    store: &mut RunStore,
+    source: &mut P,
+    given: &Given,
+    left: u32,
+    building: &List<PomId>,
+    raw: &Shared<RawModel>,
+    model: &RawModel,
+) -> Result<BuiltModel, BuildFault>
+    ensures says { (world : World) → P.fits_poms source.old world
+        → HoldsAll world given.now store.old → full world given.now raw.now ≡ Ok model.now
+        → OrFails (IsBuilt world given.now raw.now)
+        (whole world given.now (imported world given.now left raw.now.pom building.now) raw.now)
+        result }
+    ensures serves { IfOk result (λ built. serves left building.now built.below ≡ true) }
+    ensures lawful { IfOk result (λ built. IsLawful built.model) }
+    ensures fit { (world : World) → P.fits_poms source.old world → P.fits_poms source.new world }
+    ensures same { TellsOn P.tells_same source.old source.new }
+    ensures holds { (world : World) → P.fits_poms source.old world
+        → HoldsAll world given.now store.old → HoldsAll world given.now store.new }
+    ensures cause { HasCause (P.faults source.old) (P.faults source.new) (build_failed result) }
+{
+    let base = store.built(alloc, model)?;
+    let imports = imports(alloc, store, source, given, left, &raw.pom, building, model)?;
+    match with_imports(alloc, model, &base, imports) {
+        Ok(built) => Ok(built),
         Err(fault) => Err(fault),
     }
 }
@@ -274,6 +322,15 @@ fn imports<P: PomSource>(
     Ok(done)
 }
 
+// The list of the entries of one import.
+fn alone(alloc: Global, import: Shared<Import>) -> Mem<ImportLists>
+    ensures lists { IfOk result (λ imports. imports.lists ≡ import.managed ∷ []) }
+    ensures below { IfOk result (λ imports. imports.below ≡ import.below) }
+{
+    let imports = ImportLists::of_import(alloc, &import)?;
+    Ok(imports)
+}
+
 // The entries that a managed one stands for, if it is an import.
 #[cycle(built)]
 #[tactic(auto, using(pom_store::proofs::Telling::untold, crate::proofs::Standing::no_import, crate::proofs::Standing::one_import))]
@@ -303,5 +360,5 @@ fn entry<P: PomSource>(
     }
     let gav = import_gav(alloc, pom, item)?;
     let import = imported(alloc, store, source, given, left, pom, building, &gav)?;
-    Ok(ImportLists::of_import(alloc, &import)?)
+    Ok(alone(alloc, import)?)
 }

@@ -13,13 +13,16 @@ abbrev pub decreases-fresh : goal.decreases-fresh
 decreases-fresh g l = 8 * l.left
 
 abbrev pub decreases-import_found : goal.decreases-import_found
-decreases-import_found g l = 8 * l.left + 6
+decreases-import_found g l = 8 * l.left + 7
 
 abbrev pub decreases-import_read : goal.decreases-import_read
-decreases-import_read g l = 8 * l.left + 5
+decreases-import_read g l = 8 * l.left + 6
 
 abbrev pub decreases-whole : goal.decreases-whole
-decreases-whole g l = 8 * l.left + 4
+decreases-whole g l = 8 * l.left + 5
+
+abbrev pub decreases-over_full : goal.decreases-over_full
+decreases-over_full g l = 8 * l.left + 4
 
 abbrev pub decreases-imports : goal.decreases-imports
 decreases-imports g l = 8 * l.left + 3

@@ -10,8 +10,8 @@ ghost use Rattle.effective.specs.Absence.{IsAbsentExactly, has_pom};
 ghost use Rattle.pom_store.specs.Lineage.{lineage};
 ghost use Rattle.import_store.specs.Effective.{asked, asked_path, effective, imported, whole};
 
-use crate::imports::whole;
 use import_store::{RunStore, asked_gav, lineage_of};
+use model_imports::whole;
 use model_types::{Model, RawModel};
 use mvn_base::PomId;
 use mvn_shared::{List, Mem, Shared, Text};
@@ -78,7 +78,7 @@ fn asked<P: PomSource>(
 }
 
 // A POM with all that it builds on, in all further steps, where no other is being built.
-#[tactic(auto, using(pom_store::proofs::Telling::untold, crate::proofs::Standing::built_gives))]
+#[tactic(auto, using(pom_store::proofs::Telling::untold, model_imports::proofs::Standing::built_gives))]
 fn from_joined<P: PomSource>(
     alloc: Global,
     store: &mut RunStore,

@@ -3,8 +3,8 @@ use Rattle.profile_activation.specs.Judging.{TellsOn}
 use Rattle.pom_source.specs.Worlds.{World}
 use Rattle.import_store.specs.Kept.{HoldsAll}
 use Rattle.import_store.specs.Serving.{serves}
-use Rattle.effective.proofs.Standing.{OnTheWay}
-use Rattle.effective.proofs.imports.+built.Given as goal
+use Rattle.model_imports.proofs.Standing.{OnTheWay}
+use Rattle.model_imports.proofs.imports.+built.Given as goal
 
 abbrev pub decreases-imported : goal.decreases-imported
 decreases-imported g l = 8 * l.left + 1

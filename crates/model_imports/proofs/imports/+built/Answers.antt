@@ -1,5 +1,5 @@
-use Rattle.effective.proofs.Standing.{is_found}
-use Rattle.effective.proofs.imports.+built.Goals as goal
+use Rattle.model_imports.proofs.Standing.{is_found}
+use Rattle.model_imports.proofs.imports.+built.Goals as goal
 
 pub import_found-returns-in-Ok-import_read-clause-says : goal.import_found-returns-in-Ok-import_read-clause-says
 import_found-returns-in-Ok-import_read-clause-says g t c = λ world fits holds.

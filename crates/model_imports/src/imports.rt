@@ -212,10 +212,12 @@ fn import_read<P: PomSource>(
     Ok(Import::of_model(&raw.pom, model)?)
 }
 
-/// A POM that was read, and what it builds on, in all further steps; `left` POMs more may be built.
+/// A POM that was read, and what it builds on, in all further steps: the POMs that are being built are given, its own among them, and
+/// `left` more may be built. Costs what its imports cost, as far as they aren't kept, and the model, on the average. Maven Model Builder,
+/// "Model building"; the limit is a project rule.
 #[cycle(built)]
 #[tactic(auto, using(pom_store::proofs::Telling::untold))]
-pub(crate) fn whole<P: PomSource>(
+pub fn whole<P: PomSource>(
     alloc: Global,
     store: &mut RunStore,
     source: &mut P,

@@ -20,6 +20,29 @@ use mvn_shared::{List, Shared};
 use pom_source::{BuildFault, Given, PomSource};
 use std::alloc::Global;
 
+// The effective model of a POM.
+fn model_of<P: PomSource>(
+    alloc: Global,
+    store: &mut RunStore,
+    source: &mut P,
+    given: &Given,
+    pom: &PomId,
+) -> Result<Shared<Model>, BuildFault>
+    ensures says { (world : World) → P.fits_poms source.old world → HoldsAll world given.now store.old
+        → Says (effective world given.now pom.now) result }
+    ensures lawful { IfOk result IsLawful }
+    ensures fit { (world : World) → P.fits_poms source.old world → P.fits_poms source.new world }
+    ensures same { TellsOn P.tells_same source.old source.new }
+    ensures holds { (world : World) → P.fits_poms source.old world → HoldsAll world given.now store.old
+        → HoldsAll world given.now store.new }
+    ensures cause { HasCause (P.faults source.old) (P.faults source.new) (build_failed result) }
+{
+    match effective_with(alloc, store, source, given, pom) {
+        Ok(model) => Ok(Shared::new(alloc, model)?),
+        Err(fault) => Err(fault),
+    }
+}
+
 // The effective model of one of the project's POMs.
 #[tactic(auto, using(pom_store::proofs::Telling::untold))]
 fn model_at<P: PomSource>(
@@ -39,8 +62,8 @@ fn model_at<P: PomSource>(
     ensures cause { HasCause (P.faults source.old) (P.faults source.new) (build_failed result) }
 {
     let id = PomId::Path(pom.path.clone()?);
-    match effective_with(alloc, store, source, given, &id) {
-        Ok(model) => Ok(Shared::new(alloc, model)?),
+    match model_of(alloc, store, source, given, &id) {
+        Ok(model) => Ok(model),
         Err(fault) => Err(fault),
     }
 }

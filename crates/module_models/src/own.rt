@@ -5,7 +5,7 @@ ghost use Rattle.import_store.specs.Kept.{HoldsAll};
 ghost use Rattle.model_resolver.specs.Finding.{world_of};
 ghost use Rattle.pom_store.specs.Stores.{Holds};
 ghost use Rattle.pom_source.specs.declared.found.Given as givens;
-ghost use Rattle.project_models.specs.Models.{project_poms};
+ghost use Rattle.module_models.specs.Found.{project_poms};
 
 use import_store::RunStore;
 use model_resolver::ProjectPom;
@@ -31,7 +31,7 @@ fn keep_own(alloc: Global, store: &mut Store, poms: &[ProjectPom]) -> Mem<()>
 /// What the effective models of a project's POMs are built over: what was read by path and which profiles are active there, and each POM
 /// under its coordinates too, so that none which another one names is read or parsed again. It is for the world in which coordinates lead
 /// to the project's POMs first. Costs the path and the coordinates of each POM. Project rule.
-pub(crate) fn own_store(alloc: Global, store: Store, poms: &List<ProjectPom>) -> Mem<RunStore>
+pub fn own_store(alloc: Global, store: Store, poms: &List<ProjectPom>) -> Mem<RunStore>
     ensures { (tree local remote : Files) (given : givens.Given)
         → Holds (world_of [] tree local remote) given store
         → project_poms (world_of [] tree local remote) given ≡ Ok poms.now

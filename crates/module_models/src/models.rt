@@ -9,7 +9,7 @@ ghost use Rattle.pom_source.specs.Worlds.{World};
 ghost use Rattle.import_store.specs.Effective.{effective};
 ghost use Rattle.import_store.specs.Kept.{HoldsAll};
 ghost use Rattle.import_store.specs.Lawful.{IsLawful};
-ghost use Rattle.project_models.specs.Models.{models_of};
+ghost use Rattle.module_models.specs.Found.{models_of};
 
 use effective::effective_with;
 use import_store::RunStore;
@@ -71,7 +71,7 @@ fn model_at<P: PomSource>(
 /// The effective model of each of the project's POMs, in their order, or the first refusal. A parent or an import that several have is
 /// read and built once. Costs what effective models cost. Maven Model Builder, "Model building".
 #[tactic(auto, using(pom_store::proofs::Telling::told_both, crate::proofs::Each::none_yet, crate::proofs::Each::one_more, crate::proofs::Each::one_fails, crate::proofs::Each::all_done, crate::proofs::Each::all_more))]
-pub(crate) fn models_of<P: PomSource>(
+pub fn models_of<P: PomSource>(
     alloc: Global,
     store: &mut RunStore,
     source: &mut P,

@@ -3,9 +3,9 @@ use Rattle.mvn_shared.specs.Files.{Files}
 use Rattle.pom_source.specs.declared.found.Given.{Given}
 use Rattle.pom_store.specs.Stores.{Holds}
 use Rattle.model_resolver.specs.Finding.{world_of}
-use Rattle.project_models.specs.Models.{project_poms}
-use Rattle.project_models.proofs.Leading.{Searched}
-use Rattle.project_models.proofs.own.keep_own.Given as goal
+use Rattle.module_models.specs.Found.{project_poms}
+use Rattle.module_models.proofs.Leading.{Searched}
+use Rattle.module_models.proofs.own.keep_own.Given as goal
 
 abbrev pub invariant-loop-pom : goal.invariant-loop-pom
 invariant-loop-pom l = record {

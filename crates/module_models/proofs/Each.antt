@@ -5,7 +5,7 @@ use Rattle.std.proofs.lemmas.List.{append-nil, append_assoc, drop_all, drop_more
 use Rattle.pom_source.specs.Answers.{Built, Fails, ◌>>=◌}
 use Rattle.pom_source.specs.Chains.{stop_fails}
 use Rattle.pom_source.specs.declared.fault.BuildFault.{BuildFault}
-use Rattle.project_models.specs.Models.{each}
+use Rattle.module_models.specs.Found.{each}
 
 -- all that items have, and one more
 pub all_more : {A : Type 0} (P : A → Type 0) (xs : List A) (x : A) → AllByRecursion P xs → P x → AllByRecursion P (xs ++ x ∷ [])

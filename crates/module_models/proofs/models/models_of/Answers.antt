@@ -8,8 +8,8 @@ use Rattle.pom_store.proofs.Telling.{told_both}
 use Rattle.import_store.specs.Effective.{effective}
 use Rattle.import_store.specs.Lawful.{IsLawful}
 use Rattle.model_resolver.specs.declared.resolver.ProjectPom.{ProjectPom}
-use Rattle.project_models.proofs.Each.{all_done, all_more, count_more, none_left, none_yet, one_more, with_rest}
-use Rattle.project_models.proofs.models.models_of.Goals as goal
+use Rattle.module_models.proofs.Each.{all_done, all_more, count_more, none_left, none_yet, one_more, with_rest}
+use Rattle.module_models.proofs.models.models_of.Goals as goal
 
 pub loop-pom-init : goal.loop-pom-init
 loop-pom-init g c = record {

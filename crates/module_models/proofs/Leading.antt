@@ -25,8 +25,8 @@ use Rattle.import_store.specs.Kept.{HoldsAll}
 use Rattle.import_store.specs.declared.run_store.RunStore.{RunStore}
 use Rattle.model_resolver.specs.Finding.{found_in_project, repository_of, world_of}
 use Rattle.model_resolver.specs.declared.resolver.ProjectPom.{ProjectPom}
-use Rattle.project_models.specs.Models.{project_poms}
-use Rattle.project_models.proofs.Paths.{HasText, agrees, have_texts}
+use Rattle.module_models.specs.Found.{project_poms}
+use Rattle.module_models.proofs.Paths.{HasText, agrees, have_texts}
 
 -- a POM that was read is known as it was read
 some_is : (x y : RawModel) → ◌≡◌ {A = Built (Option RawModel)} (Ok (Some x)) (Ok (Some y)) → x ≡ y

@@ -18,8 +18,8 @@ use Rattle.module_poms.specs.declared.pom.ModulePom.{ModulePom}
 use Rattle.module_discovery.proofs.Projects.{is_project}
 use Rattle.model_resolver.specs.Finding.{project_at, world_of}
 use Rattle.model_resolver.specs.declared.resolver.ProjectPom.{ProjectPom}
-use Rattle.project_models.specs.Models.{found_pom, project_poms, with_own_text, with_text}
-use Rattle.project_models.proofs.Each.{all_both}
+use Rattle.module_models.specs.Found.{found_pom, project_poms, with_own_text, with_text}
+use Rattle.module_models.proofs.Each.{all_both}
 
 -- what a function takes
 abbrev Taken : {A B : Type 0} → (A → B) → Type 0

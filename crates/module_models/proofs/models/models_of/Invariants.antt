@@ -7,9 +7,9 @@ use Rattle.import_store.specs.Effective.{effective}
 use Rattle.import_store.specs.Kept.{HoldsAll}
 use Rattle.import_store.specs.Lawful.{IsLawful}
 use Rattle.model_resolver.specs.declared.resolver.ProjectPom.{ProjectPom}
-use Rattle.project_models.specs.Models.{models_of}
-use Rattle.project_models.proofs.Each.{with_rest}
-use Rattle.project_models.proofs.models.models_of.Given as goal
+use Rattle.module_models.specs.Found.{models_of}
+use Rattle.module_models.proofs.Each.{with_rest}
+use Rattle.module_models.proofs.models.models_of.Given as goal
 
 abbrev pub invariant-loop-pom : goal.invariant-loop-pom
 invariant-loop-pom g l = record {

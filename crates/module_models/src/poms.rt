@@ -5,7 +5,7 @@ ghost use Rattle.profile_activation.specs.Judging.{TellsOn};
 ghost use Rattle.pom_source.specs.Answers.{Says, build_failed};
 ghost use Rattle.pom_source.specs.Worlds.{World};
 ghost use Rattle.pom_store.specs.Stores.{Holds};
-ghost use Rattle.project_models.specs.Models.{project_poms, with_own_text};
+ghost use Rattle.module_models.specs.Found.{project_poms, with_own_text};
 
 use model_resolver::ProjectPom;
 use module_discovery::discover;
@@ -39,7 +39,7 @@ fn found_poms(alloc: Global, modules: List<ModulePom>) -> Mem<List<ProjectPom>>
 /// The POMs of the project in the order of their declaration, each with its coordinates as it says them and with its text, or the first
 /// refusal. Each POM's file is read and parsed once, and what it says stays in the store. Guide to Working with Multiple Modules.
 #[tactic(auto, using(crate::proofs::Paths::poms_found, crate::proofs::Paths::some_poms, crate::proofs::Paths::few_poms))]
-pub(crate) fn project_poms<P: PomSource>(
+pub fn project_poms<P: PomSource>(
     alloc: Global,
     store: &mut Store,
     source: &mut P,

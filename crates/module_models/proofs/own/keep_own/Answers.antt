@@ -1,7 +1,7 @@
 use Rattle.std.proofs.Common.{refl}
 use Rattle.model_resolver.specs.Finding.{world_of}
-use Rattle.project_models.proofs.Leading.{one_searched, own_known}
-use Rattle.project_models.proofs.own.keep_own.Goals as goal
+use Rattle.module_models.proofs.Leading.{one_searched, own_known}
+use Rattle.module_models.proofs.own.keep_own.Goals as goal
 
 pub loop-pom-init : goal.loop-pom-init
 loop-pom-init c = record {

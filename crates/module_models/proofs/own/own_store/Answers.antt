@@ -1,5 +1,5 @@
-use Rattle.project_models.proofs.Leading.{own_held}
-use Rattle.project_models.proofs.own.own_store.Goals as goal
+use Rattle.module_models.proofs.Leading.{own_held}
+use Rattle.module_models.proofs.own.own_store.Goals as goal
 
 pub returns : goal.returns
 returns c = λ tree local remote given held said.

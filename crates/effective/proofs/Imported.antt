@@ -18,7 +18,7 @@ use Rattle.pom_source.specs.declared.found.Given.{Given}
 use Rattle.pom_store.specs.Lineage.{is_in, next_poms, pom_eq}
 use Rattle.pom_store.specs.Reading.{read}
 use Rattle.model_steps.specs.Assembly.{model_of}
-use Rattle.model_steps.specs.Building.{built}
+use Rattle.module_plugins.specs.Building.{built}
 use Rattle.model_steps.specs.Imports.{import_gav}
 use Rattle.model_validation.specs.Validation.{model_problem, unless}
 use Rattle.model_validation.specs.declared.problem.Problem.{Problem}

@@ -1,4 +1,2 @@
 pub mod Imported
-pub mod Importing
 pub mod Presence
-pub mod Standing

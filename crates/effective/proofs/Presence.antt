@@ -36,7 +36,7 @@ use Rattle.pom_store.specs.declared.origin.Origin.{Origin}
 use Rattle.pom_store.specs.declared.origin.Origin.TheVariants.{Beside, Elsewhere}
 use Rattle.pom_store.specs.declared.origin.Candidate.{Candidate}
 use Rattle.pom_store.specs.declared.origin.Candidate.TheVariants as candidates
-use Rattle.model_steps.specs.Building.{built, built_by}
+use Rattle.module_plugins.specs.Building.{built, built_by}
 use Rattle.model_steps.specs.Assembly.{model_of}
 use Rattle.model_steps.specs.Folders.{basedir_in, filled, placed_in}
 use Rattle.model_steps.specs.Imports.{gav_by, import_gav}

@@ -13,7 +13,7 @@ use Rattle.pom_source.specs.Worlds.{World}
 use Rattle.pom_source.specs.declared.found.Given.{Given}
 use Rattle.pom_store.specs.Lineage.{is_in}
 use Rattle.model_steps.specs.Assembly.{model_of}
-use Rattle.model_steps.specs.Building.{built}
+use Rattle.module_plugins.specs.Building.{built}
 use Rattle.model_steps.specs.Imports.{import_gav}
 use Rattle.import_store.specs.Effective.{asked, effective, full}
 

@@ -1,4 +1,4 @@
-ghost use Rattle.std.specs.Prelude.{◌≡◌, [], ◌∷◌, IfOk};
+ghost use Rattle.std.specs.Prelude.{◌≡◌, [], ◌∷◌, Ok, IfOk};
 ghost use Rattle.mvn_shared.specs.Cause.{HasCause};
 ghost use Rattle.profile_activation.specs.Judging.{TellsOn};
 ghost use Rattle.pom_source.specs.Answers.{Says, build_failed};
@@ -7,14 +7,16 @@ ghost use Rattle.pom_source.specs.declared.found.Given as givens;
 ghost use Rattle.import_store.specs.Kept.{HoldsAll};
 ghost use Rattle.import_store.specs.Lawful.{IsLawful};
 ghost use Rattle.effective.specs.Absence.{IsAbsentExactly, has_pom};
-ghost use Rattle.import_store.specs.Effective.{asked, asked_path, effective};
+ghost use Rattle.pom_store.specs.Lineage.{lineage};
+ghost use Rattle.import_store.specs.Effective.{asked, asked_path, effective, imported, whole};
 
-use crate::imports::whole;
 use import_store::{RunStore, asked_gav, lineage_of};
+use model_imports::whole;
 use model_types::{Model, RawModel};
 use mvn_base::PomId;
 use mvn_shared::{List, Mem, Shared, Text};
 use pom_source::{BuildFault, Given, PomSource};
+use pom_store::Joined;
 use poms_by_path::read_at;
 use std::alloc::Global;
 
@@ -75,8 +77,36 @@ fn asked<P: PomSource>(
     }
 }
 
+// A POM with all that it builds on, in all further steps, where no other is being built.
+#[tactic(auto, using(pom_store::proofs::Telling::untold, model_imports::proofs::Standing::built_gives))]
+fn from_joined<P: PomSource>(
+    alloc: Global,
+    store: &mut RunStore,
+    source: &mut P,
+    given: &Given,
+    raw: &Shared<RawModel>,
+    joined: &Joined,
+) -> Result<Model, BuildFault>
+    ensures says { (world : World) → P.fits_poms source.old world → HoldsAll world given.now store.old
+        → lineage world given.now raw.now ≡ Ok joined.now
+        → Says (whole world given.now (imported world given.now 31 raw.now.pom
+        (raw.now.pom ∷ [])) raw.now) result }
+    ensures lawful { IfOk result IsLawful }
+    ensures fit { (world : World) → P.fits_poms source.old world → P.fits_poms source.new world }
+    ensures same { TellsOn P.tells_same source.old source.new }
+    ensures holds { (world : World) → P.fits_poms source.old world → HoldsAll world given.now store.old
+        → HoldsAll world given.now store.new }
+    ensures cause { HasCause (P.faults source.old) (P.faults source.new) (build_failed result) }
+{
+    let building = only(alloc, &raw.pom)?;
+    match whole(alloc, store, source, given, 31, &building, raw, joined) {
+        Ok(built) => Ok(built.model),
+        Err(fault) => Err(fault),
+    }
+}
+
 // The POM that is asked for, in all steps.
-#[tactic(auto, using(pom_store::proofs::Telling::told_both, crate::proofs::Standing::built_gives, import_store::proofs::Asking::whole_stops))]
+#[tactic(auto, using(pom_store::proofs::Telling::told_both, import_store::proofs::Asking::whole_stops))]
 fn modelled<P: PomSource>(
     alloc: Global,
     store: &mut RunStore,
@@ -95,9 +125,8 @@ fn modelled<P: PomSource>(
 {
     let raw = asked(alloc, store, source, pom)?;
     let joined = lineage_of(alloc, store, source, given, pom, &raw)?;
-    let building = only(alloc, &raw.pom)?;
-    match whole(alloc, store, source, given, 31, &building, &raw, &joined) {
-        Ok(built) => Ok(built.model),
+    match from_joined(alloc, store, source, given, &raw, &joined) {
+        Ok(model) => Ok(model),
         Err(fault) => Err(fault),
     }
 }

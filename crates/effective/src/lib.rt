@@ -3,7 +3,6 @@
 #![tactic(auto)]
 
 mod asked;
-mod imports;
 pub mod law;
 
 pub use asked::{effective, effective_with};

@@ -24,7 +24,7 @@ use Rattle.pom_store.specs.Beside.{read_at}
 use Rattle.pom_store.specs.Lineage.{is_in, lineage, next_poms}
 use Rattle.pom_store.specs.Reading.{read}
 use Rattle.model_steps.specs.Assembly.{model_of}
-use Rattle.model_steps.specs.Building.{built}
+use Rattle.module_plugins.specs.Building.{built}
 use Rattle.model_steps.specs.Folders.{filled}
 use Rattle.model_steps.specs.Imports.{import_gav}
 use Rattle.model_validation.specs.Validation.{checked}

@@ -1,7 +1,7 @@
 ghost use Rattle.std.specs.Prelude.{◌≡◌, false, true, Some, IfOk, IfSome, OnErr, OnOk, if◌then◌else◌};
 ghost use Rattle.std.specs.HashMap.{get};
 ghost use Rattle.mvn_base.specs.declared.gav.Gav as gavs;
-ghost use Rattle.model_steps.specs.Building.{built};
+ghost use Rattle.module_plugins.specs.Building.{built};
 ghost use Rattle.pom_source.specs.Answers.{Says, build_failed};
 ghost use Rattle.pom_source.specs.Worlds.{World};
 ghost use Rattle.pom_source.specs.declared.found.Given as givens;
@@ -11,8 +11,8 @@ ghost use Rattle.import_store.specs.Kept.{HoldsAll, IsImport, import_in};
 ghost use Rattle.import_store.specs.Serving.{serves};
 
 use crate::kept::Import;
-use model_steps::{Bound, built};
 use model_types::{BuildBase, RawModel};
+use module_plugins::{Bound, built};
 use mvn_base::{Gav, PomId};
 use mvn_shared::{List, Mem, Shared};
 use pom_source::BuildFault;
@@ -68,7 +68,7 @@ impl RunStore {
         RunStore::over(alloc, Store::new(alloc))
     }
 
-    /// The plugins of a filled model. Costs what `model_steps::built` costs.
+    /// The plugins of a filled model. Costs what `module_plugins::built` costs.
     pub fn built(&mut self, alloc: Global, full: &RawModel) -> Result<Shared<BuildBase>, BuildFault>
         ensures says { Says (built full.now) result }
         ensures holds { (world : World) (given : givens.Given) → HoldsAll world given self.old

@@ -22,7 +22,7 @@ use Rattle.pom_source.specs.Chains.{ok_is}
 use Rattle.pom_source.specs.Worlds.{World}
 use Rattle.pom_source.specs.declared.found.Given.{Given}
 use Rattle.model_steps.specs.Assembly.{completed, is_dropped, kept_as, managed_set, model_of, plugins_as, with_scope}
-use Rattle.model_steps.specs.Building.{bound_base, built, built_by}
+use Rattle.module_plugins.specs.Building.{bound_base, built, built_by}
 use Rattle.import_store.specs.Effective.{effective}
 use Rattle.effective.proofs.Imported.{put_together}
 use Rattle.model_laws.specs.Keys.{IsSettled, each_once, goals_once, has}

@@ -7,7 +7,7 @@ ghost use Rattle.model_types.specs.declared.model.RawModel as models;
 ghost use Rattle.pom_source.specs.Worlds.{World};
 ghost use Rattle.pom_source.specs.declared.found.Given as givens;
 ghost use Rattle.model_steps.specs.Assembly.{model_of};
-ghost use Rattle.model_steps.specs.Building.{built};
+ghost use Rattle.module_plugins.specs.Building.{built};
 ghost use Rattle.import_store.specs.Effective.{effective};
 ghost use Rattle.model_laws.specs.Once.{HasKeysOnce};
 

@@ -1,7 +1,2 @@
-pub mod Building
 pub mod Completed
 pub mod Placing
-pub mod Scoping
-pub mod Likeness
-mod Apart
-mod Declaring

@@ -1,8 +1,5 @@
 pub use Rattle.managed_deps.specs.Managed
 pub use Rattle.pom_source.specs.Answers
-pub mod Alike
 pub mod Assembly
-pub mod Building
 pub mod Folders
 pub mod Imports
-pub mod Once

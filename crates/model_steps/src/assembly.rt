@@ -1,16 +1,18 @@
-ghost use Rattle.std.specs.Prelude.{◌≡◌, Some, filter, map, not, option_map, true, IfOk};
+ghost use Rattle.std.specs.Prelude.{◌≡◌, Some, codes, filter, map, not, option_map, true, IfOk};
 ghost use Rattle.std.specs.List.{list_all};
 ghost use Rattle.model_types.specs.declared.model.Parent as parents;
 ghost use Rattle.model_types.specs.declared.dependency.Dependency as entries;
 ghost use Rattle.model_steps.specs.Assembly.{base_of, build_of, completed, gav_of, is_dropped, kept_as, model_of, plugins_as, settled_base, with_scope};
 ghost use Rattle.model_validation.specs.Valid.{has_no_import, is_scoped};
 
-use crate::once::{once, plugins_once};
-use keyed_lists::{copies, settled};
+use keyed_lists::{Keyed, copies, settled};
 use managed_deps::{ManagedSet, apply, managed};
-use model_types::{Build, BuildBase, Coordinates, Dependency, Model, ModelBase, Parent, RawModel};
+use model_types::{
+    Build, BuildBase, Coordinates, Dependency, Exclusion, Model, ModelBase, Parent, RawModel,
+};
 use model_validation::{is_scope, text_or_empty};
-use mvn_base::{Gav, PomId};
+use module_plugins::{once, plugins_once};
+use mvn_base::{Gav, Key, PomId};
 use mvn_shared::{List, Mem, Shared, Text};
 use std::alloc::Global;
 
@@ -55,18 +57,69 @@ fn kept_as(
     }
 }
 
-// A copy of a dependency with a scope.
-fn scoped(d: &Dependency, scope: Text) -> Mem<Dependency>
-    ensures { IfOk result (λ it. it ≡ record d.now { scope = Some scope }) }
+// What a dependency states beside its key.
+#[derive(Drop)]
+struct Stated {
+    version: Option<Text>,
+    scope: Text,
+    optional: Text,
+    exclusions: List<Exclusion>,
+}
+
+// The exclusions of a dependency.
+fn exclusions_of(d: &Dependency) -> Mem<List<Exclusion>>
+    ensures { IfOk result (λ list. list ≡ d.now.exclusions) }
 {
-    let group = d.group.clone()?;
-    let artifact = d.artifact.clone()?;
+    Ok(d.exclusions.clone()?)
+}
+
+// What a dependency states, with the scope `compile`.
+fn with_compile(alloc: Global, d: &Dependency) -> Mem<Stated>
+    ensures { IfOk result (λ it. it ≡ (record {
+      version = d.now.version;
+      scope = codes "compile";
+      optional = d.now.optional;
+      exclusions = d.now.exclusions;
+    })) }
+{
     let version = d.version.clone()?;
-    let kind = d.kind.clone()?;
-    let classifier = d.classifier.clone()?;
+    let scope = Text::from_str(alloc, "compile")?;
     let optional = d.optional.clone()?;
-    let exclusions = d.exclusions.clone()?;
-    Ok(Dependency {
+    let exclusions = exclusions_of(d)?;
+    Ok(Stated {
+        version,
+        scope,
+        optional,
+        exclusions,
+    })
+}
+
+// A dependency of a key.
+fn declared(key: Key, stated: Stated) -> Dependency
+    ensures { result ≡ (record {
+      group = key.group;
+      artifact = key.artifact;
+      version = stated.version;
+      kind = key.kind;
+      classifier = key.classifier;
+      scope = Some stated.scope;
+      optional = stated.optional;
+      exclusions = stated.exclusions;
+    }) }
+{
+    let Key {
+        group,
+        artifact,
+        kind,
+        classifier,
+    } = key;
+    let Stated {
+        version,
+        scope,
+        optional,
+        exclusions,
+    } = stated;
+    Dependency {
         group,
         artifact,
         version,
@@ -75,7 +128,16 @@ fn scoped(d: &Dependency, scope: Text) -> Mem<Dependency>
         scope: Some(scope),
         optional,
         exclusions,
-    })
+    }
+}
+
+// A copy of a dependency with the scope `compile`.
+fn scoped(alloc: Global, d: &Dependency) -> Mem<Dependency>
+    ensures { IfOk result (λ it. it ≡ record d.now { scope = Some (codes "compile") }) }
+{
+    let key = d.key(alloc)?;
+    let stated = with_compile(alloc, d)?;
+    Ok(declared(key, stated))
 }
 
 // A dependency with the scope `compile`, if it has none.
@@ -84,7 +146,7 @@ fn with_scope(alloc: Global, d: &Shared<Dependency>) -> Mem<Shared<Dependency>>
 {
     match &d.scope {
         Some(_) => d.share(),
-        None => Shared::new(alloc, scoped(d, Text::from_str(alloc, "compile")?)?),
+        None => Shared::new(alloc, scoped(alloc, d)?),
     }
 }
 

@@ -167,6 +167,32 @@ pub(crate) fn copy_of(gav: &Gav) -> Mem<Gav>
     Ok(gav.clone()?)
 }
 
+// A module's coordinates, and its numbers.
+#[derive(Drop)]
+struct Labels {
+    gav: Gav,
+    numbers: Numbers,
+}
+
+fn labels_of(
+    alloc: Global,
+    built: &Places<Gav>,
+    names: &Places<Text>,
+    files: &FileList,
+    ready: &Ready,
+) -> Mem<Labels>
+    requires few_built { length built.now < 4294967296 }
+    requires few_names { length names.now < 4294967296 }
+    requires few_files { length files.now < 4294967296 }
+    ensures gav { IfOk result (λ l. l.gav ≡ ready.now.selected.model.gav) }
+    ensures numbers { IfOk result (λ l.
+        l.numbers ≡ numbers_with built.now names.now files.now ready.now) }
+{
+    let gav = copy_of(&ready.selected.model.gav)?;
+    let numbers = numbers_of(alloc, built, names, files, ready)?;
+    Ok(Labels { gav, numbers })
+}
+
 /// A module of the plan, by the coordinates of all that are built and by the plan's names and files. Costs its names; what it was made
 /// from is moved.
 pub(crate) fn part_of(
@@ -181,7 +207,6 @@ pub(crate) fn part_of(
     requires few_files { length files.now < 4294967296 }
     ensures { IfOk result (λ part. part ≡ part_of built.now names.now files.now ready) }
 {
-    let numbers = numbers_of(alloc, built, names, files, &ready)?;
-    let gav = copy_of(&ready.selected.model.gav)?;
+    let Labels { gav, numbers } = labels_of(alloc, built, names, files, &ready)?;
     Ok(assembled(gav, numbers, ready, built.len()))
 }

@@ -19,6 +19,42 @@ pub struct Ready {
     pub outputs: List<Output>,
 }
 
+// What is made of a module.
+#[derive(Drop)]
+struct Prepared {
+    goals: GoalList,
+    fetch: List<FileName>,
+    locks: List<Text>,
+    outputs: List<Output>,
+}
+
+fn made_of(
+    alloc: Global,
+    phase: Phase,
+    built: &Places<Gav>,
+    selected: &SelectedModule,
+) -> Mem<Prepared>
+    requires names { IsValid selected.now.model.gav }
+    ensures goals { IfOk result (λ p. p.goals ≡ (ready phase built.now selected.now).goals) }
+    ensures fetch { IfOk result (λ p. p.fetch ≡ (ready phase built.now selected.now).fetch) }
+    ensures locks { IfOk result (λ p. p.locks ≡ (ready phase built.now selected.now).locks) }
+    ensures outputs { IfOk result (λ p.
+        p.outputs ≡ (ready phase built.now selected.now).outputs) }
+{
+    let goals = goals(alloc, &selected.model, phase)?;
+    let calls = goals.calls.as_slice();
+    let winners = selected.resolution.winners.as_slice();
+    let fetch = fetched_files(alloc, built, calls, winners)?;
+    let locks = fetched_locks(alloc, built, calls, winners)?;
+    let outputs = outputs(alloc, &selected.model)?;
+    Ok(Prepared {
+        goals,
+        fetch,
+        locks,
+        outputs,
+    })
+}
+
 /// A module made ready. Costs its goals, and the names of its dependencies.
 pub(crate) fn made_ready(
     alloc: Global,
@@ -29,12 +65,12 @@ pub(crate) fn made_ready(
     requires names { IsValid selected.model.gav }
     ensures { IfOk result (λ r. r ≡ ready phase built.now selected) }
 {
-    let goals = goals(alloc, &selected.model, phase)?;
-    let calls = goals.calls.as_slice();
-    let winners = selected.resolution.winners.as_slice();
-    let fetch = fetched_files(alloc, built, calls, winners)?;
-    let locks = fetched_locks(alloc, built, calls, winners)?;
-    let outputs = outputs(alloc, &selected.model)?;
+    let Prepared {
+        goals,
+        fetch,
+        locks,
+        outputs,
+    } = made_of(alloc, phase, built, &selected)?;
     Ok(Ready {
         selected,
         goals,

@@ -2,7 +2,7 @@
 ghost use Rattle.std.specs.Prelude.{◌≡◌, ◌≤◌, length, map, IfOk};
 ghost use Rattle.std.specs.List.{AllByRecursion};
 ghost use Rattle.plan_numbers.specs.Plans.{most_events};
-ghost use Rattle.plan_numbers.specs.Ready.{all_ready_events, ready};
+ghost use Rattle.plan_numbers.specs.Ready.{all_ready_events, ready, ready_files, ready_names};
 ghost use Rattle.plan_files.specs.Uses.{gavs};
 ghost use Rattle.plan_numbers.specs.Whole.{HasGav, numbered_few, numbered_if, numbered_with};
 
@@ -13,7 +13,7 @@ use crate::ready::{Ready, made_ready};
 use crate::tables::{files_of, names_of};
 use mvn_base::{FileName, Gav, Phase};
 use mvn_shared::{List, Mem, Text};
-use plan_files::{Places, SelectedModule};
+use plan_files::{FileList, Places, SelectedModule};
 use std::alloc::Global;
 
 /// The names, the files and the modules of a plan, with what is shown of them.
@@ -54,8 +54,49 @@ fn all_ready(
     Ok(list)
 }
 
-// The names, the files and the modules of the plan of modules that are ready, whose events are counted.
+// The names and the files of modules.
+#[derive(Drop)]
+struct Tables {
+    names: Places<Text>,
+    files: FileList,
+}
+
+fn tables_of(alloc: Global, modules: &[Ready]) -> Mem<Tables>
+    ensures names { IfOk result (λ t. t.names ≡ ready_names modules.now) }
+    ensures files { IfOk result (λ t. t.files ≡ ready_files modules.now) }
+{
+    let files = files_of(alloc, modules)?;
+    let names = Places::of(alloc, names_of(alloc, modules)?)?;
+    Ok(Tables { names, files })
+}
+
+// The numbers of modules with these names and files.
 #[tactic(auto, using(crate::proofs::Joined::put_together, crate::proofs::Counting::few_built, crate::proofs::Counting::few_names, crate::proofs::Counting::few_files))]
+fn numbered_by(
+    alloc: Global,
+    built: &Places<Gav>,
+    tables: Tables,
+    modules: List<Ready>,
+    events: u64,
+) -> Mem<Numbered>
+    requires each { length built.now ≡ length modules }
+    requires few { all_ready_events modules ≤ most_events }
+    requires names { tables.names ≡ ready_names modules }
+    requires files { tables.files ≡ ready_files modules }
+    ensures { IfOk result (λ n. n ≡ numbered_with built.now modules events) }
+{
+    let Tables { names, files } = tables;
+    let parts = parts_of(alloc, built, &names, &files, modules)?;
+    let list = files.into_list(alloc)?;
+    Ok(Numbered {
+        names: names.into_items(),
+        files: list,
+        parts,
+        events,
+    })
+}
+
+// The names, the files and the modules of the plan of modules that are ready, whose events are counted.
 fn numbered_with(
     alloc: Global,
     built: &Places<Gav>,
@@ -66,16 +107,8 @@ fn numbered_with(
     requires few { all_ready_events modules ≤ most_events }
     ensures { IfOk result (λ n. n ≡ numbered_with built.now modules events) }
 {
-    let names = Places::of(alloc, names_of(alloc, modules.as_slice())?)?;
-    let files = files_of(alloc, modules.as_slice())?;
-    let parts = parts_of(alloc, built, &names, &files, modules)?;
-    let list = files.into_list(alloc)?;
-    Ok(Numbered {
-        names: names.into_items(),
-        files: list,
-        parts,
-        events,
-    })
+    let tables = tables_of(alloc, modules.as_slice())?;
+    numbered_by(alloc, built, tables, modules, events)
 }
 
 // So of modules that are ready; nothing if they have too many events.

@@ -1,10 +1,10 @@
 -- What a call gives, by what its parts give.
-use Rattle.std.proofs.Common.{◌≡◌, ◌≤◌, List, [], length, zip, Option, None, Some, Result, Ok, Err, IfOk, sym, ap, subst, ◌∙◌}
+use Rattle.std.proofs.Common.{◌≡◌, ◌≤◌, List, [], length, zip, Option, None, Some, Result, Ok, Err, IfErr, IfOk, sym, ap, subst, ◌∙◌}
 use Rattle.std.specs.List.{AllByRecursion}
 use Rattle.mvn_base.specs.declared.refusal.PomId.TheVariants as ids
 use Rattle.mvn_base.specs.declared.rule.Rule.TheVariants.{DuplicateProject}
 use Rattle.model_types.specs.declared.model.Model.{Model}
-use Rattle.pom_source.specs.Answers.{Built, Says, ◌>>=◌}
+use Rattle.pom_source.specs.Answers.{Built, Fails, Says, ◌>>=◌}
 use Rattle.pom_source.specs.Refusals.{text_refused}
 use Rattle.pom_source.specs.Worlds.{World}
 use Rattle.pom_source.specs.declared.fault.BuildFault.{BuildFault}
@@ -20,35 +20,43 @@ use Rattle.project_models.specs.declared.project.ProjectModels.{ProjectModels}
 use Rattle.project_models.proofs.Apart.{models_apart}
 
 -- what holds of the modules of any project
-pub are_modules : (poms list : List ProjectPom) (models : List Model) (double : Option Double) → length models ≡ length poms → 1 ≤ length poms → length poms ≤ 1024 → AllByRecursion IsLawful models
-    → list ≡ poms → double ≡ first_double [] (zip list models) → double ≡ None → AreModules poms models
-are_modules poms list models double paired any few lawful same is none =
-    record { paired = paired; any = any; few = few; lawful = lawful; apart = models_apart poms models paired (ap (λ l. first_double [] (zip l models)) (sym same) ∙ sym is ∙ none) }
+pub are_modules : (poms list : List ProjectPom) (models : List Model) → length models ≡ length poms → 1 ≤ length poms → length poms ≤ 1024 → AllByRecursion IsLawful models
+    → list ≡ poms → first_double [] (zip list models) ≡ None → AreModules poms models
+are_modules poms list models paired any few lawful same none =
+    record { paired = paired; any = any; few = few; lawful = lawful; apart = models_apart poms models paired (ap (λ l. first_double [] (zip l models)) (sym same) ∙ none) }
 
 -- no double
-pub gives_modules : (poms list : List ProjectPom) (models : List Model) (double : Option Double) → list ≡ poms → double ≡ first_double [] (zip list models) → double ≡ None
+pub gives_modules : (poms list : List ProjectPom) (models : List Model) → list ≡ poms → first_double [] (zip list models) ≡ None
     → single poms models ≡ Ok (record { poms = poms; models = models })
-gives_modules poms list models double same is none =
-    ap (λ d. unless_double d (record { poms = poms; models = models })) (ap (λ l. first_double [] (zip l models)) (sym same) ∙ sym is ∙ none)
+gives_modules poms list models same none =
+    ap (λ d. unless_double d (record { poms = poms; models = models })) (ap (λ l. first_double [] (zip l models)) (sym same) ∙ none)
 
-refusal_gives : (x : BuildFault) (r : Result ProjectModels BuildFault) → Says {A = ProjectModels} (Err x) r → Gives (Err x) r
-refusal_gives x (Ok p) e = cc
-refusal_gives x (Err (Refused y)) e = cc
-refusal_gives x (Err Absent) e = cc
-refusal_gives x (Err Source) e = record {}
-refusal_gives x (Err Memory) e = record {}
+err_is : {A : Type 0} (x y : BuildFault) → ◌≡◌ {A = Built A} (Err x) (Err y) → x ≡ y
+err_is x y e = cc
+
+-- a refusal is one of whatever should be given
+fails_as : (A B : Type 0) (said fault : BuildFault) → Fails {A = A} (Err said) fault → Fails {A = B} (Err said) fault
+fails_as A B said (Refused r) e = ap (λ x. Err x) (err_is said (Refused r) e)
+fails_as A B said Absent e = ap (λ x. Err x) (err_is said Absent e)
+fails_as A B said Source e = record {}
+fails_as A B said Memory e = record {}
 
 -- a refusal gives nothing
-pub refused_none : (x : BuildFault) (r : Result ProjectModels BuildFault) (P : ProjectModels → Type 0) → Says {A = ProjectModels} (Err x) r → IfOk r P
-refused_none x (Ok p) P e = cc
-refused_none x (Err y) P e = tt
+pub refused_none : (A : Type 0) (x : BuildFault) (r : Result A BuildFault) (P : A → Type 0) → Says {A = A} (Err x) r → IfOk r P
+refused_none A x (Ok a) P e = cc
+refused_none A x (Err y) P e = tt
 
 -- a double
-pub gives_double : (poms list : List ProjectPom) (models : List Model) (double : Option Double) (d : Double) (r : Result ProjectModels BuildFault) → list ≡ poms → double ≡ first_double [] (zip list models) → double ≡ Some d
-    → Says {A = ProjectModels} (Err (text_refused (ids.Path d.later) DuplicateProject d.earlier)) r → Gives (single poms models) r
-gives_double poms list models double d r same is there e =
-    let found : Some d ≡ first_double [] (zip poms models) = sym there ∙ is ∙ ap (λ l. first_double [] (zip l models)) same in
-    subst (λ o. Gives (unless_double o (record { poms = poms; models = models })) r) found (refusal_gives (text_refused (ids.Path d.later) DuplicateProject d.earlier) r e)
+pub fails_double : (A : Type 0) (poms : List ProjectPom) (models : List Model) (double : Option Double) (d : Double) (r : Result A BuildFault) → double ≡ first_double [] (zip poms models) → double ≡ Some d
+    → Says {A = A} (Err (text_refused (ids.Path d.later) DuplicateProject d.earlier)) r → IfErr r (Fails (single poms models))
+fails_double A poms models double d (Ok a) is there e = tt
+fails_double A poms models double d (Err fault) is there e =
+    let found : Some d ≡ first_double [] (zip poms models) = sym there ∙ is in
+    subst (λ o. Fails (unless_double o (record { poms = poms; models = models })) fault) found (fails_as A Modules (text_refused (ids.Path d.later) DuplicateProject d.earlier) fault e)
+
+-- what is refused of a list is refused of the same list
+pub fails_listed : (poms list : List ProjectPom) (models : List Model) (fault : BuildFault) → list ≡ poms → Fails (single list models) fault → Fails (single poms models) fault
+fails_listed poms list models fault same fails = subst (λ l. Fails (single l models) fault) same fails
 
 -- a chain goes on where its first step gives something
 pub gives_on : {A : Type 0} (said : Built A) (f : A → Built Modules) (x : A) (r : Result ProjectModels BuildFault) → said ≡ Ok x → Gives (f x) r → Gives (said >>= f) r

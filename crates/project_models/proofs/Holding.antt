@@ -12,7 +12,8 @@ use Rattle.module_discovery.proofs.Projects.{is_project}
 use Rattle.import_store.specs.Effective.{effective}
 use Rattle.model_resolver.specs.Finding.{world_of}
 use Rattle.model_resolver.specs.declared.resolver.ProjectPom.{ProjectPom}
-use Rattle.project_models.specs.Models.{Modules, each, first_double, found_pom, models_of, modules_of, project_models, project_poms, single, unless_double}
+use Rattle.module_models.specs.Found.{each, found_pom, models_of, project_poms}
+use Rattle.project_models.specs.Models.{Modules, first_double, modules_of, project_models, single, unless_double}
 use Rattle.project_models.specs.Projects.{AreEffective, AreOfProject}
 use Rattle.project_models.specs.Projects.AreEffective.{no_pom, one_more}
 use Rattle.project_models.specs.declared.doubles.Double.{Double}

@@ -2,7 +2,7 @@
 -- Reference, "Maven Coordinates". The order of refusals is a project rule.
 --
 -- 1: the POMs of the project. 2: the effective model of each, in the same order. 3: no two of the same coordinates.
-use Rattle.std.specs.Prelude.{◌≡◌, ◌≤◌, ℕ, List, [], ◌∷◌, ◌++◌, find, length, map, unwrap_or, zip, Option, None, Some, option_map, Result, Ok, Err}
+use Rattle.std.specs.Prelude.{◌≡◌, ◌≤◌, ℕ, List, [], ◌∷◌, ◌++◌, find, length, map, zip, Option, None, Some, option_map, Result, Ok, Err}
 use Rattle.std.specs.List.{AllByRecursion, IsDistinct}
 use Rattle.std.specs.Option.{option_or}
 use Rattle.mvn_shared.specs.Files.{Files}
@@ -12,17 +12,13 @@ use Rattle.mvn_base.specs.declared.rule.Rule.TheVariants.{DuplicateProject}
 use Rattle.model_types.specs.declared.model.Model.{Model}
 use Rattle.pom_source.specs.Answers.{Built, Fails, ◌>>=◌}
 use Rattle.pom_source.specs.Refusals.{text_refused}
-use Rattle.pom_source.specs.Worlds.{World}
 use Rattle.pom_source.specs.declared.fault.BuildFault.{BuildFault}
 use Rattle.pom_source.specs.declared.found.Given.{Given}
 use Rattle.mvn_base.specs.Gav.{gav_eq}
-use Rattle.pom_store.specs.Beside.{raw_gav}
-use Rattle.module_poms.specs.Discovery.{discovered}
-use Rattle.module_poms.specs.declared.pom.ModulePom.{ModulePom}
-use Rattle.import_store.specs.Effective.{effective}
 use Rattle.import_store.specs.Lawful.{IsLawful}
 use Rattle.model_resolver.specs.Finding.{world_of}
 use Rattle.model_resolver.specs.declared.resolver.ProjectPom.{ProjectPom}
+use Rattle.module_models.specs.Found.{models_of, project_poms}
 use Rattle.project_models.specs.declared.doubles.Double.{Double}
 use Rattle.project_models.specs.declared.project.ProjectModels.{ProjectModels}
 
@@ -30,29 +26,6 @@ use Rattle.project_models.specs.declared.project.ProjectModels.{ProjectModels}
 pub record Modules : Type 0 where
   pub poms : List ProjectPom
   pub models : List Model
-
--- a value for each item in turn, or the first refusal
-unfoldable pub each : {A B : Type 0} → (A → Built B) → List A → Built (List B)
-each f [] = Ok []
-each f (x ∷ xs) = f x >>= (λ y. each f xs >>= (λ ys. Ok (y ∷ ys)))
-
--- a POM with a text, and with its coordinates as it says them
-abbrev pub with_text : ModulePom → List ℕ → ProjectPom
-with_text m bytes = record { path = m.path; gav = raw_gav m.raw; bytes = bytes }
-
--- a POM that was discovered, with the text of the file at its path
-abbrev pub found_pom : World → ModulePom → ProjectPom
-found_pom world m = with_text m (unwrap_or (world.by_path m.path) [])
-
--- so with the bytes that were discovered with it
-abbrev pub with_own_text : ModulePom → ProjectPom
-with_own_text m = with_text m m.bytes
-
-abbrev pub project_poms : World → Given → Built (List ProjectPom)
-project_poms world given = discovered world given >>= (λ found. Ok (map (found_pom world) found))
-
-abbrev pub models_of : World → Given → List ProjectPom → Built (List Model)
-models_of world given poms = each (λ (p : ProjectPom). effective world given (ids.Path p.path)) poms
 
 -- the path of the first of some modules that has these coordinates
 abbrev pub path_of : List (ProjectPom × Model) → Gav → Option (List ℕ)

@@ -12,7 +12,8 @@ use Rattle.module_poms.specs.declared.pom.ModulePom.{ModulePom}
 use Rattle.import_store.specs.Effective.{effective}
 use Rattle.model_resolver.specs.Finding.{world_of}
 use Rattle.model_resolver.specs.declared.resolver.ProjectPom.{ProjectPom}
-use Rattle.project_models.specs.Models.{Modules, found_pom}
+use Rattle.module_models.specs.Found.{found_pom}
+use Rattle.project_models.specs.Models.{Modules}
 
 -- a model for each POM, which is its effective model
 pub data AreEffective (world : World) (given : Given) : List ProjectPom → List Model → Type 0 where

@@ -3,9 +3,6 @@
 
 mod doubles;
 mod law;
-mod models;
-mod own;
-mod poms;
 mod project;
 mod whole;
 

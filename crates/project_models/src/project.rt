@@ -1,5 +1,5 @@
 // From a project's devices to its modules.
-ghost use Rattle.std.specs.Prelude.{◌≡◌, ◌≤◌, [], Ok, false, length, IfOk};
+ghost use Rattle.std.specs.Prelude.{◌≡◌, ◌≤◌, [], None, Ok, false, length, zip, IfErr, IfOk};
 ghost use Rattle.std.specs.List.{AllByRecursion};
 ghost use Rattle.mvn_shared.specs.Cause.{HasCause};
 ghost use Rattle.import_store.specs.Kept.{HoldsAll};
@@ -7,19 +7,18 @@ ghost use Rattle.import_store.specs.Lawful.{IsLawful};
 ghost use Rattle.model_resolver.specs.Devices.{Counted, IsCounted};
 ghost use Rattle.model_resolver.specs.Finding.{world_of};
 ghost use Rattle.pom_store.specs.Stores.{Holds};
-ghost use Rattle.pom_source.specs.Answers.{Says, build_failed};
+ghost use Rattle.pom_source.specs.Answers.{Fails, Says, build_failed};
 ghost use Rattle.pom_source.specs.Worlds.{World};
-ghost use Rattle.project_models.specs.Models.{AreModules, Gives, models_of, modules_of, project_models, project_poms, single};
+ghost use Rattle.module_models.specs.Found.{models_of, project_poms};
+ghost use Rattle.project_models.specs.Models.{AreModules, Gives, first_double, modules_of, project_models, single};
 ghost use Rattle.project_models.specs.Telling.{IfTold};
 
 use crate::doubles::{first_double, refuse};
-use crate::models::models_of;
-use crate::own::own_store;
-use crate::poms::project_poms;
 use crate::whole::Whole;
 use import_store::RunStore;
 use model_resolver::{Failures, ModelResolver, ProjectPom, ProjectPoms};
 use model_types::Model;
+use module_models::{models_of, own_store, project_poms};
 use mvn_outside::{Remote, Shelf, Tree};
 use mvn_shared::{List, Shared};
 use pom_source::{BuildFault, Given};
@@ -165,8 +164,26 @@ fn find_models<T: Tree, S: Shelf, R: Remote>(
     models
 }
 
+// The refusal of the first module whose coordinates one before it has, if there is one.
+#[tactic(auto, using(crate::proofs::Giving::fails_double))]
+fn refused_double(
+    alloc: Global,
+    poms: &[ProjectPom],
+    models: &List<Shared<Model>>,
+) -> Result<(), BuildFault>
+    ensures none { IfOk result (λ all. first_double [] (zip poms.now models.now) ≡ None) }
+    ensures refused { IfErr result (Fails (single poms.now models.now)) }
+    ensures cause { build_failed result ≡ false }
+{
+    let double = first_double(alloc, poms, models)?;
+    match double {
+        None => Ok(()),
+        Some(double) => refuse(&double),
+    }
+}
+
 // The modules, unless two of them have the same coordinates.
-#[tactic(auto, using(crate::proofs::Giving::are_modules, crate::proofs::Giving::gives_modules, crate::proofs::Giving::gives_double))]
+#[tactic(auto, using(crate::proofs::Giving::are_modules, crate::proofs::Giving::gives_modules, crate::proofs::Giving::fails_listed))]
 fn single(
     alloc: Global,
     poms: List<ProjectPom>,
@@ -184,14 +201,13 @@ fn single(
     ensures cause { build_failed result ≡ false }
 {
     let list = poms.as_slice();
-    let double = first_double(alloc, list, &models)?;
-    match double {
-        None => Ok(ProjectModels {
+    match refused_double(alloc, list, &models) {
+        Ok(()) => Ok(ProjectModels {
             poms,
             models,
             store,
         }),
-        Some(double) => refuse(&double),
+        Err(fault) => Err(fault),
     }
 }
 

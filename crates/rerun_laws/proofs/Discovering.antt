@@ -8,7 +8,7 @@ use Rattle.pom_source.specs.declared.found.Given.{Given}
 use Rattle.module_poms.specs.Discovery.{at_either, begun, collected, discovered, named, new_at, one_too_many, or_at, path_of, pom_xml, read_pom, with_module, with_none, with_pom}
 use Rattle.module_poms.specs.declared.pom.ModulePom.{ModulePom}
 use Rattle.pom_paths.specs.Paths.{joined}
-use Rattle.project_models.specs.Models.{found_pom, project_poms}
+use Rattle.module_models.specs.Found.{found_pom, project_poms}
 
 -- a step after the same, and the same step after another
 first_same : {A B : Type 0} (x y : Built A) (f : A → Built B) → x ≡ y → x >>= f ≡ y >>= f

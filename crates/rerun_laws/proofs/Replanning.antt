@@ -15,7 +15,8 @@ use Rattle.pom_source.specs.Chains.{bound, ok_is}
 use Rattle.pom_source.specs.Refusals.{text_refused}
 use Rattle.pom_source.specs.Worlds.{World}
 use Rattle.pom_source.specs.declared.found.Given.{Given}
-use Rattle.project_models.specs.Models.{Modules, first_double, models_of, modules_of, project_models, project_poms, single, unless_double}
+use Rattle.module_models.specs.Found.{models_of, project_poms}
+use Rattle.project_models.specs.Models.{Modules, first_double, modules_of, project_models, single, unless_double}
 use Rattle.project_models.specs.declared.doubles.Double.{Double}
 use Rattle.project_libraries.specs.Known.{known_at, libraries_of}
 use Rattle.project_libraries.specs.Resolving.{Resolves}

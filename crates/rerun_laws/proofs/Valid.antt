@@ -17,7 +17,7 @@ use Rattle.pom_source.specs.Worlds.{World}
 use Rattle.pom_source.specs.declared.found.Given.{Given}
 use Rattle.model_resolver.specs.declared.resolver.ProjectPom.{ProjectPom}
 use Rattle.model_steps.specs.Assembly.{model_of}
-use Rattle.model_steps.specs.Building.{built}
+use Rattle.module_plugins.specs.Building.{built}
 use Rattle.model_validation.specs.Kinds.{kind_of}
 use Rattle.model_validation.specs.Validation.{checked, gav_problem, is_named, is_soft, model_problem, problem, unless}
 use Rattle.model_validation.specs.declared.kind.VersionKind.{VersionKind}

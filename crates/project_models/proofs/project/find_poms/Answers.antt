@@ -8,7 +8,7 @@ use Rattle.model_resolver.specs.Finding.{world_of}
 use Rattle.model_resolver.specs.declared.resolver.ProjectPom.{ProjectPom}
 use Rattle.model_resolver.proofs.Counting.{counted_none}
 use Rattle.model_resolver.proofs.Finding.{told_fits}
-use Rattle.project_models.specs.Models.{project_poms}
+use Rattle.module_models.specs.Found.{project_poms}
 use Rattle.project_models.proofs.Told.{told_any}
 use Rattle.project_models.proofs.project.find_poms.Goals as goal
 

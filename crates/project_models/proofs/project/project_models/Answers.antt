@@ -6,7 +6,8 @@ use Rattle.import_store.specs.Kept.{HoldsAll}
 use Rattle.model_resolver.specs.Devices.{Counts}
 use Rattle.model_resolver.specs.Finding.{world_of}
 use Rattle.model_resolver.proofs.Counting.{counted_twice}
-use Rattle.project_models.specs.Models.{Gives, modules_of, project_models, project_poms}
+use Rattle.module_models.specs.Found.{project_poms}
+use Rattle.project_models.specs.Models.{Gives, modules_of, project_models}
 use Rattle.project_models.specs.declared.project.ProjectModels.{ProjectModels}
 use Rattle.project_models.proofs.Giving.{gives_on}
 use Rattle.project_models.proofs.Told.{told_any, told_one, told_same, told_two}

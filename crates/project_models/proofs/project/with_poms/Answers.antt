@@ -5,7 +5,8 @@ use Rattle.import_store.specs.Kept.{HoldsAll}
 use Rattle.model_resolver.specs.Devices.{Counts}
 use Rattle.model_resolver.specs.Finding.{world_of}
 use Rattle.model_resolver.proofs.Counting.{counted_none}
-use Rattle.project_models.specs.Models.{Gives, modules_of, project_poms}
+use Rattle.module_models.specs.Found.{project_poms}
+use Rattle.project_models.specs.Models.{Gives, modules_of}
 use Rattle.project_models.specs.declared.project.ProjectModels.{ProjectModels}
 use Rattle.project_models.proofs.Told.{told_any}
 use Rattle.project_models.proofs.project.with_poms.Goals as goal

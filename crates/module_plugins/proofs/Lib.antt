@@ -1,0 +1,4 @@
+pub mod Building
+pub mod Likeness
+mod Apart
+mod Declaring

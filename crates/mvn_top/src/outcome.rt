@@ -112,6 +112,24 @@ fn unknown_module(alloc: Global, place: usize) -> Mem<Outcome>
     word_fault(alloc, WordFault { place, kind })
 }
 
+// What is answered in place of a plan.
+#[tactic(auto, using(crate::proofs::Planned::made_none))]
+fn refused(alloc: Global, fault: &PlanFault, failed: Option<PomDevice>) -> Mem<Outcome>
+    requires failed { is_some failed ≡ plan_failed (Err fault.now) }
+    ensures { IfOk result (λ outcome. IsMadeOf (Err fault.now) failed (Err outcome)) }
+{
+    match fault {
+        PlanFault::Unknown(place) => {
+            let outcome = unknown_module(alloc, *place)?;
+            Ok(outcome)
+        }
+        PlanFault::Build(fault) => {
+            let outcome = unplanned(alloc, fault, failed)?;
+            Ok(outcome)
+        }
+    }
+}
+
 /// The plan that planning gave, or what is answered in its place.
 #[tactic(auto, using(crate::proofs::Planned::made_none))]
 pub(crate) fn answered(alloc: Global, planning: Planning) -> Mem<Result<Planned, Outcome>>
@@ -121,7 +139,6 @@ pub(crate) fn answered(alloc: Global, planning: Planning) -> Mem<Result<Planned,
     let Planning { answer, failed } = planning;
     match answer {
         Ok(planned) => Ok(Ok(planned)),
-        Err(PlanFault::Unknown(place)) => Ok(Err(unknown_module(alloc, place)?)),
-        Err(PlanFault::Build(fault)) => Ok(Err(unplanned(alloc, &fault, failed)?)),
+        Err(fault) => Ok(Err(refused(alloc, &fault, failed)?)),
     }
 }

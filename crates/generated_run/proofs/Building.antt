@@ -34,7 +34,7 @@ use Rattle.crew_outcome.specs.Reports.{Reports}
 use Rattle.crew_outcome.specs.declared.outcome.Outcome.{Outcome}
 use Rattle.mvn_call.specs.Found.{given_of, IsFound, IsFoundBy}
 use Rattle.mvn_call.specs.Headline.{Agrees, World, supply_of, told_of}
-use Rattle.mvn_top.specs.Project.{GivesPlan}
+use Rattle.call_plan.specs.Project.{GivesPlan}
 use Rattle.mvn_call.specs.Seen.{Seen, counts_of, first_remote, with_first}
 use Rattle.mvn_call.proofs.Present.{found_is as plan_found, is_present_told, line_workers}
 use Rattle.mvn_top.proofs.Statuses.{planning_status}

@@ -7,11 +7,12 @@ ghost use Rattle.mvn_call.specs.Seen.{After, OthersStay, Seen};
 ghost use Rattle.generated_run.specs.Whole.{IsGeneratedCall, IsWordsCall};
 
 use crate::run::build_generated;
+use call_plan::asked;
 use cli_words::CommandLine;
 use mvn_base::Machine;
 use mvn_outside::{Gate, Hand, Remote, Shelf, Sink, Tree};
 use mvn_shared::{Bytes, List};
-use mvn_top::{Ended, NO_MEMORY, asked, mvn, write_answer};
+use mvn_top::{Ended, NO_MEMORY, mvn, write_answer};
 use std::alloc::Global;
 use std::sync::Wait;
 use std::thread::Threads;

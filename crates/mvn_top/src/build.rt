@@ -12,9 +12,7 @@ ghost use Rattle.mvn_call.specs.Found.{given_of};
 ghost use Rattle.mvn_call.specs.Headline.{told_of};
 ghost use Rattle.mvn_call.specs.Seen.{OthersStay, with_first};
 
-use crate::command::asked;
-use crate::given::given_of;
-use crate::project::plan_by_first;
+use call_plan::{asked, given_of, plan_by_first};
 use cli_words::CommandLine;
 use crew_outcome::{Call, Outcome, nothing, run_and_report};
 use full_report::details_of;

@@ -7,7 +7,7 @@ use Rattle.model_resolver.specs.Devices.{Counted}
 use Rattle.plan_files.specs.declared.selected.Planned.{Planned}
 use Rattle.crew_outcome.specs.Left.{Outside}
 use Rattle.crew_outcome.specs.declared.outcome.Outcome.{Outcome}
-use Rattle.mvn_top.specs.Project.{GivesPlan}
+use Rattle.call_plan.specs.Project.{GivesPlan}
 use Rattle.mvn_call.specs.Seen.{counts_of, first_remote}
 use Rattle.outside_mem.specs.Shelf.{shelf_told}
 use Rattle.outside_mem.specs.Tree.{tree_files}

@@ -3,10 +3,10 @@ use Rattle.mvn_shared.specs.Files.{Files}
 use Rattle.model_resolver.specs.Devices.{Counted, Counts}
 use Rattle.crew_stages.specs.Hands.{HandState, state_by}
 use Rattle.crew_outcome.specs.Left.{outside_by}
-use Rattle.mvn_top.specs.Project.{GivesPlan}
+use Rattle.call_plan.specs.Project.{GivesPlan}
 use Rattle.mvn_call.specs.Seen.{counts_of}
-use Rattle.mvn_top.proofs.First.{asked_first, first_of, first_set, others_set}
-use Rattle.mvn_top.proofs.project.plan_by_first.Goals as goal
+use Rattle.call_plan.proofs.FirstHand.{asked_first, first_of, first_set, others_set}
+use Rattle.call_plan.proofs.project.plan_by_first.Goals as goal
 
 pub returns-clause-gives : goal.returns-clause-gives
 returns-clause-gives g c =

@@ -3,7 +3,7 @@ ghost use Rattle.std.specs.Prelude.{◌≡◌, ◌≤◌, None, drop, length, ma
 ghost use Rattle.model_resolver.specs.Devices.{Counted};
 ghost use Rattle.crew_stages.specs.Hands.{state_by};
 ghost use Rattle.crew_outcome.specs.Left.{outside_by};
-ghost use Rattle.mvn_top.specs.Project.{GivesPlan};
+ghost use Rattle.call_plan.specs.Project.{GivesPlan};
 ghost use Rattle.mvn_call.specs.Seen.{counts_of, first_remote, IsAskedFirst};
 
 use crate::outcome::answered;

@@ -1,22 +1,17 @@
 -- What planning gives, from what it says and what is made of that.
-use Rattle.std.proofs.Common.{◌≡◌, ℕ, Bool, false, List, Option, Some, None, is_some, Result, Ok, Err, IfOk, ap, ◌∙◌}
+use Rattle.std.proofs.Common.{◌≡◌, false, Option, Some, None, is_some, Result, Ok, Err, IfOk}
 use Rattle.mvn_shared.specs.declared.memory.OutOfMemory.{OutOfMemory}
 use Rattle.mvn_shared.specs.Files.{Files}
 use Rattle.cli_words.specs.declared.command_line.CommandLine.{CommandLine}
 use Rattle.mvn_outside.specs.declared.shelf.ShelfTold.{ShelfTold}
 use Rattle.pom_source.specs.declared.found.Given.{Given}
-use Rattle.model_types.specs.declared.model.Model.{Model}
-use Rattle.classpaths.specs.declared.resolution.Resolution.{Resolution}
-use Rattle.build_report.specs.declared.details.Details.{Details}
-use Rattle.full_report.specs.Details.{details_of}
 use Rattle.model_resolver.specs.declared.failures.PomDevice.{PomDevice}
 use Rattle.plan_files.specs.declared.selected.Planned.{Planned}
 use Rattle.build_plan.specs.declared.planning.PlanFault.{PlanFault}
 use Rattle.build_plan.specs.Planning.{IsPlan, KnowsFiles, NamesWord, Plans}
 use Rattle.crew_outcome.specs.declared.outcome.Outcome.{Outcome}
 use Rattle.mvn_call.specs.Found.{Finds, IfTold}
-use Rattle.mvn_call.specs.Headline.{told_of}
-use Rattle.mvn_top.specs.Project.{GivesPlan, IsMadeOf}
+use Rattle.call_plan.specs.Project.{GivesPlan, IsMadeOf}
 
 -- where no device failed
 pub made_none : (said : Result Planned PlanFault) (failed : Option PomDevice) (found : Result Planned Outcome) → is_some failed ≡ false → Finds said found → IsMadeOf said failed found
@@ -29,9 +24,3 @@ pub gives_plan : (tree : Option Files) (shelf : Option ShelfTold) (remote : Opti
 gives_plan tree shelf remote given line said failed (Err e) told made present word is = tt
 gives_plan tree shelf remote given line said None (Ok found) told made present word is = record { said = said; made = made; present = present; word = word; told = told; finds = is }
 gives_plan tree shelf remote given line said (Some device) (Ok found) told made present word is = is
-
--- what is told of the modules besides
-pub told_by : (full : Bool) (p : Planned) (models : List Model) (resolutions : List Resolution) (unbound : List (List (List ℕ))) (d : List Details) → models ≡ p.models → resolutions ≡ p.resolutions → unbound ≡ p.unbound
-    → d ≡ details_of full models resolutions unbound → d ≡ told_of full p
-told_by full p models resolutions unbound d m r u e =
-    e ∙ ap (λ (models : List Model). details_of full models resolutions unbound) m ∙ ap (λ (resolutions : List Resolution). details_of full p.models resolutions unbound) r ∙ ap (details_of full p.models p.resolutions) u

@@ -5,7 +5,7 @@ ghost use Rattle.pom_source.specs.Answers.{fault_failed};
 ghost use Rattle.build_plan.specs.Planning.{plan_failed};
 ghost use Rattle.build_plan.specs.declared.planning.PlanFault.TheVariants as faults;
 ghost use Rattle.mvn_call.specs.Outcome.{device_name, fault_line, line, refused_by, root_missing, unknown_module, word_fault};
-ghost use Rattle.mvn_top.specs.Project.{IsMadeOf};
+ghost use Rattle.call_plan.specs.Project.{IsMadeOf};
 
 use build_plan::{PlanFault, Planning};
 use cli_words::{WordFault, WordKind};

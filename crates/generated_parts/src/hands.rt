@@ -1,8 +1,8 @@
 // The hands that build the generated project.
 ghost use Rattle.std.specs.Prelude.{◌≡◌, map, replicate, IfOk};
 ghost use Rattle.outside_mem.specs.FilesNamed.{files_named};
-ghost use Rattle.generated_run.specs.Made.{fresh_hand};
-ghost use Rattle.generated_run.specs.States.{state};
+ghost use Rattle.generated_parts.specs.Made.{fresh_hand};
+ghost use Rattle.generated_parts.specs.States.{state};
 
 use gate_builtin::Builtin;
 use mvn_outside::Hand;
@@ -24,7 +24,7 @@ fn made_hand(alloc: Global, files: &List<MemFile>) -> Mem<MemHand>
 }
 
 /// So many hands, each with a copy of the remote repository's files. Costs these.
-pub(crate) fn made_hands(alloc: Global, files: &List<MemFile>, count: u32) -> Mem<Vec<MemHand>>
+pub fn made_hands(alloc: Global, files: &List<MemFile>, count: u32) -> Mem<Vec<MemHand>>
     ensures { IfOk result (λ hands.
         map state hands.items ≡ replicate count (fresh_hand (files_named files.now))) }
 {

@@ -1,6 +1,6 @@
 // How many entries the classpaths of a build have.
 ghost use Rattle.std.specs.Prelude.{◌≡◌, ◌+◌, length, IfOk, OnOk};
-ghost use Rattle.generated_run.specs.Generated.{entries, entries_of};
+ghost use Rattle.generated_parts.specs.EntryCounts.{entries, entries_of};
 
 use classpaths::{Kind, Resolution};
 use mvn_shared::Mem;

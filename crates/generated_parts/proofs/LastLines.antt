@@ -7,7 +7,7 @@ use Rattle.std.specs.Fmt.{decimal, digits, digits_onto, digit_glyph}
 use Rattle.run_report.specs.declared.row.FullPart.{FullPart}
 use Rattle.run_report.specs.declared.row.ReportRow.{ReportRow}
 use Rattle.run_report.specs.Report.{count_of, end_text, full_text, indented, is_built, is_failed, is_skipped, line, report_text, row_text, total_text}
-use Rattle.generated_run.specs.LastLines.{last_line, next}
+use Rattle.generated_parts.specs.LastLines.{last_line, next}
 
 assoc : {A : Type 0} (xs ys zs : List A) → (xs ++ ys) ++ zs ≡ xs ++ (ys ++ zs)
 assoc [] ys zs = refl

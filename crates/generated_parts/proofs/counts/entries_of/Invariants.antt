@@ -1,7 +1,7 @@
 use Rattle.std.proofs.Common.{◌≡◌, ◌+◌, ℕ, drop, fold, length}
 use Rattle.classpaths.specs.declared.resolution.Resolution.{Resolution}
-use Rattle.generated_run.specs.Generated.{entries, entries_of}
-use Rattle.generated_run.proofs.counts.entries_of.Given as goal
+use Rattle.generated_parts.specs.EntryCounts.{entries, entries_of}
+use Rattle.generated_parts.proofs.counts.entries_of.Given as goal
 
 -- those so far, and those of what is left
 abbrev pub invariant-loop-resolution : goal.invariant-loop-resolution

@@ -34,16 +34,18 @@ use Rattle.crew_outcome.specs.Reports.{Reports}
 use Rattle.crew_outcome.specs.declared.outcome.Outcome.{Outcome}
 use Rattle.mvn_call.specs.Found.{given_of, IsFound, IsFoundBy}
 use Rattle.mvn_call.specs.Headline.{Agrees, World, supply_of, told_of}
-use Rattle.mvn_top.specs.Project.{GivesPlan}
+use Rattle.call_plan.specs.Project.{GivesPlan}
 use Rattle.mvn_call.specs.Seen.{Seen, counts_of, first_remote, with_first}
 use Rattle.mvn_call.proofs.Present.{found_is as plan_found, is_present_told, line_workers}
 use Rattle.mvn_top.proofs.Statuses.{planning_status}
 use Rattle.make_project.specs.Summaries.{summary_with}
-use Rattle.generated_run.specs.Generated.{Generates, IsGenerated, IsGeneratedRun, IsNothing, entries_of, outcome, summed}
-use Rattle.generated_run.specs.LastLines.{last_line}
-use Rattle.generated_run.specs.Made.{empty_shelf, fresh_hand, made, project, remote}
-use Rattle.generated_run.specs.SummedUp.{HasNoFaults, IsSummedUp, SumsUp}
-use Rattle.generated_run.proofs.LastLines.{last_is_total}
+use Rattle.generated_run.specs.Generated.{Generates, IsGenerated, IsGeneratedRun, IsNothing, outcome, summed}
+use Rattle.generated_parts.specs.EntryCounts.{entries_of}
+use Rattle.generated_parts.specs.LastLines.{last_line}
+use Rattle.generated_parts.specs.Made.{empty_shelf, fresh_hand, made, project, remote}
+use Rattle.generated_parts.specs.Summary.{IsSummedUp}
+use Rattle.generated_run.specs.SummedUp.{HasNoFaults, SumsUp}
+use Rattle.generated_parts.proofs.LastLines.{last_is_total}
 use Rattle.generated_run.proofs.Lists.{all_first, first_faultless, made_faultless, made_remote, made_tell}
 
 -- ---- nothing has failed

@@ -1,4 +1,3 @@
 pub mod Building
 pub mod Calls
-pub mod LastLines
 pub mod Lists

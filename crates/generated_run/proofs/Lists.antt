@@ -14,8 +14,8 @@ use Rattle.outside_mem.specs.declared.calls.NoFailures.{NoFailures}
 use Rattle.outside_mem.specs.declared.remote.MemRemote.{MemRemote}
 use Rattle.outside_mem.specs.declared.shelf.MemShelf.{MemShelf}
 use Rattle.mvn_call.specs.Seen.{IsAskedFirst, first_remote, with_first}
-use Rattle.generated_run.specs.Made.{empty_shelf, fresh_hand, made, remote}
-use Rattle.generated_run.specs.States.{outside, state}
+use Rattle.generated_parts.specs.Made.{empty_shelf, fresh_hand, made, remote}
+use Rattle.generated_parts.specs.States.{outside, state}
 use Rattle.generated_run.specs.SummedUp.{HasNoFaults, IsFaultless}
 
 abbrev told_some : ShelfTold → Option ShelfTold

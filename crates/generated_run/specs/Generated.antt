@@ -1,6 +1,6 @@
 -- What is answered of a build of the generated project. Project rules; Guide to Working with Multiple Modules, for the build by one hand that
 -- it is measured by.
-use Rattle.std.specs.Prelude.{◌≡◌, ◌<◌, ◌≤◌, ◌⊎◌, ℕ, false, List, [], length, sum_by, Result, Ok, Err, IfOk}
+use Rattle.std.specs.Prelude.{◌≡◌, ◌<◌, ◌≤◌, ◌⊎◌, ℕ, false, List, [], length, Result, Ok, Err, IfOk}
 use Rattle.std.specs.FinMap as finite
 use Rattle.mvn_shared.specs.declared.memory.OutOfMemory.{OutOfMemory}
 use Rattle.mvn_base.specs.declared.machine.Machine.{Machine}
@@ -8,9 +8,6 @@ use Rattle.build_core.specs.OneThread.{one_thread}
 use Rattle.build_core.specs.declared.event.Answered.{Answered}
 use Rattle.build_core.specs.declared.event.Event.{Event}
 use Rattle.build_report.specs.Rows.{rows, states_status}
-use Rattle.classpaths.specs.Classpaths.{classpath}
-use Rattle.classpaths.specs.declared.classpath.Kind.TheVariants as kinds
-use Rattle.classpaths.specs.declared.resolution.Resolution.{Resolution}
 use Rattle.cli_words.specs.declared.command_line.CommandLine.{CommandLine}
 use Rattle.event_core.specs.declared.entry.RunEntry.{RunEntry}
 use Rattle.plan_files.specs.declared.selected.Planned.{Planned}
@@ -19,16 +16,10 @@ use Rattle.crew_outcome.specs.declared.outcome.Outcome.{Outcome}
 use Rattle.mvn_call.specs.Found.{IsFound}
 use Rattle.mvn_call.specs.Headline.{Agrees, World, files_after, supply_of, told_of}
 use Rattle.make_project.specs.Summaries.{summary_text}
-use Rattle.generated_run.specs.Made.{made, project, remote}
+use Rattle.generated_parts.specs.EntryCounts.{entries_of}
+use Rattle.generated_parts.specs.Made.{made, project, remote}
 
 -- ---- the outcome, as that of the build by one hand
-
--- the entries of a module's classpath for tests, and of all modules' together
-abbrev pub entries : Resolution → ℕ
-entries resolution = length (classpath kinds.Test resolution.winners)
-
-abbrev pub entries_of : List Resolution → ℕ
-entries_of resolutions = sum_by entries resolutions
 
 -- the summary of a plan's build by one hand, and its status
 abbrev pub summed : (poms : ℕ) → World → Planned → Outcome

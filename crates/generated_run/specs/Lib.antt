@@ -2,8 +2,5 @@ pub use Rattle.mvn_call.specs.Headline
 pub use Rattle.make_project.specs.Projects
 pub use Rattle.make_project.specs.Summaries
 pub mod Generated
-pub mod LastLines
-pub mod Made
-pub mod States
 pub mod SummedUp
 pub mod Whole

@@ -1,5 +1,5 @@
 -- A build of a plan over objects in memory, and its summary. Project rule.
-use Rattle.std.specs.Prelude.{◌≡◌, ℕ, false, List, length, Some, Result, Ok, Err, IfOk}
+use Rattle.std.specs.Prelude.{◌≡◌, ℕ, false, List, length, Some, Result, IfOk}
 use Rattle.std.specs.FinMap as finite
 use Rattle.mvn_shared.specs.declared.memory.OutOfMemory.{OutOfMemory}
 use Rattle.mvn_outside.specs.Shelf.{files_now}
@@ -14,14 +14,7 @@ use Rattle.outcome_laws.specs.Crews.{hand_of}
 use Rattle.plan_files.specs.declared.selected.Planned.{Planned}
 use Rattle.mvn_call.specs.Headline.{told_of}
 use Rattle.mvn_call.specs.Seen.{with_first}
-use Rattle.make_project.specs.Summaries.{summary_with}
-use Rattle.generated_run.specs.Generated.{entries_of}
-use Rattle.generated_run.specs.LastLines.{last_line}
-
--- the summary of a report, whose last line is the line of totals
-abbrev pub IsSummedUp : (poms : ℕ) → Planned → (files : ℕ) → (report : Result Outcome OutOfMemory) → Outcome → Type 0
-IsSummedUp poms p files (Ok report) answer = answer ≡ record report { text = summary_with poms (last_line report.text) (entries_of p.resolutions) files }
-IsSummedUp poms p files (Err error) answer = ⊥
+use Rattle.generated_parts.specs.Summary.{IsSummedUp}
 
 -- no device of a hand has failed, and none at all
 pub record IsFaultless (hand : HandState) : Type 0 where

@@ -2,12 +2,8 @@
 //! rules.
 #![tactic(auto)]
 
-mod counts;
-mod hands;
 mod run;
-mod summing;
 mod words;
 
-pub use hands::MemHand;
 pub use run::{GeneratedCall, build_generated};
 pub use words::run_words;

@@ -8,20 +8,19 @@ ghost use Rattle.outside_mem.specs.Shelf.{shelf_told};
 ghost use Rattle.outside_mem.specs.Tree.{tree_files};
 ghost use Rattle.run_law.specs.Given.{IsPresent};
 ghost use Rattle.generated_run.specs.Generated.{Generates};
-ghost use Rattle.generated_run.specs.Made.{empty_shelf, fresh_hand, project, remote};
-ghost use Rattle.generated_run.specs.States.{outside, state};
-ghost use Rattle.generated_run.specs.SummedUp.{IsSummedUp, SumsUp};
+ghost use Rattle.generated_parts.specs.Made.{empty_shelf, fresh_hand, project, remote};
+ghost use Rattle.generated_parts.specs.States.{outside, state};
+ghost use Rattle.generated_run.specs.SummedUp.{SumsUp};
 
-use crate::counts::entries_of;
-use crate::hands::{MemHand, made_hands};
-use crate::summing::summed;
 use build_core::{Answered, Event};
+use call_plan::{given_of, plan_by_first};
 use cli_words::CommandLine;
 use crew_outcome::Outcome;
+use generated_parts::{MemHand, made_hands, summary_of};
 use make_project::{Project, generated};
 use mvn_base::Machine;
 use mvn_shared::{List, Mem};
-use mvn_top::{build_by_first, given_of, plan_by_first};
+use mvn_top::build_by_first;
 use outside_mem::{MemFile, MemShelf, MemTree, NoFailures};
 use plan_files::Planned;
 use pom_source::Given;
@@ -47,23 +46,6 @@ fn unbuilt(alloc: Global, outcome: Mem<Outcome>) -> GeneratedCall
         outcome,
         trace: List::new(alloc),
         answers: List::new(alloc),
-    }
-}
-
-// The summary of a build with this report.
-fn summary_of(
-    alloc: Global,
-    poms: u32,
-    planned: &Planned,
-    report: &Mem<Outcome>,
-    files: u64,
-) -> Mem<Outcome>
-    ensures summed { IfOk result (IsSummedUp poms planned.now files report.now) }
-{
-    let entries = entries_of(alloc, planned.resolutions.as_slice())?;
-    match report {
-        Ok(report) => summed(alloc, poms, report, entries, files),
-        Err(error) => Err(*error),
     }
 }
 

@@ -1,5 +1,5 @@
 // From words to what is written.
-ghost use Rattle.std.specs.Prelude.{◌≡◌, ◌≤◌, length};
+ghost use Rattle.std.specs.Prelude.{◌≡◌, ◌≤◌, length, Ok};
 ghost use Rattle.crew_stages.specs.Hands.{state_by};
 ghost use Rattle.crew_outcome.specs.Left.{outside_by};
 ghost use Rattle.mvn_call.specs.Commands.{asked};
@@ -7,11 +7,12 @@ ghost use Rattle.mvn_call.specs.Seen.{After, OthersStay, Seen};
 ghost use Rattle.generated_run.specs.Whole.{IsGeneratedCall, IsWordsCall};
 
 use crate::run::build_generated;
+use call_plan::asked;
 use cli_words::CommandLine;
 use mvn_base::Machine;
 use mvn_outside::{Gate, Hand, Remote, Shelf, Sink, Tree};
 use mvn_shared::{Bytes, List};
-use mvn_top::{Ended, NO_MEMORY, asked, mvn, write_answer};
+use mvn_top::{Ended, NO_MEMORY, mvn, write_answer};
 use std::alloc::Global;
 use std::sync::Wait;
 use std::thread::Threads;
@@ -45,6 +46,61 @@ fn write_generated<W: Threads + Wait + Sync, S: Shelf, O: Sink>(
         shelf,
         trace: call.trace,
         answers: call.answers,
+    }
+}
+
+// Runs words that ask for this, as `run_words` does.
+fn run_line<
+    W: Threads + Wait + Sync,
+    T: Tree,
+    R: Remote + Send,
+    S: Shelf + Send,
+    G: Gate + Send,
+    O: Sink,
+>(
+    rt: &W,
+    alloc: Global,
+    words: &[Bytes],
+    line: &CommandLine,
+    machine: Machine,
+    tree: &mut T,
+    shelf: S,
+    hands: &mut [Hand<R, S::Area, G>],
+    out: &mut O,
+) -> Ended<S>
+where
+    S::Area: Send,
+    requires some_hand { 1 ≤ length hands.old }
+    requires most_hands { length hands.old ≤ 16 }
+    requires line { Ok line.now ≡ asked words.now (length hands.old) }
+    requires workers { (1 ≤ line.now.workers) × (line.now.workers ≤ 16) }
+    ensures call { IsWordsCall (asked words.now (length hands.old))
+        (record {
+          tree = T.files tree.old;
+          faults = T.faults tree.old;
+          machine = machine;
+          outside = outside_by S.told S.faults (state_by R.files R.faults S.Area.contents
+              S.Area.faults S.Area.pieces G.answers G.faults) shelf hands.old;
+        })
+        (record {
+          faults = T.faults tree.new;
+          outside = outside_by S.told S.faults (state_by R.files R.faults S.Area.contents
+              S.Area.faults S.Area.pieces G.answers G.faults) result.shelf hands.new;
+        })
+        result.trace result.answers
+        (record {
+          status = result.status;
+          before = O.written out.old;
+          now = O.written out.new;
+          faults = O.faults out.old;
+          count = O.faults out.new;
+        }) }
+    ensures hands { OthersStay (asked words.now (length hands.old)) hands.old hands.new }
+{
+    let generated = line.generated;
+    match generated {
+        Some(poms) => write_generated(rt, alloc, poms, line, machine, shelf, out),
+        None => mvn(rt, alloc, words, machine, tree, shelf, hands, out),
     }
 }
 
@@ -97,13 +153,7 @@ where
 {
     let answer = asked(alloc, words, hands.len() as u32);
     match answer {
-        Ok(Ok(line)) => {
-            let generated = line.generated;
-            match generated {
-                Some(poms) => write_generated(rt, alloc, poms, &line, machine, shelf, out),
-                None => mvn(rt, alloc, words, machine, tree, shelf, hands, out),
-            }
-        }
+        Ok(Ok(line)) => run_line(rt, alloc, words, &line, machine, tree, shelf, hands, out),
         Ok(Err(_)) => mvn(rt, alloc, words, machine, tree, shelf, hands, out),
         Err(_) => Ended {
             status: NO_MEMORY,

@@ -22,7 +22,7 @@ use Rattle.mvn_top.specs.Calls.{Calls}
 use Rattle.mvn_call.specs.Found.{given_of, IsFoundBy}
 use Rattle.mvn_call.specs.Headline.{IsFoundIn, told_of}
 use Rattle.mvn_call.specs.Outcome.{fault_line}
-use Rattle.mvn_top.specs.Project.{GivesPlan}
+use Rattle.call_plan.specs.Project.{GivesPlan}
 use Rattle.mvn_call.specs.Seen.{After, IsAskedFirst, OthersStay, Seen, counts_of, first_remote, used, with_first}
 use Rattle.mvn_top.proofs.Calling.{calls_build, calls_device, calls_planning}
 use Rattle.mvn_top.proofs.First.{asked_same, asked_tells, drop_more, outside_same}

@@ -1,5 +1,5 @@
 -- The hands that a call uses, and the others.
-use Rattle.std.proofs.Common.{◌≡◌, ◌<◌, ◌≤◌, ℕ, zero, suc, List, [], ◌∷◌, ◌++◌, length, map, take, drop, get_or, set, Option, refl, sym, ap, subst, ◌∙◌, arith}
+use Rattle.std.proofs.Common.{◌≡◌, ◌<◌, ◌≤◌, ℕ, zero, suc, List, [], ◌∷◌, ◌++◌, length, map, take, drop, Option, refl, sym, ap, subst, ◌∙◌, arith}
 use Rattle.mvn_outside.specs.declared.shelf.ShelfTold.{ShelfTold}
 use Rattle.crew_stages.specs.Hands.{HandState}
 use Rattle.outcome_laws.specs.Crews.{hand_of, told_of}
@@ -98,21 +98,3 @@ same_tells hands = record { many = refl; each = λ w low. refl }
 -- the repository came back as it was given
 pub outside_left : {S H : Type 0} (told : S → Option ShelfTold) (faults : S → ℕ) (state : H → HandState) (shelf left : S) (hands : List H) → left ≡ shelf → outside_by told faults state left hands ≡ outside_by told faults state shelf hands
 outside_left told faults state shelf left hands e = ap (λ s. outside_by told faults state s hands) e
-
--- ---- the first hand, where its remote alone is used
-
-pub first_of : {H : Type 0} (state : H → HandState) (hands : List H) (d : H) → 1 ≤ length hands → hand_of (map state hands) 0 ≡ state (get_or hands 0 d)
-first_of state [] d some = absurd (omega (arith, some))
-first_of state (h ∷ hands) d some = refl
-
-pub first_set : {H : Type 0} (state : H → HandState) (hands : List H) (h : H) → 1 ≤ length hands → hand_of (map state (set hands 0 h)) 0 ≡ state h
-first_set state [] h some = absurd (omega (arith, some))
-first_set state (a ∷ hands) h some = refl
-
-pub others_set : {A : Type 0} (hands : List A) (h : A) → drop 1 (set hands 0 h) ≡ drop 1 hands
-others_set [] h = refl
-others_set (a ∷ hands) h = refl
-
-pub asked_first : {H : Type 0} (state : H → HandState) (hands : List H) (h d : H) → 1 ≤ length hands → state h ≡ record (state (get_or hands 0 d)) { remote = (state h).remote } → IsAskedFirst (map state hands) (map state (set hands 0 h))
-asked_first state [] h d some e = absurd (omega (arith, some))
-asked_first state (a ∷ hands) h d some e = record { first = e; others = refl }

@@ -1,8 +1,8 @@
+pub mod Besides
 pub mod Building
 pub mod Calling
 pub mod Cut
 pub mod First
-pub mod Planned
 pub mod Statuses
 pub mod Stops
 pub mod Telling

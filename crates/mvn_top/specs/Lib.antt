@@ -1,8 +1,5 @@
 pub use Rattle.mvn_shared.specs.Cause
 pub use Rattle.mvn_outside.specs.Shelf
-pub use Rattle.pom_source.specs.Answers
-pub use Rattle.model_resolver.specs.Devices
-pub use Rattle.build_plan.specs.Planning
 pub use Rattle.crew_stages.specs.Hands
 pub use Rattle.crew_outcome.specs.Left
 pub use Rattle.crew_outcome.specs.Once
@@ -11,8 +8,6 @@ pub use Rattle.mvn_call.specs.Commands
 pub use Rattle.mvn_call.specs.Ending
 pub use Rattle.mvn_call.specs.Found
 pub use Rattle.mvn_call.specs.Headline
-pub use Rattle.mvn_call.specs.Outcome
 pub use Rattle.mvn_call.specs.Seen
 pub use Rattle.rerun_laws.specs.Reruns
 pub mod Calls
-pub mod Project

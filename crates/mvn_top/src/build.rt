@@ -1,5 +1,5 @@
 // From what a line asks for to what is answered, before it is written.
-ghost use Rattle.std.specs.Prelude.{◌≡◌, ◌<◌, ◌≤◌, ◌^◌, drop, length, Ok, IfSome};
+ghost use Rattle.std.specs.Prelude.{◌≡◌, ◌<◌, ◌≤◌, ◌^◌, [], drop, length, Ok, IfSome};
 ghost use Rattle.mvn_outside.specs.Shelf.{files_now};
 ghost use Rattle.event_core.specs.SoundPlans.{IsSoundPlan};
 ghost use Rattle.run_law.specs.Given.{IsPresent};
@@ -12,15 +12,13 @@ ghost use Rattle.mvn_call.specs.Found.{given_of};
 ghost use Rattle.mvn_call.specs.Headline.{told_of};
 ghost use Rattle.mvn_call.specs.Seen.{OthersStay, with_first};
 
-use crate::command::asked;
-use crate::given::given_of;
-use crate::project::plan_by_first;
+use call_plan::{asked, given_of, plan_by_first};
 use cli_words::CommandLine;
-use crew_outcome::{Call, nothing, run_and_report};
+use crew_outcome::{Call, Outcome, nothing, run_and_report};
 use full_report::details_of;
 use mvn_base::Machine;
 use mvn_outside::{Gate, Hand, Remote, Shelf, Tree};
-use mvn_shared::Bytes;
+use mvn_shared::{Bytes, Mem};
 use plan_files::Planned;
 use pom_source::Given;
 use std::alloc::Global;
@@ -174,6 +172,17 @@ where
     }
 }
 
+// An answer without a build, where the machine isn't needed.
+fn unbuilt<S>(alloc: Global, machine: Machine, shelf: S, outcome: Mem<Outcome>) -> Call<S>
+    ensures outcome { result.outcome ≡ outcome }
+    ensures shelf { result.shelf ≡ shelf }
+    ensures trace { result.trace ≡ [] }
+    ensures answers { result.answers ≡ [] }
+{
+    drop(machine);
+    nothing(alloc, shelf, outcome)
+}
+
 /// What a call of these words answers before it is written, and what it leaves. Costs what planning and building cost.
 pub(crate) fn build<
     W: Threads + Wait + Sync,
@@ -212,7 +221,7 @@ where
     let answer = asked(alloc, words, hands.len() as u32);
     match answer {
         Ok(Ok(line)) => build_line(rt, alloc, &line, machine, tree, shelf, hands),
-        Ok(Err(outcome)) => nothing(alloc, shelf, Ok(outcome)),
-        Err(error) => nothing(alloc, shelf, Err(error)),
+        Ok(Err(outcome)) => unbuilt(alloc, machine, shelf, Ok(outcome)),
+        Err(error) => unbuilt(alloc, machine, shelf, Err(error)),
     }
 }

@@ -7,12 +7,12 @@ use Rattle.model_resolver.specs.Devices.{Counted}
 use Rattle.plan_files.specs.declared.selected.Planned.{Planned}
 use Rattle.crew_outcome.specs.Left.{Outside}
 use Rattle.crew_outcome.specs.declared.outcome.Outcome.{Outcome}
-use Rattle.mvn_top.specs.Project.{GivesPlan}
+use Rattle.call_plan.specs.Project.{GivesPlan}
 use Rattle.mvn_call.specs.Seen.{counts_of, first_remote}
 use Rattle.outside_mem.specs.Shelf.{shelf_told}
 use Rattle.outside_mem.specs.Tree.{tree_files}
-use Rattle.generated_run.specs.Made.{made}
-use Rattle.generated_run.specs.States.{outside, state}
+use Rattle.generated_parts.specs.Made.{made}
+use Rattle.generated_parts.specs.States.{outside, state}
 use Rattle.generated_run.specs.SummedUp.{SumsUp}
 use Rattle.generated_run.proofs.Building.{Gives, IsReady, found_is, generates_built, generates_none, generates_unbuilt, gives_made, hands_count, ready}
 use Rattle.generated_run.proofs.Lists.{faultless, given_made, left_made}

@@ -1,7 +1,7 @@
 use Rattle.std.proofs.Common.{ℕ, refl, subst, IfOk}
 use Rattle.outside_mem.specs.Shelf.{shelf_told}
-use Rattle.generated_run.specs.States.{outside}
-use Rattle.generated_run.specs.SummedUp.{IsSummedUp}
+use Rattle.generated_parts.specs.States.{outside}
+use Rattle.generated_parts.specs.Summary.{IsSummedUp}
 use Rattle.generated_run.proofs.Lists.{faultless}
 use Rattle.generated_run.proofs.run.build_summed.Goals as goal
 

@@ -15,7 +15,7 @@ use Rattle.mvn_top.proofs.build.build.Goals as goal
 pub returns-in-Ok-Err-clause-calls : goal.returns-in-Ok-Err-clause-calls
 returns-in-Ok-Err-clause-calls g c =
     let seen : Seen = record { tree = g.T.Tree.files c.args.tree.now; faults = g.T.Files.faults c.args.tree.now; machine = c.args.machine; outside = outside_by g.S.Shelf.told g.S.Shelf.faults (state_by g.R.Remote.files g.R.Remote.faults g.S.Area.Area.contents g.S.Area.Area.faults g.S.Area.Area.pieces g.G.Gate.answers g.G.Gate.faults) c.args.shelf c.args.hands.now } in
-    let call = c.nothing in
+    let call = c.unbuilt in
     let after : After = record { faults = g.T.Files.faults c.args.tree.now; outside = outside_by g.S.Shelf.told g.S.Shelf.faults (state_by g.R.Remote.files g.R.Remote.faults g.S.Area.Area.contents g.S.Area.Area.faults g.S.Area.Area.pieces g.G.Gate.answers g.G.Gate.faults) call.result.shelf c.args.hands.now } in
     let count = length c.args.hands.now in
     let said = asked c.args.words.now count in
@@ -30,7 +30,7 @@ returns-in-Ok-Err-clause-hands g c = record { many = refl; same = refl }
 pub returns-in-Err-clause-calls : goal.returns-in-Err-clause-calls
 returns-in-Err-clause-calls g c =
     let seen : Seen = record { tree = g.T.Tree.files c.args.tree.now; faults = g.T.Files.faults c.args.tree.now; machine = c.args.machine; outside = outside_by g.S.Shelf.told g.S.Shelf.faults (state_by g.R.Remote.files g.R.Remote.faults g.S.Area.Area.contents g.S.Area.Area.faults g.S.Area.Area.pieces g.G.Gate.answers g.G.Gate.faults) c.args.shelf c.args.hands.now } in
-    let call = c.nothing-in-Err in
+    let call = c.unbuilt-in-Err in
     let after : After = record { faults = g.T.Files.faults c.args.tree.now; outside = outside_by g.S.Shelf.told g.S.Shelf.faults (state_by g.R.Remote.files g.R.Remote.faults g.S.Area.Area.contents g.S.Area.Area.faults g.S.Area.Area.pieces g.G.Gate.answers g.G.Gate.faults) call.result.shelf c.args.hands.now } in
     calls_none (asked c.args.words.now (length c.args.hands.now)) seen after call.result.trace call.result.answers call.result.outcome c.in-Err.error call.ensures.outcome
     (call.ensures.trace, call.ensures.answers, ap g.S.Shelf.told call.ensures.shelf) (same_tells (map (state_by g.R.Remote.files g.R.Remote.faults g.S.Area.Area.contents g.S.Area.Area.faults g.S.Area.Area.pieces g.G.Gate.answers g.G.Gate.faults) c.args.hands.now))

@@ -5,7 +5,7 @@ use Rattle.plan_files.specs.declared.selected.Planned.{Planned}
 use Rattle.crew_stages.specs.Hands.{state_by}
 use Rattle.crew_outcome.specs.declared.outcome.Outcome.{Outcome}
 use Rattle.crew_outcome.specs.Left.{Outside, outside_by}
-use Rattle.mvn_top.specs.Project.{GivesPlan}
+use Rattle.call_plan.specs.Project.{GivesPlan}
 use Rattle.mvn_call.specs.Seen.{After, Seen, first_remote}
 use Rattle.mvn_top.proofs.Building.{at_least, built_few, built_names, built_present, built_sound, built_workers, calls_built, calls_unbuilt, counted_left, others_built, others_planned}
 use Rattle.mvn_top.proofs.Calling.{calls_none}

@@ -6,7 +6,7 @@ use Rattle.crew_outcome.specs.Reports.{Reports}
 use Rattle.crew_outcome.proofs.Idle.{without_memory}
 use Rattle.mvn_call.specs.Headline.{told_of}
 use Rattle.mvn_top.proofs.First.{same_tells}
-use Rattle.mvn_top.proofs.Planned.{told_by}
+use Rattle.mvn_top.proofs.Besides.{told_by}
 use Rattle.mvn_top.proofs.build.build_planned.Goals as goal
 
 pub returns-in-Ok : goal.returns-in-Ok

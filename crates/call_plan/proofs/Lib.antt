@@ -1,0 +1,2 @@
+pub mod FirstHand
+pub mod Planned

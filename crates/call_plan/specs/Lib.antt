@@ -1,0 +1,10 @@
+pub use Rattle.pom_source.specs.Answers
+pub use Rattle.model_resolver.specs.Devices
+pub use Rattle.build_plan.specs.Planning
+pub use Rattle.crew_stages.specs.Hands
+pub use Rattle.crew_outcome.specs.Left
+pub use Rattle.mvn_call.specs.Commands
+pub use Rattle.mvn_call.specs.Found
+pub use Rattle.mvn_call.specs.Outcome
+pub use Rattle.mvn_call.specs.Seen
+pub mod Project

@@ -1,11 +1,11 @@
-ghost use Rattle.std.specs.Prelude.{◌≡◌, ◌↔◌, ◌++◌, [], IsTrue, IfOk};
+ghost use Rattle.std.specs.Prelude.{◌≡◌, ◌≢◌, ◌↔◌, ◌++◌, [], IsTrue, IfOk};
 ghost use Rattle.exclusion_set.specs.Excluding.{is_excluded};
 ghost use Rattle.collector.specs.Chains.{ExcludeSame};
 
 use crate::chain::Chain;
 use exclusion_set::ExclusionSet;
 use model_types::{Dependency, Exclusion};
-use mvn_shared::{List, Mem};
+use mvn_shared::{List, Mem, Shared};
 use std::alloc::Global;
 use std::marker::Model;
 use std::sync::Arc;
@@ -14,12 +14,30 @@ use std::sync::Arc;
 /// it shares. Contracts see the whole list.
 #[derive(Drop)]
 pub struct Exclusions {
-    chain: Arc<Chain>,
-    // The same to look up in.
-    set: ExclusionSet,
+    // Absent where nothing is left out.
+    parts: Option<Shared<Parts>>,
 }
 
 impl Model for Exclusions {
+    ghost use Rattle.std.specs.Prelude as logic;
+    ghost use Rattle.std.specs.Coded.{codes};
+    ghost use Rattle.model_types.specs.declared.dependency.Exclusion as rows;
+
+    ghost Value = { logic.List rows.Exclusion };
+
+    ghost coded = { Prim.hlevel (codes) };
+
+    ghost view = { λ exclusions. logic.unwrap_or exclusions.parts logic.[] };
+}
+
+// Exclusions in their order, and the same to look up in. Contracts see the whole list.
+#[derive(Drop)]
+pub struct Parts {
+    chain: Arc<Chain>,
+    set: ExclusionSet,
+}
+
+impl Model for Parts {
     ghost use Rattle.std.specs.Prelude as logic;
     ghost use Rattle.std.specs.Arc.{arc_value};
     ghost use Rattle.std.specs.Coded.{codes};
@@ -29,44 +47,92 @@ impl Model for Exclusions {
 
     ghost coded = { Prim.hlevel (codes) };
 
-    ghost view = { λ exclusions. arc_value exclusions.chain };
+    ghost view = { λ parts. arc_value parts.chain };
 
     ghost use Rattle.collector.specs.Chains.{ExcludeSame};
 
-    ghost invariant = { λ exclusions. ExcludeSame exclusions.set (arc_value exclusions.chain) };
+    ghost invariant = { λ parts. ExcludeSame parts.set (arc_value parts.chain) };
 }
 
-impl Exclusions {
-    /// Those of a list. Costs one allocation, and putting each into a set.
-    pub fn new(alloc: Global, list: List<Exclusion>) -> Mem<Exclusions>
-        ensures { IfOk result (λ exclusions. exclusions ≡ list) }
+impl Parts {
+    // Those of a list. Costs one allocation, and putting each into a set.
+    fn of(alloc: Global, list: List<Exclusion>) -> Mem<Parts>
+        ensures { IfOk result (λ parts. parts ≡ list) }
     {
         let set = added(alloc, &ExclusionSet::new(), &list)?;
         let chain = Arc::new(alloc, Chain::of(list))?;
-        Ok(Exclusions { chain, set })
+        Ok(Parts { chain, set })
+    }
+
+    // Whether there is none.
+    fn has_none(&self) -> bool
+        ensures { IsTrue result ↔ (self.now ≡ []) }
+    {
+        self.chain.is_empty()
+    }
+
+    // Whether one of them names a declaration.
+    fn has_named(&self, dependency: &Dependency) -> bool
+        ensures { result ≡ is_excluded self.now dependency.now }
+    {
+        self.set.excludes(dependency)
+    }
+
+    // These, which are shared, and others behind them.
+    fn longer(&self, alloc: Global, more: &List<Exclusion>) -> Mem<Parts>
+        requires { more.now ≢ [] }
+        ensures { IfOk result (λ parts. parts ≡ self.now ++ more.now) }
+    {
+        let above = Arc::try_clone(&self.chain)?;
+        let own = copied(more)?;
+        let set = added(alloc, &self.set, more)?;
+        let chain = Arc::new(alloc, Chain::behind(above, own))?;
+        Ok(Parts { chain, set })
+    }
+}
+
+impl Exclusions {
+    /// Those of a list. Costs nothing where there is none, else two allocations, and putting each into a set.
+    pub fn new(alloc: Global, list: List<Exclusion>) -> Mem<Exclusions>
+        ensures { IfOk result (λ exclusions. exclusions ≡ list) }
+    {
+        if list.is_empty() {
+            return Ok(Exclusions { parts: None });
+        }
+        of_parts(alloc, Parts::of(alloc, list)?)
     }
 
     /// The same, in constant time; nothing is copied.
     pub fn share(&self) -> Mem<Exclusions>
         ensures { IfOk result (λ exclusions. exclusions ≡ self.now) }
     {
-        let chain = Arc::try_clone(&self.chain)?;
-        let set = self.set.share()?;
-        Ok(Exclusions { chain, set })
+        match &self.parts {
+            None => Ok(Exclusions { parts: None }),
+            Some(parts) => {
+                let parts = parts.share()?;
+                Ok(Exclusions { parts: Some(parts) })
+            }
+        }
     }
 
     /// Whether there is none. Constant time.
     pub fn is_empty(&self) -> bool
         ensures { IsTrue result ↔ (self.now ≡ []) }
     {
-        self.chain.is_empty()
+        match &self.parts {
+            None => true,
+            Some(parts) => parts.has_none(),
+        }
     }
 
     // Whether one of them names a declaration. Costs some steps, however many there are.
     pub(crate) fn excludes(&self, dependency: &Dependency) -> bool
         ensures { result ≡ is_excluded self.now dependency.now }
     {
-        self.set.excludes(dependency)
+        match &self.parts {
+            None => false,
+            Some(parts) => parts.has_named(dependency),
+        }
     }
 
     // These, which are shared, and others behind them. Costs the others, and some steps for each of them to put it into the set.
@@ -76,12 +142,19 @@ impl Exclusions {
         if more.is_empty() {
             return self.share();
         }
-        let above = Arc::try_clone(&self.chain)?;
-        let own = copied(more)?;
-        let set = added(alloc, &self.set, more)?;
-        let chain = Arc::new(alloc, Chain::behind(above, own))?;
-        Ok(Exclusions { chain, set })
+        match &self.parts {
+            None => of_parts(alloc, Parts::of(alloc, copied(more)?)?),
+            Some(parts) => of_parts(alloc, parts.longer(alloc, more)?),
+        }
     }
+}
+
+// Those of parts, which are shared from here on.
+fn of_parts(alloc: Global, parts: Parts) -> Mem<Exclusions>
+    ensures { IfOk result (λ exclusions. exclusions ≡ parts) }
+{
+    let parts = Shared::new(alloc, parts)?;
+    Ok(Exclusions { parts: Some(parts) })
 }
 
 // A copy of a list.

@@ -7,8 +7,9 @@ use model_types::{Dependency, Plugin, RawModel};
 use mvn_base::{ModelError, Pair};
 use mvn_shared::{Mem, Shared};
 use root_pom::super_pom;
-use row_models::{behind, field, model_text, word};
+use row_models::{behind, field, word};
 use settings_merge::merged_configuration;
+use shown_models::model_text;
 use std::alloc::Global;
 
 // A POM with its parent's.

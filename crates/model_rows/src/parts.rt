@@ -2,7 +2,7 @@
 use model_types::{Build, Dependency, Plugin};
 use mvn_base::{Pair, Setting};
 use mvn_shared::{List, Mem, Shared};
-use row_models::{
+use shown_models::{
     push_build, push_dependencies, push_pairs, push_plugin, push_plugins, push_settings,
 };
 use std::alloc::Global;

@@ -1,28 +1,26 @@
-//! Tells the winners of a project among libraries. A line of standard input is a word and its fields, with spaces between
-//! and `-` for what isn't stated: `managed GROUP ARTIFACT VERSION TYPE SCOPE EXCLUSIONS`, what the project manages;
-//! `pom GROUP ARTIFACT VERSION`, where a library begins; `needs GROUP ARTIFACT VERSION TYPE SCOPE OPTIONAL EXCLUSIONS`, a
-//! dependency of that library, or of the project where none has begun. Exclusions are `group:artifact`, with commas
-//! between; a library's versions stand in ascending order. `project` begins another project, with libraries of its own; `module` one
-//! over the libraries that there are, with dependencies of its own and what it manages itself; `module counted` such a one of which
-//! only the number of its winners is told. Prints for each project its winners, each with its version and its scope; the places of those
-//! that stand on each classpath; the files to fetch; and then what isn't known of their POMs; or the refusal; then a blank line.
+//! Tells the winners of projects among libraries. The lines of standard input are those of `graph_lines`, and three more: `project` begins
+//! another project, with libraries of its own; `module` one over the libraries that there are, with dependencies of its own and what it
+//! manages itself; `module counted` such a one of which only the number of its winners is told. Prints for each project its winners, each
+//! with its version and its scope; the places of those that stand on each classpath; the files to fetch; and then what isn't known of
+//! their POMs; or the refusal; then a blank line.
 #![tactic(auto)]
 
 ghost use Rattle.std.specs.Prelude.{All};
 ghost use Rattle.classpaths.specs.Classpaths.{HasNames};
 
-mod lines;
-mod models;
 mod names;
 
 use classpaths::{Kind, Note, Resolution, Resolved};
 use collector::Scope;
+use graph_lines::Graph;
 use library_lookup::MediationFault;
-use lines::Read;
+use lookup_mem::MemLibraries;
 use managed_deps::{ManagedSet, managed};
+use model_types::Dependency;
 use mvn_base::Gav;
+use mvn_shared::Shared;
 use names::are_named;
-use resolution::mediate;
+use resolution::{KeptRows, mediate};
 use std::alloc::Global;
 use std::collections::HashSet;
 
@@ -124,11 +122,13 @@ fn print_fault(rt: &HostRuntime, fault: &MediationFault) -> anyhow::Result<()> {
 // What a project comes to, with what it manages.
 fn mediated(
     alloc: Global,
-    read: &mut Read,
+    graph: &mut Graph,
+    rows: &mut KeptRows,
     set: &ManagedSet,
 ) -> Result<Resolution, MediationFault> {
-    let direct = read.direct.as_slice();
-    mediate(alloc, direct, set, &mut read.libraries, &mut read.rows)
+    let direct: &[Shared<Dependency>] = graph.direct.as_slice();
+    let libraries: &mut MemLibraries = &mut graph.libraries;
+    mediate(alloc, direct, set, libraries, rows)
 }
 
 // What is told of a project that is resolved.
@@ -141,11 +141,11 @@ fn print_told(rt: &HostRuntime, resolution: &Resolution, counted: bool) -> anyho
     print_resolved(rt, resolution)
 }
 
-fn print_read(rt: &HostRuntime, read: &mut Read) -> anyhow::Result<()> {
+fn print_graph(rt: &HostRuntime, graph: &mut Graph, rows: &mut KeptRows) -> anyhow::Result<()> {
     let alloc = rt.alloc();
-    match managed(alloc, read.managed.as_slice(), &[]) {
-        Ok(set) => match mediated(alloc, read, &set) {
-            Ok(resolution) => print_told(rt, &resolution, read.counted),
+    match managed(alloc, graph.managed.as_slice(), &[]) {
+        Ok(set) => match mediated(alloc, graph, rows, &set) {
+            Ok(resolution) => print_told(rt, &resolution, graph.counted),
             Err(fault) => print_fault(rt, &fault),
         },
         Err(_) => {
@@ -156,38 +156,45 @@ fn print_read(rt: &HostRuntime, read: &mut Read) -> anyhow::Result<()> {
 }
 
 // What was read so far, told and ended by a blank line.
-fn tell(rt: &HostRuntime, read: &mut Read) -> anyhow::Result<()> {
-    read.end(rt.alloc())?;
-    print_read(rt, read)?;
+fn tell(rt: &HostRuntime, graph: &mut Graph, rows: &mut KeptRows) -> anyhow::Result<()> {
+    graph.end(rt.alloc())?;
+    print_graph(rt, graph, rows)?;
     println!(rt; "")?;
     Ok(())
 }
 
 // A line that begins another project, and any other line.
-fn read_line(rt: &HostRuntime, read: &mut Read, line: &str) -> anyhow::Result<()> {
+fn read_line(
+    rt: &HostRuntime,
+    graph: &mut Graph,
+    rows: &mut KeptRows,
+    line: &str,
+) -> anyhow::Result<()> {
     match line {
         "project" => {
-            tell(rt, read)?;
-            *read = Read::new(rt.alloc())?;
+            tell(rt, graph, rows)?;
+            *graph = Graph::new(rt.alloc())?;
+            *rows = KeptRows::new(rt.alloc());
         }
         "module" => {
-            tell(rt, read)?;
-            read.go_on(rt.alloc(), false);
+            tell(rt, graph, rows)?;
+            graph.go_on(rt.alloc(), false);
         }
         "module counted" => {
-            tell(rt, read)?;
-            read.go_on(rt.alloc(), true);
+            tell(rt, graph, rows)?;
+            graph.go_on(rt.alloc(), true);
         }
-        _ => read.line(rt.alloc(), line)?,
+        _ => graph.line(rt.alloc(), line)?,
     }
     Ok(())
 }
 
 fn main(rt: HostRuntime) -> anyhow::Result<()> {
-    let mut read = Read::new(rt.alloc())?;
+    let mut graph = Graph::new(rt.alloc())?;
+    let mut rows = KeptRows::new(rt.alloc());
     for line in rt.lines(rt.alloc()) {
         let line = line?;
-        read_line(&rt, &mut read, line.as_str())?;
+        read_line(&rt, &mut graph, &mut rows, line.as_str())?;
     }
-    tell(&rt, &mut read)
+    tell(&rt, &mut graph, &mut rows)
 }

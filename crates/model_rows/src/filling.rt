@@ -3,7 +3,8 @@ use interpolate::fill;
 use model_types::RawModel;
 use mvn_base::{Machine, ModelError, Pair};
 use mvn_shared::{List, Mem, Shared, Text};
-use row_models::{field, machine, pairs, project, push_texts};
+use row_models::{field, machine, pairs, project};
+use shown_models::push_texts;
 use std::alloc::Global;
 
 fn shared(alloc: Global, model: RawModel) -> Result<Shared<RawModel>, ModelError> {

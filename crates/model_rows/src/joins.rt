@@ -1,5 +1,5 @@
 // POMs and parts of POMs that are joined.
-use crate::parts::{both_needs, both_properties, build_text, plugin_text, settings_text};
+use crate::joined_lists::{both_needs, both_properties};
 use inheritance::inherit;
 use keyed_lists::{settled, with_others};
 use model_merge::merged_plugin;
@@ -7,8 +7,9 @@ use model_types::{Dependency, Plugin, RawModel};
 use mvn_base::{ModelError, Pair};
 use mvn_shared::{Mem, Shared};
 use root_pom::super_pom;
-use row_models::{behind, field, model_text, word};
+use row_models::{behind, field, word};
 use settings_merge::merged_configuration;
+use shown_models::{build_text, model_text, plugin_text, settings_text};
 use std::alloc::Global;
 
 // A POM with its parent's.

@@ -1,14 +1,9 @@
-//! Rows about POMs and models, each with its answer: what POMs say, their profiles, how models are joined, managed and filled, and which
-//! goals run. A line of standard input is a word, which says what is asked for, and fields with a bar between two of them; the answer is
-//! printed as one line. A line that begins with `#` is printed as it stands. A POM that is refused is answered by the number of the rule
-//! and the place. `row_models` says how POMs are spelled. They stand in a project behind the `modelVersion`, and except for `project` and
-//! `fill` behind the coordinates g:a:1 too.
+//! Rows about models, each with its answer: what POMs come to with their profiles, their parents, what is managed, and expressions. A line
+//! of standard input is a word, which says what is asked for, and fields with a bar between two of them; the answer is printed as one
+//! line. A line that begins with `#` is printed as it stands. A POM that is refused is answered by the number of the rule and the place.
+//! `row_models` says how POMs are spelled. They stand in a project behind the `modelVersion`, and except for `fill` behind the
+//! coordinates g:a:1 too.
 //!
-//! - `pom POM`, `project POM`, `behind POM`: what the POM says, field by field, of a whole text, or within a project; `is-read POM`: only
-//!   that it can be read
-//! - `active POM|NAME=VALUE ..|ON ..|OFF ..`: the places of the active profiles, with properties of the command line and ids that
-//!   are switched on and off, for the POM of the folder `app` in `/w`, where the files `app/src/x` and `top` are;
-//!   `active-by-coordinates` for one of a repository, `active-failing` where no file can be asked for
 //! - `inject POM|PLACE ..`: what it states with its profiles at these places
 //! - `inherit CHILD|PARENT`; `over-super POM`: how it is built where it builds on no other; `merged-plugin CHILD|PARENT` and
 //!   `merged-configuration CHILD|PARENT` of the first plugins; `properties CHILD|PARENT` and `needs CHILD|PARENT`: these lists
@@ -16,37 +11,29 @@
 //! - `apply POM|IMPORT ..`: its dependencies with what it manages, and what the imports do; `apply-plugins POM`
 //! - `fill POM|NAME=VALUE ..`: its packaging and its modules with what expressions come to; `fill-doubled POM|COUNT|TEXT`: how long
 //!   its packaging is with so many properties of the command line, `p0` the text and each further one twice the one before it
-//! - `bindings PACKAGING`: the plugins that it binds; `goals POM|PHASE`: the goals that run up to the phase, those in brackets that
-//!   have no phase, and `!` where installing is reached
 #![tactic(auto)]
 
-mod activating;
 mod filling;
-mod goal_lists;
 mod injecting;
+mod joined_lists;
 mod joins;
 mod managing;
-mod outside;
-mod parts;
-mod phases;
-mod poms;
 
 use mvn_base::ModelError;
 use row_models::{answer, field, split_row};
 use std::alloc::Global;
 
-// What is told of a row about expressions and goals.
+// What is told of a row about profiles or expressions.
 fn told_of_one(alloc: Global, kind: &str, fields: &[&str]) -> Result<String, ModelError> {
     match kind {
-        "fill" => filling::told(alloc, fields),
+        "inject" => injecting::told(alloc, fields),
         "fill-doubled" => filling::told_doubled(alloc, fields),
-        "bindings" => phases::told_bindings(alloc, field(fields, 0)),
-        _ => phases::told(alloc, fields),
+        _ => filling::told(alloc, fields),
     }
 }
 
-// What is told of a row about joined and managed models.
-fn told_of_several(alloc: Global, kind: &str, fields: &[&str]) -> Result<String, ModelError> {
+// What is told of a row with these fields.
+fn told_of(alloc: Global, kind: &str, fields: &[&str]) -> Result<String, ModelError> {
     match kind {
         "inherit" | "properties" | "needs" | "merged-plugin" | "merged-configuration" => {
             joins::told(alloc, kind, fields)
@@ -58,28 +45,10 @@ fn told_of_several(alloc: Global, kind: &str, fields: &[&str]) -> Result<String,
     }
 }
 
-// What is told of a row about profiles or models.
-fn told_of(alloc: Global, kind: &str, fields: &[&str]) -> Result<String, ModelError> {
-    match kind {
-        "active" | "active-by-coordinates" | "active-failing" => {
-            activating::told(alloc, kind, fields)
-        }
-        "inject" => injecting::told(alloc, fields),
-        _ => told_of_several(alloc, kind, fields),
-    }
-}
-
-fn told_of_fields(alloc: Global, kind: &str, row: &str) -> Result<String, ModelError> {
-    let fields = split_row(alloc, row)?;
-    told_of(alloc, kind, fields.as_slice())
-}
-
 // What is told of a row.
 fn told(alloc: Global, kind: &str, row: &str) -> Result<String, ModelError> {
-    match kind {
-        "pom" | "project" | "behind" | "is-read" => poms::told(alloc, kind, row),
-        _ => told_of_fields(alloc, kind, row),
-    }
+    let fields = split_row(alloc, row)?;
+    told_of(alloc, kind, fields.as_slice())
 }
 
 fn print_trimmed(rt: &HostRuntime, text: &str) -> anyhow::Result<()> {

@@ -3,7 +3,8 @@ use keyed_lists::{Item, appended, copies, others_than};
 use model_merge::{stated, stated_list};
 use mvn_base::Pair;
 use mvn_shared::{List, Mem, Text};
-use row_models::{pairs, push_pairs, words};
+use row_models::{pairs, words};
+use shown_models::push_pairs;
 use std::alloc::Global;
 use std::test::Fail;
 

@@ -1,4 +1,4 @@
-//! The models of rows: the POMs that fields spell, a machine that rows know, and a model as one text.
+//! The models of rows: the POMs that fields spell, and a machine that rows know.
 //!
 //! In a field that is a POM `\xNN` is a byte by its hexadecimal digits, `\(N)TEXT` the text up to the next backslash N times, and
 //! `\.` nothing. Where a field is no whole POM text, it stands in a project behind the `modelVersion`. No call has a clause: they
@@ -8,14 +8,9 @@
 mod answers;
 mod fields;
 mod poms;
-mod shown;
 mod system;
 
 pub use answers::{answer, word};
 pub use fields::{field, pairs, split_row, words};
 pub use poms::{at_path, behind, named, project, whole};
-pub use shown::{
-    model_text, push_base, push_build, push_build_base, push_dependencies, push_pairs, push_plugin,
-    push_plugins, push_settings, push_texts,
-};
 pub use system::machine;

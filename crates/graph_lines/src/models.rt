@@ -1,3 +1,4 @@
+// What the words of a line stand for, and the models of libraries.
 use model_types::{Build, BuildBase, Dependency, Exclusion, Model, ModelBase, Outputs, Sources};
 use mvn_base::{Gav, PomId};
 use mvn_shared::{List, Mem, Shared, Text};

@@ -140,7 +140,7 @@ fn push_executions(shown: &mut String, executions: &List<Shared<Execution>>) -> 
 }
 
 /// A plugin.
-pub fn push_plugin(shown: &mut String, plugin: &Plugin) -> Mem<()> {
+pub(crate) fn push_plugin(shown: &mut String, plugin: &Plugin) -> Mem<()> {
     push_text(shown, "", &plugin.group)?;
     push_text(shown, ":", &plugin.artifact)?;
     push_option(shown, " v=", &plugin.version)?;
@@ -151,7 +151,11 @@ pub fn push_plugin(shown: &mut String, plugin: &Plugin) -> Mem<()> {
 }
 
 /// Plugins, each behind a label with a bracket.
-pub fn push_plugins(shown: &mut String, label: &str, plugins: &List<Shared<Plugin>>) -> Mem<()> {
+pub(crate) fn push_plugins(
+    shown: &mut String,
+    label: &str,
+    plugins: &List<Shared<Plugin>>,
+) -> Mem<()> {
     for plugin in plugins.as_slice() {
         shown.push_str(label)?;
         push_plugin(shown, plugin)?;
@@ -189,7 +193,7 @@ fn push_extensions(shown: &mut String, extensions: &List<Gav>) -> Mem<()> {
 }
 
 /// A build.
-pub fn push_build(shown: &mut String, build: &Build) -> Mem<()> {
+pub(crate) fn push_build(shown: &mut String, build: &Build) -> Mem<()> {
     push_outputs(shown, &build.outputs)?;
     push_sources(shown, &build.sources)?;
     push_build_base(shown, " managed[", &build.base)?;

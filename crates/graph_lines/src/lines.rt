@@ -1,19 +1,18 @@
+// What lines say of a project and of libraries.
 use crate::models::{base, build, dependency, gav, model, word};
 use lookup_mem::MemLibraries;
 use model_types::{Build, Dependency, ModelBase};
 use mvn_base::Gav;
 use mvn_shared::{List, Mem, Shared, Text};
-use resolution::KeptRows;
 use std::alloc::{AllocError, Global};
 use std::collections::HashMap;
 use std::mem::replace;
 
-/// What was read: the libraries, and the rows that the projects over them come to; the project's dependencies and what it manages; and
-/// the library that was begun, with its dependencies so far.
+/// What was read: the libraries; the project's dependencies and what it manages; and the library that was begun, with its dependencies
+/// so far.
 #[derive(Drop)]
-pub struct Read {
+pub struct Graph {
     pub libraries: MemLibraries,
-    pub rows: KeptRows,
     pub direct: List<Shared<Dependency>>,
     pub managed: List<Shared<Dependency>>,
     /// Whether only the number of the project's winners is told.
@@ -38,12 +37,12 @@ fn name_of(gav: &Gav) -> Mem<Text> {
     Ok(name)
 }
 
-impl Read {
-    pub(crate) fn new(alloc: Global) -> Mem<Read> {
+impl Graph {
+    /// Nothing was read yet.
+    pub fn new(alloc: Global) -> Mem<Graph> {
         let build = build(alloc)?;
-        Ok(Read {
+        Ok(Graph {
             libraries: MemLibraries::new(alloc),
-            rows: KeptRows::new(alloc),
             direct: List::new(alloc),
             managed: List::new(alloc),
             counted: false,
@@ -81,7 +80,7 @@ impl Read {
     }
 
     /// Ends the library that was begun.
-    pub(crate) fn end(&mut self, alloc: Global) -> Mem<()> {
+    pub fn end(&mut self, alloc: Global) -> Mem<()> {
         let needs = replace(&mut self.needs, List::new(alloc));
         match self.begun.take() {
             None => {
@@ -93,7 +92,7 @@ impl Read {
     }
 
     /// Begins another project over the libraries that there are, of which nothing is copied.
-    pub(crate) fn go_on(&mut self, alloc: Global, counted: bool) {
+    pub fn go_on(&mut self, alloc: Global, counted: bool) {
         self.direct = List::new(alloc);
         self.managed = List::new(alloc);
         self.counted = counted;
@@ -131,7 +130,7 @@ impl Read {
     }
 
     /// One line more.
-    pub(crate) fn line(&mut self, alloc: Global, line: &str) -> Mem<()> {
+    pub fn line(&mut self, alloc: Global, line: &str) -> Mem<()> {
         let words = words(alloc, line)?;
         let (kind, _) = line.split_once(' ').unwrap_or((line, ""));
         match kind {

@@ -2,7 +2,7 @@
 ghost use Rattle.std.specs.Prelude.{IfOk};
 ghost use Rattle.goal_types.specs.Goals.{HasOwnSlots};
 
-use crate::goals::builtin::request;
+use crate::builtin::request;
 use goal_types::{GoalRequest, OwnBytes, Slot, SourceFile, request_bytes};
 use mvn_base::Setting;
 use mvn_shared::{Bytes, List, Mem, Text};

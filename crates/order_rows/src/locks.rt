@@ -1,5 +1,5 @@
 // Names that workers take and free.
-use crate::orders::numbers::{number, split_section};
+use crate::numbers::{number, split_section};
 use mvn_shared::Mem;
 use name_locks::{LockTable, Mode, Tried};
 use std::alloc::Global;

@@ -1,9 +1,9 @@
 // The report of one module.
-use crate::coordinates::{file_name, gav};
-use crate::orders::numbers::split_section;
+use crate::numbers::split_section;
 use build_core::Device;
 use mvn_base::{FileName, Gav};
 use mvn_shared::{Bytes, List, Mem, Text};
+use row_values::{file_name, gav};
 use run_report::{FullPart, ReportRow, RowEnd, report};
 use std::alloc::Global;
 

@@ -4,7 +4,7 @@ use mvn_shared::{Mem, Text};
 use std::alloc::Global;
 
 /// The coordinates of a group, an artifact and a version.
-pub(crate) fn gav(alloc: Global, group: &str, artifact: &str, version: &str) -> Mem<Gav> {
+pub fn gav(alloc: Global, group: &str, artifact: &str, version: &str) -> Mem<Gav> {
     let group = Text::from_str(alloc, group)?;
     let artifact = Text::from_str(alloc, artifact)?;
     let version = Text::from_str(alloc, version)?;
@@ -16,7 +16,7 @@ pub(crate) fn gav(alloc: Global, group: &str, artifact: &str, version: &str) -> 
 }
 
 /// The name of a file, of valid names alone.
-pub(crate) fn file_name(
+pub fn file_name(
     alloc: Global,
     gav: &Gav,
     classifier: &Text,

@@ -1,6 +1,6 @@
 // Versions and what requirements admit.
-use crate::word;
 use mvn_shared::{Mem, Text};
+use row_values::word;
 use std::alloc::Global;
 use std::cmp::Ordering;
 use version_order::{Requirement, RequirementError, Version};

@@ -1,10 +1,9 @@
 // Files, coordinates and refusals.
-use crate::coordinates::{file_name, gav};
-use crate::word;
 use mvn_base::{
     Gav, Key, Place, PomId, Refusal, Rule, key_text, lock_name, valid_group, valid_name, version_in,
 };
 use mvn_shared::{Mem, Shared, Text};
+use row_values::{file_name, gav, word};
 use std::alloc::Global;
 
 // Coordinates of a group, an artifact and a version.

@@ -1,8 +1,8 @@
 // The order of modules, the edges that are kept, and the modules that are selected.
-use crate::orders::numbers::{edges, has_word, number, numbers, split_section};
-use crate::word;
+use crate::numbers::{edges, has_word, number, numbers, split_section};
 use mvn_shared::Mem;
 use reactor_order::{Cycle, OrderError, edges_below, keep, modules_below, order, select};
+use row_values::word;
 use std::alloc::Global;
 
 // Numbers with a space between two of them.

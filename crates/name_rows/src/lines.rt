@@ -1,8 +1,8 @@
 // Command lines.
-use crate::word;
 use cli_words::{CommandLine, Word, WordError, options};
 use mvn_base::Pair;
 use mvn_shared::{Bytes, Mem, Text};
+use row_values::word;
 use std::alloc::Global;
 
 // Texts behind a label, each with a comma.

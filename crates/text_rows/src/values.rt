@@ -1,9 +1,9 @@
 // Expressions, values by name, and paths.
-use crate::word;
 use expressions::{Part, Values, parts};
 use mvn_base::Pair;
 use mvn_shared::{List, Mem, Text};
 use pom_paths::joined;
+use row_values::word;
 use std::alloc::Global;
 
 fn push_text(shown: &mut String, front: &str, text: &Text, back: &str) -> Mem<()> {

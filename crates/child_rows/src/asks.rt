@@ -2,8 +2,7 @@
 ghost use Rattle.std.specs.Prelude.{IfOk};
 ghost use Rattle.goal_types.specs.Goals.{HasOwnSlots};
 
-use crate::children::calls;
-use crate::gav;
+use crate::calls;
 use child_mem::{ChildScript, MemSpawner};
 use child_outside::ChildRecord;
 use gate_process::ProcessGate;
@@ -13,6 +12,7 @@ use mvn_outside::{DeviceFault, Gate};
 use mvn_shared::{Bytes, List, Mem, Text};
 use outside_mem::Calls;
 use row_fields::unescaped;
+use row_values::gav;
 use std::alloc::Global;
 
 // A gate over children in memory.

@@ -1,35 +1,17 @@
 // Rows about repositories: what is published, and what a remote gives.
-use crate::disk::{told_of_file, word};
-use crate::gav;
+use crate::told_of_file;
 use disk_reading::RealRemote;
 use local_repo::{put, settle, stage, sweep};
-use mvn_base::{FileName, Gav, file_of, valid_group, valid_name, valid_version};
+use mvn_base::{FileName, Gav, valid_group, valid_name};
 use mvn_outside::{Area, ListFault, Remote, Shelf};
 use mvn_shared::{List, Mem, Text};
 use outside_real::{RealArea, RealShelf};
+use row_values::{file_name, gav, word};
 use std::alloc::Global;
 
 // An artifact of org.demo in version 1.0.
 fn demo(alloc: Global, artifact: &str) -> Mem<Gav> {
     gav(alloc, "org.demo", artifact, "1.0")
-}
-
-// The name of a file, of valid names alone.
-fn file_name(
-    alloc: Global,
-    gav: &Gav,
-    classifier: &Text,
-    extension: &Text,
-) -> Mem<Option<FileName>> {
-    let named = valid_group(gav.group.as_bytes())
-        && valid_name(gav.artifact.as_bytes())
-        && valid_version(gav.version.as_bytes())
-        && classifier.is_empty()
-        && valid_name(extension.as_bytes());
-    if !named {
-        return Ok(None);
-    }
-    Ok(Some(file_of(alloc, gav, classifier, extension)?))
 }
 
 // The name of the POM of an artifact.

@@ -1,5 +1,5 @@
 // The goal program over streams in memory.
-use crate::children::calls;
+use crate::calls;
 use child_mem::MemSource;
 use goal_program::goal_main;
 use mvn_shared::{Bytes, List, Mem};

@@ -1,7 +1,7 @@
 #!/usr/bin/env python3
 """The definitions of the order of versions, of the order of modules, of the edges that are kept and of the locks of names, as plain and
-slow programs. Compares what they answer with the stored run of `base_rows`, row by row. With the word `print` it prints the generated
-rows with their answers, a tab between: versions of three bytes beside all of four, graphs, and calls of locks."""
+slow programs. Compares what they answer with the stored runs of `text_rows` and `order_rows`, row by row. With the word `print` it prints
+the generated rows with their answers, a tab between: versions of three bytes beside all of four, graphs, and calls of locks."""
 
 import functools
 import itertools
@@ -219,16 +219,16 @@ def locks():
 ANSWERS = {"among-short": among_short_row, "sorted": sorted_row, "placed": placed_row, "keep": keep_row, "locks": locks_row}
 
 
-def stored():
-    """The rows of the stored run with their answers."""
-    folder = pathlib.Path(__file__).parent.parent / "crates" / "base_rows"
+def stored(program):
+    """The rows of a program's stored run with their answers."""
+    folder = pathlib.Path(__file__).parent.parent / "crates" / program
     return zip(folder.joinpath("stdin").read_text().splitlines(), folder.joinpath("stdout").read_text().splitlines(), strict=True)
 
 
 def check():
     """Compares the stored rows that the plain programs can answer; the number of those that they answer otherwise."""
     asked = wrong = 0
-    for row, answer in stored():
+    for row, answer in itertools.chain(stored("text_rows"), stored("order_rows")):
         kind, _, rest = row.partition(" ")
         if kind in ANSWERS:
             asked += 1

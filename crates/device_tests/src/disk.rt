@@ -1,4 +1,4 @@
-// Objects over real files and streams (`outside_real`); what they do on a disk is rows of `device_rows`.
+// Objects over real files and streams (`outside_real`); what they do on a disk is rows of `disk_rows`.
 use mvn_outside::{Area, Sink};
 use mvn_shared::Text;
 use outside_real::{RealArea, RealSink};

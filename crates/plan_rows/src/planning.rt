@@ -1,14 +1,12 @@
 // The plan of a project in memory.
-use crate::given::{describe, given_by, line};
-use crate::plans::project::Files;
-use crate::plans::shown::{Shown, push_plan};
-use crate::texts::{push_fault, push_unknown};
 use build_plan::{PlanFault, Planning, plan_build};
 use cli_words::{CommandLine, WordError};
 use model_resolver::PomDevice;
 use mvn_shared::{List, Mem, OutOfMemory};
 use outside_mem::{Calls, MemRemote, MemShelf, MemTree};
 use pom_source::{BuildFault, Given};
+use row_plans::{Shown, describe, given_by, line, push_fault, push_plan, push_unknown};
+use row_projects::Files;
 use std::alloc::Global;
 use std::mem::replace;
 

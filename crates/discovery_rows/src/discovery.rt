@@ -1,9 +1,5 @@
 // The POMs that are found in projects, and the modules that are selected.
-mod ordering;
-mod project;
-
-use crate::given::{describe, no_given};
-use crate::texts::{push_fault, push_number, push_refusal, push_unknown, push_word};
+use crate::ordering::{chosen, ordered, push_models};
 use build_order::BuildOrder;
 use model_types::Model;
 use module_discovery::discover;
@@ -11,11 +7,14 @@ use module_poms::ModulePom;
 use module_selection::SelectionFault;
 use mvn_base::ModelError;
 use mvn_shared::{List, Mem, Shared};
-use ordering::{chosen, ordered, push_models};
 use pom_source::{BuildFault, Given};
 use pom_store::Store;
-use project::{Project, empty, put_all_named, put_deep, put_fields, put_wide};
 use row_models::{field, split_row, words};
+use row_plans::{
+    describe, no_given, push_fault, push_no_memory, push_number, push_refusal, push_unknown,
+    push_word,
+};
+use row_projects::{Project, empty, put_row};
 use std::alloc::Global;
 
 // What is found.
@@ -60,7 +59,21 @@ fn push_artifacts(text: &mut String, models: &[Shared<Model>], numbers: &[u32]) 
     Ok(())
 }
 
-// The modules that words select, or the word that means none.
+// The modules that are selected, or the word that means none.
+fn push_selection(
+    alloc: Global,
+    text: &mut String,
+    models: &[Shared<Model>],
+    chosen: &Result<List<u32>, SelectionFault>,
+) -> Mem<()> {
+    match chosen {
+        Ok(list) => push_artifacts(text, models, list.as_slice()),
+        Err(SelectionFault::Unknown(place)) => push_unknown(alloc, text, *place),
+        Err(SelectionFault::Memory) => push_no_memory(text),
+    }
+}
+
+// The same of those that words select.
 fn push_chosen(
     alloc: Global,
     text: &mut String,
@@ -68,10 +81,22 @@ fn push_chosen(
     found: &BuildOrder,
     words: &str,
 ) -> Mem<()> {
-    match &chosen(alloc, models, found, words) {
-        Ok(list) => push_artifacts(text, models, list.as_slice()),
-        Err(SelectionFault::Unknown(place)) => push_unknown(alloc, text, *place),
-        Err(SelectionFault::Memory) => push_fault(alloc, text, &BuildFault::Memory),
+    let chosen = chosen(alloc, models, found, words);
+    push_selection(alloc, text, models, &chosen)
+}
+
+// The same in an order, or why there is none.
+fn push_if_ordered(
+    alloc: Global,
+    text: &mut String,
+    models: &[Shared<Model>],
+    found: &Result<BuildOrder, ModelError>,
+    words: &str,
+) -> Mem<()> {
+    match found {
+        Ok(found) => push_chosen(alloc, text, models, found, words),
+        Err(ModelError::Refused(refusal)) => push_refusal(alloc, text, refusal),
+        Err(ModelError::Memory) => push_no_memory(text),
     }
 }
 
@@ -82,15 +107,53 @@ fn push_ordered(
     models: &[Shared<Model>],
     words: &str,
 ) -> Mem<()> {
-    match &ordered(alloc, models) {
-        Ok(found) => push_chosen(alloc, text, models, found, words),
-        Err(ModelError::Refused(refusal)) => push_refusal(alloc, text, refusal),
-        Err(ModelError::Memory) => push_fault(alloc, text, &BuildFault::Memory),
+    let found = ordered(alloc, models);
+    push_if_ordered(alloc, text, models, &found, words)
+}
+
+// The same of models that were to be made, or why they weren't.
+fn push_if_made(
+    alloc: Global,
+    text: &mut String,
+    made: &Result<(), BuildFault>,
+    models: &[Shared<Model>],
+    words: &str,
+) -> Mem<()> {
+    match made {
+        Ok(()) => push_ordered(alloc, text, models, words),
+        Err(fault) => push_fault(alloc, text, fault),
     }
 }
 
-// The same of the POMs that are found.
+// The same of POMs, whose models are added to none.
+fn push_modelled(
+    alloc: Global,
+    text: &mut String,
+    project: &mut Project,
+    given: &Given,
+    poms: &[ModulePom],
+    models: &mut Vec<Shared<Model>>,
+    words: &str,
+) -> Mem<()> {
+    let made = push_models(alloc, project, given, poms, models);
+    push_if_made(alloc, text, &made, models.as_slice(), words)
+}
+
+// The same of POMs.
 fn push_selected(
+    alloc: Global,
+    text: &mut String,
+    project: &mut Project,
+    given: &Given,
+    poms: &[ModulePom],
+    words: &str,
+) -> Mem<()> {
+    let mut models = Vec::new(alloc);
+    push_modelled(alloc, text, project, given, poms, &mut models, words)
+}
+
+// The same of the POMs that are found.
+fn push_if_found(
     alloc: Global,
     text: &mut String,
     project: &mut Project,
@@ -98,31 +161,26 @@ fn push_selected(
     found: &Found,
     words: &str,
 ) -> Mem<()> {
-    let poms = match found {
-        Ok(poms) => poms,
-        Err(fault) => return push_fault(alloc, text, fault),
-    };
-    let mut models = Vec::new(alloc);
-    match &push_models(alloc, project, given, poms.as_slice(), &mut models) {
-        Ok(()) => push_ordered(alloc, text, models.as_slice(), words),
+    match found {
+        Ok(poms) => push_selected(alloc, text, project, given, poms.as_slice(), words),
         Err(fault) => push_fault(alloc, text, fault),
     }
 }
 
-// Puts in the files of a row.
-fn put_row(
+// What is told of what is found.
+fn push_told(
     alloc: Global,
+    text: &mut String,
     project: &mut Project,
+    given: &Given,
+    found: &Found,
     kind: &str,
-    row: &str,
-    fields: &[&str],
+    first: &str,
 ) -> Mem<()> {
-    let count = row.parse::<u32>().unwrap_or(0);
     match kind {
-        "select" => put_all_named(alloc, project, fields),
-        "discover-deep" => put_deep(alloc, project, count),
-        "discover-wide" => put_wide(alloc, project, count),
-        _ => put_fields(alloc, project, fields),
+        "select" => push_if_found(alloc, text, project, given, found, first),
+        "discover" | "discover-failing" => push_found(alloc, text, found),
+        _ => push_count(alloc, text, found),
     }
 }
 
@@ -136,11 +194,7 @@ fn told_with(
     first: &str,
 ) -> Mem<()> {
     let found = found(alloc, project, given);
-    match kind {
-        "select" => push_selected(alloc, text, project, given, &found, first),
-        "discover" | "discover-failing" => push_found(alloc, text, &found),
-        _ => push_count(alloc, text, &found),
-    }
+    push_told(alloc, text, project, given, &found, kind, first)
 }
 
 // The same on a machine with Linux, with the profiles of the first field where these are asked for.

@@ -1,16 +1,15 @@
-// The files of projects.
-use crate::texts::{Coordinates, push_listed, push_pom};
+// The files of a project, as a source of POMs.
+use crate::poms::{Coordinates, pom_of, push_listed};
 use mvn_shared::{Bytes, List, Mem, Text};
 use outside_mem::Calls;
-use row_fields::unescaped;
 use source_mem::MemPoms;
 use std::alloc::Global;
 
 /// A project in memory.
-pub(crate) type Project = MemPoms<Calls>;
+pub type Project = MemPoms<Calls>;
 
 /// A project without files, whose calls with these numbers fail.
-pub(crate) fn empty(alloc: Global, failing: &List<u64>) -> Mem<Project> {
+pub fn empty(alloc: Global, failing: &List<u64>) -> Mem<Project> {
     let calls = Calls::new(alloc, failing)?;
     Ok(MemPoms::new(alloc, calls))
 }
@@ -24,72 +23,51 @@ fn put_bytes(alloc: Global, project: &mut Project, path: &str, bytes: &[u8]) -> 
 
 const PLAIN: Coordinates<'static> = ("g", "a", "1");
 
-// One more POM, which is written into no bytes yet, with this in it behind its coordinates.
-fn put_into(
-    alloc: Global,
-    project: &mut Project,
-    path: &str,
-    named: Coordinates,
-    inside: &[u8],
-    pom: &mut Bytes,
-) -> Mem<()> {
-    push_pom(pom, named, inside)?;
-    put_bytes(alloc, project, path, pom.as_slice())
-}
-
 // One more POM, with this in it behind its coordinates.
 fn put(
     alloc: Global,
     project: &mut Project,
     path: &str,
     named: Coordinates,
-    inside: &[u8],
+    inside: &str,
 ) -> Mem<()> {
-    let mut pom = Bytes::of(Vec::new(alloc));
-    put_into(alloc, project, path, named, inside, &mut pom)
+    let pom = pom_of(alloc, named, inside)?;
+    put_bytes(alloc, project, path, pom.as_slice())
 }
 
 // One more file: its path, and what is in the POM.
 fn put_field(alloc: Global, project: &mut Project, field: &str) -> Mem<()> {
     let (path, inside) = field.split_once(' ').unwrap_or((field, ""));
-    let inside = unescaped(alloc, inside)?;
-    put(alloc, project, path, PLAIN, inside.as_slice())
+    put(alloc, project, path, PLAIN, inside)
 }
 
 // One more file: its path, its artifact, and what is in the POM.
 fn put_named(alloc: Global, project: &mut Project, field: &str) -> Mem<()> {
     let (path, rest) = field.split_once(' ').unwrap_or((field, ""));
     let (artifact, inside) = rest.split_once(' ').unwrap_or((rest, ""));
-    let inside = unescaped(alloc, inside)?;
-    put(
-        alloc,
-        project,
-        path,
-        ("demo", artifact, "1.0"),
-        inside.as_slice(),
-    )
+    put(alloc, project, path, ("demo", artifact, "1.0"), inside)
 }
 
-/// Puts in the files with artifacts of the fields behind the first.
-pub(crate) fn put_all_named(alloc: Global, project: &mut Project, fields: &[&str]) -> Mem<()> {
+// Puts in the files with artifacts of the fields behind the first.
+fn put_all_named(alloc: Global, project: &mut Project, fields: &[&str]) -> Mem<()> {
     for at in 1..fields.len() {
         put_named(alloc, project, fields[at])?;
     }
     Ok(())
 }
 
-/// Puts in the files of the fields behind the first.
-pub(crate) fn put_fields(alloc: Global, project: &mut Project, fields: &[&str]) -> Mem<()> {
+// Puts in the files of the fields behind the first.
+fn put_fields(alloc: Global, project: &mut Project, fields: &[&str]) -> Mem<()> {
     for at in 1..fields.len() {
         put_field(alloc, project, fields[at])?;
     }
     Ok(())
 }
 
-const NEXT: &[u8] = b"<packaging>pom</packaging><modules><module>m</module></modules>";
+const NEXT: &str = "<packaging>pom</packaging><modules><module>m</module></modules>";
 
 // One more POM in a folder.
-fn put_in(alloc: Global, project: &mut Project, folder: &str, inside: &[u8]) -> Mem<()> {
+fn put_in(alloc: Global, project: &mut Project, folder: &str, inside: &str) -> Mem<()> {
     let path = format!(in alloc; "{folder}pom.xml")?;
     put(alloc, project, path.as_str(), PLAIN, inside)
 }
@@ -100,11 +78,11 @@ fn put_below(alloc: Global, project: &mut Project, folder: &mut String, count: u
         put_in(alloc, project, folder.as_str(), NEXT)?;
         folder.push_str("m/")?;
     }
-    put_in(alloc, project, folder.as_str(), b"")
+    put_in(alloc, project, folder.as_str(), "")
 }
 
-/// Puts in POMs of which each lists the next.
-pub(crate) fn put_deep(alloc: Global, project: &mut Project, count: u32) -> Mem<()> {
+// Puts in POMs of which each lists the next.
+fn put_deep(alloc: Global, project: &mut Project, count: u32) -> Mem<()> {
     let mut folder = String::new(alloc);
     put_below(alloc, project, &mut folder, count)
 }
@@ -113,7 +91,7 @@ pub(crate) fn put_deep(alloc: Global, project: &mut Project, count: u32) -> Mem<
 fn put_listed(alloc: Global, project: &mut Project, root: &mut String, number: u32) -> Mem<()> {
     push_listed(alloc, root, number)?;
     let path = format!(in alloc; "m{number}/pom.xml")?;
-    put(alloc, project, path.as_str(), PLAIN, b"")
+    put(alloc, project, path.as_str(), PLAIN, "")
 }
 
 // A POM that lists as many modules, whose text is written into an empty one.
@@ -123,11 +101,28 @@ fn put_root(alloc: Global, project: &mut Project, root: &mut String, count: u32)
         put_listed(alloc, project, root, number)?;
     }
     root.push_str("</modules>")?;
-    put(alloc, project, "pom.xml", PLAIN, root.as_bytes())
+    put(alloc, project, "pom.xml", PLAIN, root.as_str())
 }
 
-/// Puts in a POM that lists as many modules.
-pub(crate) fn put_wide(alloc: Global, project: &mut Project, count: u32) -> Mem<()> {
+// Puts in a POM that lists as many modules.
+fn put_wide(alloc: Global, project: &mut Project, count: u32) -> Mem<()> {
     let mut root = String::new(alloc);
     put_root(alloc, project, &mut root, count)
+}
+
+/// Puts in the files of a row with this first word: those of its fields, or as many as it says.
+pub fn put_row(
+    alloc: Global,
+    project: &mut Project,
+    kind: &str,
+    row: &str,
+    fields: &[&str],
+) -> Mem<()> {
+    let count = row.parse::<u32>().unwrap_or(0);
+    match kind {
+        "select" => put_all_named(alloc, project, fields),
+        "discover-deep" => put_deep(alloc, project, count),
+        "discover-wide" => put_wide(alloc, project, count),
+        _ => put_fields(alloc, project, fields),
+    }
 }

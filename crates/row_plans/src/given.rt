@@ -42,7 +42,7 @@ fn no_machine(alloc: Global) -> Machine {
 }
 
 /// Nothing is given: all texts are empty.
-pub(crate) fn no_given(alloc: Global) -> Given {
+pub fn no_given(alloc: Global) -> Given {
     Given {
         machine: no_machine(alloc),
         defines: List::new(alloc),
@@ -51,7 +51,7 @@ pub(crate) fn no_given(alloc: Global) -> Given {
 }
 
 /// The properties and the profiles of a command line, which are taken out of it: a plan asks it for neither.
-pub(crate) fn given_by(alloc: Global, line: &mut CommandLine) -> Given {
+pub fn given_by(alloc: Global, line: &mut CommandLine) -> Given {
     Given {
         machine: no_machine(alloc),
         defines: replace(&mut line.defines, List::new(alloc)),
@@ -60,7 +60,7 @@ pub(crate) fn given_by(alloc: Global, line: &mut CommandLine) -> Given {
 }
 
 /// Makes an empty machine one with Linux whose root is `/w`.
-pub(crate) fn describe(machine: &mut Machine) -> Mem<()> {
+pub fn describe(machine: &mut Machine) -> Mem<()> {
     machine.root.push_str("/w")?;
     machine.jdk.push_str("17.0.1")?;
     machine.os_name.push_str("Linux")?;
@@ -84,7 +84,7 @@ fn asked(alloc: Global, list: &mut Vec<Bytes>, field: &str) -> Result<CommandLin
 }
 
 /// What words ask for.
-pub(crate) fn line(alloc: Global, field: &str) -> Result<CommandLine, WordError> {
+pub fn line(alloc: Global, field: &str) -> Result<CommandLine, WordError> {
     let mut list = Vec::new(alloc);
     asked(alloc, &mut list, field)
 }

@@ -1,6 +1,6 @@
 // What is told of a plan.
-use crate::plans::modules::{push_module, push_numbers};
-use crate::texts::push_number;
+use crate::modules::{push_module, push_numbers};
+use crate::told::push_number;
 use build_core::{Plan, PlanModule};
 use mvn_base::FileName;
 use mvn_shared::{Mem, Text};
@@ -8,7 +8,7 @@ use std::alloc::Global;
 
 /// What is told of a plan.
 #[derive(Clone, Copy)]
-pub(crate) enum Shown {
+pub enum Shown {
     /// The artifacts of the modules in their order, each with the places of those that it stands on.
     Order,
     /// The names and the files, and a line for each module.
@@ -89,7 +89,7 @@ fn push_whole(alloc: Global, text: &mut String, plan: &Plan) -> Mem<()> {
 }
 
 /// A plan as it is told, written into an empty text.
-pub(crate) fn push_plan(alloc: Global, text: &mut String, plan: &Plan, shown: Shown) -> Mem<()> {
+pub fn push_plan(alloc: Global, text: &mut String, plan: &Plan, shown: Shown) -> Mem<()> {
     match shown {
         Shown::Order => push_order(alloc, text, plan),
         Shown::Whole => push_whole(alloc, text, plan),

@@ -1,5 +1,5 @@
 // The files of a project and of both repositories.
-use crate::texts::{Coordinates, push_pom};
+use crate::poms::{Coordinates, pom_of};
 use goal_types::SourceFile;
 use mvn_base::{FileName, Gav, file_of, valid_group, valid_name, valid_version};
 use mvn_shared::{Bytes, List, Mem, Text};
@@ -9,32 +9,19 @@ use std::alloc::Global;
 
 /// Files by where they stand.
 #[derive(Drop)]
-pub(crate) struct Files {
-    pub(crate) tree: List<SourceFile>,
-    pub(crate) local: List<MemFile>,
-    pub(crate) remote: List<MemFile>,
+pub struct Files {
+    pub tree: List<SourceFile>,
+    pub local: List<MemFile>,
+    pub remote: List<MemFile>,
 }
 
 /// No files.
-pub(crate) fn no_files(alloc: Global) -> Files {
+pub fn no_files(alloc: Global) -> Files {
     Files {
         tree: List::new(alloc),
         local: List::new(alloc),
         remote: List::new(alloc),
     }
-}
-
-// A POM of these coordinates, with bytes in it behind them.
-fn pom_with(alloc: Global, named: Coordinates, inside: &[u8]) -> Mem<Bytes> {
-    let mut pom = Bytes::of(Vec::new(alloc));
-    push_pom(&mut pom, named, inside)?;
-    Ok(pom)
-}
-
-// The same with a field in it.
-fn pom_of(alloc: Global, named: Coordinates, field: &str) -> Mem<Bytes> {
-    let inside = unescaped(alloc, field)?;
-    pom_with(alloc, named, inside.as_slice())
 }
 
 /// One more file of the project.
@@ -96,16 +83,12 @@ fn pom_name(alloc: Global, named: Coordinates) -> Mem<Option<FileName>> {
     name_of(alloc, &gav)
 }
 
-// One more POM of a repository, under this name.
-fn put_pom(
-    alloc: Global,
-    list: &mut List<MemFile>,
-    name: FileName,
-    named: Coordinates,
-    inside: &str,
-) -> Mem<()> {
-    let bytes = pom_of(alloc, named, inside)?;
-    list.push(MemFile { name, bytes })
+// One more POM of a repository, of these bytes, if its coordinates name a file.
+fn put_pom(alloc: Global, list: &mut List<MemFile>, named: Coordinates, bytes: Bytes) -> Mem<()> {
+    match pom_name(alloc, named)? {
+        Some(name) => list.push(MemFile { name, bytes }),
+        None => Ok(()),
+    }
 }
 
 // One more POM of a repository: its coordinates, and what is in it.
@@ -114,10 +97,8 @@ fn put_library(alloc: Global, list: &mut List<MemFile>, field: &str) -> Mem<()> 
     let (artifact, rest) = rest.split_once(' ').unwrap_or((rest, ""));
     let (version, inside) = rest.split_once(' ').unwrap_or((rest, ""));
     let named = (group, artifact, version);
-    match pom_name(alloc, named)? {
-        Some(name) => put_pom(alloc, list, name, named, inside),
-        None => Ok(()),
-    }
+    let bytes = pom_of(alloc, named, inside)?;
+    put_pom(alloc, list, named, bytes)
 }
 
 // One more file of the project: its path, its artifact, and what is in the POM.
@@ -146,7 +127,7 @@ fn put(alloc: Global, files: &mut Files, field: &str) -> Mem<()> {
 }
 
 /// Puts in the files of the fields behind the first.
-pub(crate) fn put_fields(alloc: Global, files: &mut Files, fields: &[&str]) -> Mem<()> {
+pub fn put_fields(alloc: Global, files: &mut Files, fields: &[&str]) -> Mem<()> {
     for at in 1..fields.len() {
         put(alloc, files, fields[at])?;
     }

@@ -1,6 +1,5 @@
-// The POMs of a repository on a disk.
+// The POMs of a repository.
 use crate::reading::{all_files, pom_bytes};
-use disk_reading::RealTree;
 use mvn_base::{Gav, PomId};
 use mvn_outside::{ReadFault, Tree};
 use mvn_shared::{Bytes, Mem, Text};
@@ -68,8 +67,8 @@ fn put_file<T: Tree>(
     Ok(())
 }
 
-// Puts each POM of a tree under its coordinates.
-fn put_tree<T: Tree>(
+/// Puts each POM of a repository's tree under its coordinates.
+pub fn put_library<T: Tree>(
     source: &mut MemPoms<NoFailures>,
     tree: &mut T,
     alloc: Global,
@@ -79,14 +78,4 @@ fn put_tree<T: Tree>(
         put_file(source, tree, alloc, path)?;
     }
     Ok(())
-}
-
-/// Puts each POM of a repository under its coordinates.
-pub(crate) fn read_library(
-    rt: &HostRuntime,
-    source: &mut MemPoms<NoFailures>,
-    folder: &str,
-) -> anyhow::Result<()> {
-    let mut tree = RealTree::new(rt, Text::from_str(rt.alloc(), folder)?);
-    put_tree(source, &mut tree, rt.alloc())
 }

@@ -1,4 +1,4 @@
-// How POMs are read from a disk.
+// How POMs are read from a tree.
 use mvn_base::POM_LIMIT;
 use mvn_outside::{ListFault, ReadFault, Tree};
 use mvn_shared::{Bytes, List, Mem, Text};

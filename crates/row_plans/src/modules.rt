@@ -1,5 +1,5 @@
 // What is told of a module of a plan.
-use crate::texts::push_number;
+use crate::told::push_number;
 use build_core::{Entry, Origin, OwnFile, PlanModule};
 use goal_types::{Slot, SourceFile};
 use mvn_shared::Mem;

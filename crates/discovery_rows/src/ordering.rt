@@ -1,8 +1,6 @@
 // The modules of projects in order, and those that are selected.
-use crate::discovery::project::Project;
-use crate::given::line;
 use build_order::{BuildOrder, build_order};
-use cli_words::CommandLine;
+use cli_words::{CommandLine, WordError};
 use effective::effective;
 use model_types::Model;
 use module_edges::{ModuleIndex, push_firm, soft_edges};
@@ -12,6 +10,8 @@ use mvn_base::{ModelError, PomId};
 use mvn_shared::{List, Mem, OutOfMemory, Shared};
 use pom_source::{BuildFault, Given};
 use reactor_order::{edges_below, modules_below};
+use row_plans::line;
+use row_projects::Project;
 use std::alloc::Global;
 
 // One more in a list.
@@ -118,6 +118,19 @@ fn chosen_by(
     selected(alloc, models, order, edges, line)
 }
 
+// The modules that a command line selects, if there is one.
+fn chosen_if_line(
+    alloc: Global,
+    models: &[Shared<Model>],
+    found: &BuildOrder,
+    line: &Result<CommandLine, WordError>,
+) -> Result<List<u32>, SelectionFault> {
+    match line {
+        Ok(line) => chosen_by(alloc, models, found, line),
+        Err(_) => Err(SelectionFault::Memory),
+    }
+}
+
 /// The modules that words select.
 pub(crate) fn chosen(
     alloc: Global,
@@ -125,8 +138,6 @@ pub(crate) fn chosen(
     found: &BuildOrder,
     words: &str,
 ) -> Result<List<u32>, SelectionFault> {
-    match &line(alloc, words) {
-        Ok(line) => chosen_by(alloc, models, found, line),
-        Err(_) => Err(SelectionFault::Memory),
-    }
+    let line = line(alloc, words);
+    chosen_if_line(alloc, models, found, &line)
 }

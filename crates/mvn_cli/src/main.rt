@@ -8,7 +8,7 @@ use mvn_base::Machine;
 use mvn_outside::{DeviceFault, Gate, Hand, Remote, Shelf, Sink, Tree};
 use mvn_shared::{Bytes, Mem};
 use mvn_top::{FAULT, NO_MEMORY};
-use real_devices::{Devices, devices, standard_output};
+use real_devices::{Devices, named_devices, standard_output};
 use std::alloc::Global;
 use std::process::ExitCode;
 use std::sync::Wait;
@@ -80,7 +80,7 @@ fn build<W: Threads + Wait + Sync, O: Sink>(
     words: &[Bytes],
     out: &mut O,
 ) -> Mem<u8> {
-    let devices = devices(rt)?;
+    let devices = named_devices(rt)?;
     Ok(build_over(threads, rt.alloc(), words, devices, out))
 }
 

@@ -41,7 +41,7 @@ fn devices_at<'a>(
 }
 
 // The devices at the places that the variables name.
-fn devices_named<'a>(rt: &'a HostRuntime, variables: &BTreeMap<Text, Text>) -> Mem<Devices<'a>>
+fn devices_with<'a>(rt: &'a HostRuntime, variables: &BTreeMap<Text, Text>) -> Mem<Devices<'a>>
     ensures { IfOk result (λ devices. length devices.hands.items ≡ 16) }
 {
     let number = process::id(rt.process());
@@ -50,11 +50,11 @@ fn devices_named<'a>(rt: &'a HostRuntime, variables: &BTreeMap<Text, Text>) -> M
 }
 
 /// The devices that the environment names, with 16 hands. Opens nothing. Costs reading the environment.
-pub fn devices<'a>(rt: &'a HostRuntime) -> Mem<Devices<'a>>
+pub fn named_devices<'a>(rt: &'a HostRuntime) -> Mem<Devices<'a>>
     ensures { IfOk result (λ devices. length devices.hands.items ≡ 16) }
 {
     let variables = variables(rt, rt.alloc())?;
-    devices_named(rt, &variables)
+    devices_with(rt, &variables)
 }
 
 /// Standard output, by a duplicate that is written without a signal where nobody reads: a closed pipe is then a fault. Nothing if there is

@@ -6,6 +6,6 @@ mod devices;
 mod gates;
 mod hands;
 
-pub use devices::{Devices, devices, standard_output};
+pub use devices::{Devices, named_devices, standard_output};
 pub use gates::RealGate;
 pub use hands::RealHand;

@@ -1,3 +1,2 @@
-pub mod Gates
 pub mod Variables
 pub mod Words

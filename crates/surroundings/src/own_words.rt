@@ -1,6 +1,6 @@
 // The words that the program answers itself.
 ghost use Rattle.std.specs.Prelude.{◌≡◌, codes};
-ghost use Rattle.mvn_cli.specs.Words.{is_only_word};
+ghost use Rattle.surroundings.specs.Words.{is_only_word};
 
 use mvn_shared::Bytes;
 

@@ -1,6 +1,6 @@
 // What runs the goals.
 ghost use Rattle.std.specs.Prelude.{◌≡◌, IfOk};
-ghost use Rattle.mvn_cli.specs.Gates.{named_program, gate_program};
+ghost use Rattle.real_devices.specs.Gates.{named_program, gate_program};
 
 use child_real::RealSpawner;
 use gate_builtin::Builtin;
@@ -8,7 +8,7 @@ use gate_process::{AnyGate, ProcessGate};
 use mvn_shared::{Mem, Text};
 
 /// The built-in goals, or children of the system.
-pub(crate) type RealGate<'a> = AnyGate<RealSpawner<'a, HostRuntime>>;
+pub type RealGate<'a> = AnyGate<RealSpawner<'a, HostRuntime>>;
 
 /// Goals in children that run this program; the built-in goals if its name is empty.
 pub(crate) fn gate<'a>(rt: &'a HostRuntime, program: &Text) -> Mem<RealGate<'a>>

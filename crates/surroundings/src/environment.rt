@@ -1,14 +1,13 @@
-// What the program takes from its surroundings: its words, the variables of the environment, and its own process.
+// What the program takes from its surroundings: its words, the variables of the environment, and a name of its own process.
 ghost use Rattle.std.specs.Prelude.{◌≡◌, IfOk};
 ghost use Rattle.std.specs.Option.{option_copied};
-ghost use Rattle.mvn_cli.specs.Variables.{value_or};
+ghost use Rattle.surroundings.specs.Variables.{value_or};
 
 use mvn_base::{Machine, Pair};
 use mvn_shared::{Bytes, List, Mem, OutOfMemory, Text, TextError};
 use std::alloc::Global;
 use std::collections::BTreeMap;
 use std::env::FillError;
-use std::process;
 use std::rt::{Clock, Env};
 
 /// How many bytes a word or a variable may have, tried one after another. The system's own limit lies below the last.
@@ -49,7 +48,7 @@ fn bytes_of<R: Env>(rt: &R, alloc: Global, wanted: Wanted) -> Mem<Option<Vec<u8>
 }
 
 /// The words behind the program's name.
-pub(crate) fn words<R: Env>(rt: &R, alloc: Global) -> Mem<Vec<Bytes>> {
+pub fn words<R: Env>(rt: &R, alloc: Global) -> Mem<Vec<Bytes>> {
     let mut words = Vec::new(alloc);
     for i in 1..usize::MAX {
         let Some(word) = bytes_of(rt, alloc, Wanted::Word(i))? else {
@@ -74,18 +73,21 @@ fn put_variable(alloc: Global, variables: &mut BTreeMap<Text, Text>, entry: &[u8
     let Some(at) = entry.iter().position(|b| *b == b'=') else {
         return Ok(());
     };
-    let name = text_of(alloc, &entry[..at])?;
-    let value = text_of(alloc, &entry[at + 1..])?;
-    if let (Some(name), Some(value)) = (name, value) {
-        if !variables.contains_key(&name) {
-            variables.insert(name, value)?;
-        }
+    let Some(name) = text_of(alloc, &entry[..at])? else {
+        return Ok(());
+    };
+    if variables.contains_key(&name) {
+        return Ok(());
     }
+    let Some(value) = text_of(alloc, &entry[at + 1..])? else {
+        return Ok(());
+    };
+    variables.insert(name, value)?;
     Ok(())
 }
 
 /// The variables of the environment whose name and value are texts; of two with one name the first counts.
-pub(crate) fn variables<R: Env>(rt: &R, alloc: Global) -> Mem<BTreeMap<Text, Text>> {
+pub fn variables<R: Env>(rt: &R, alloc: Global) -> Mem<BTreeMap<Text, Text>> {
     let mut variables = BTreeMap::new(alloc);
     for i in 0..usize::MAX {
         let Some(entry) = bytes_of(rt, alloc, Wanted::Variable(i))? else {
@@ -127,9 +129,8 @@ fn now<R: Clock>(rt: &R) -> u128 {
     }
 }
 
-/// A name of this process that no other has while its files are there: its number, and when it began.
-pub(crate) fn process_name(rt: &HostRuntime, alloc: Global) -> Mem<Text> {
-    let number = process::id(rt.process());
+/// A name of the process with this number that no other has while its files are there: that number, and when it began.
+pub(crate) fn process_name<R: Clock>(rt: &R, alloc: Global, number: u32) -> Mem<Text> {
     let start = now(rt);
     Ok(Text::of(format!(in alloc; "{number}-{start}")?))
 }
@@ -169,11 +170,11 @@ fn linux(alloc: Global) -> Mem<System> {
 }
 
 /// What a project may ask of this machine.
-pub(crate) fn machine(alloc: Global, variables: &BTreeMap<Text, Text>) -> Mem<Machine> {
+pub fn machine(alloc: Global, variables: &BTreeMap<Text, Text>) -> Mem<Machine> {
     let root = variable_or(alloc, variables, "PWD", ".")?;
     let jdk = variable_or(alloc, variables, "MVN_JDK", "")?;
-    let env = pairs(alloc, variables)?;
     let system = linux(alloc)?;
+    let env = pairs(alloc, variables)?;
     Ok(Machine {
         root,
         env,

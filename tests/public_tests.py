@@ -4,8 +4,8 @@
     tests/public_tests.py           prints the functions that nothing calls, and a line of counts; fails where there is one
     tests/public_tests.py --all     prints a line for each function: crate, function, and the files that call it
 
-A function counts as called where a file of a test crate (`*_tests`), of a program of rows (`*_rows`, `row_models`) or of a
-measurement (`bench_*` and `classpath_list`, whose stored runs are compared too) names it: a function by its own name, one of a type
+A function counts as called where a file of a test crate (`*_tests`), of a program of rows (`*_rows`, and the libraries that these alone
+stand on, as `row_models` and `*_builds`) or of a measurement (`bench_*` and `classpath_list`, whose stored runs are compared too) names it: a function by its own name, one of a type
 without `self` as `Type::name`, a method as `.name(` in a file that names the crate. Where no such file does, the code that names it is listed behind
 the word `through`. Names are read and no types: a method with a common name may be found by a call of another type's.
 
@@ -17,7 +17,7 @@ import re
 import sys
 
 TOP = os.path.join(os.path.dirname(os.path.abspath(__file__)), "..", "crates")
-CALLERS = re.compile(r"(_tests|_rows)$|^row_models$|^bench_|^classpath_list$")
+CALLERS = re.compile(r"(_tests|_rows|_builds)$|^(row_models|waiting_hands|build_images)$|^bench_|^classpath_list$")
 HEAD = re.compile(r"^(?:pub )?(impl|trait|struct|enum|mod)\b(.*)$")
 
 

@@ -18,7 +18,7 @@ fn file<F: Failures>(shelf: &mut MemShelf<F>, name: &FileName) -> Mem<Option<Byt
 }
 
 /// Adds the file under each of these names, in their order.
-pub(crate) fn put_files_under<F: Failures>(
+pub fn put_files_under<F: Failures>(
     shelf: &mut MemShelf<F>,
     names: &[FileName],
     files: &mut List<Option<Bytes>>,
@@ -30,7 +30,7 @@ pub(crate) fn put_files_under<F: Failures>(
 }
 
 /// The file under each of these names, in their order.
-pub(crate) fn files_under<F: Failures>(
+pub fn files_under<F: Failures>(
     alloc: Global,
     shelf: &mut MemShelf<F>,
     names: &[FileName],
@@ -41,7 +41,7 @@ pub(crate) fn files_under<F: Failures>(
 }
 
 /// Whether at this place stands the same in both.
-pub(crate) fn same_at(one: &[Option<Bytes>], other: &[Option<Bytes>], at: usize) -> bool {
+pub fn same_at(one: &[Option<Bytes>], other: &[Option<Bytes>], at: usize) -> bool {
     match (one.get(at), other.get(at)) {
         (Some(one), Some(other)) => one == other,
         _ => false,

@@ -1,18 +1,16 @@
 // Builds that a stop cut short.
-mod images;
-mod project;
-
-use crate::build::{CALM, Left, Worker, build, shelf, worker};
-use images::images;
+use crate::project::put_fields;
+use build_images::{build_calm, push_images};
 use mvn_shared::{Bytes, List, Mem};
-use outside_mem::{Calls, MemArea};
-use project::put_fields;
+use outside_mem::{Calls, MemArea, NoFailures};
+use project_builds::{Left, build_local};
 use random_projects::Project;
 use random_projects::project::empty;
 use row_fields::escaped;
 use std::alloc::Global;
 use std::sync::Wait;
 use std::thread::Threads;
+use waiting_hands::{Worker, calm, hand_with};
 
 // The number at this place of a field, or 0.
 fn number(numbers: &str, at: usize) -> usize {
@@ -51,8 +49,8 @@ fn push_escaped(alloc: Global, bytes: &[u8], out: &mut String) -> Mem<()> {
 
 // What is told of a build.
 fn push_left<F>(alloc: Global, left: &Left<F>, pieces: u64, out: &mut String) -> Mem<()> {
-    let files = left.ended.shelf.names();
-    push_counts(alloc, left.ended.status, files, pieces, out)?;
+    let files = left.shelf.names();
+    push_counts(alloc, left.status, files, pieces, out)?;
     push_escaped(alloc, left.report.as_slice(), out)
 }
 
@@ -92,7 +90,7 @@ fn hand(
         "leftovers" => area_with(alloc, first)?,
         _ => failing_area(alloc, at == first)?,
     };
-    worker(alloc, project, &CALM, 0, area)
+    hand_with(alloc, project, &calm(), 0, area)
 }
 
 fn put_hands(
@@ -109,19 +107,7 @@ fn put_hands(
     Ok(())
 }
 
-// What a build by these hands leaves.
-fn left_by<W: Threads + Wait + Sync>(
-    rt: &W,
-    alloc: Global,
-    project: &Project,
-    workers: usize,
-    hands: &mut [Worker<Calls>],
-) -> Mem<Left<Calls>> {
-    let mut shelf = Some(shelf(alloc, project, None)?);
-    build(rt, alloc, project, workers, &mut shelf, hands)
-}
-
-// The same by hands, none of which is there yet.
+// What is told of a build by hands, none of which is there yet.
 fn tell_by<W: Threads + Wait + Sync>(
     rt: &W,
     alloc: Global,
@@ -132,7 +118,7 @@ fn tell_by<W: Threads + Wait + Sync>(
     out: &mut String,
 ) -> Mem<()> {
     put_hands(alloc, project, kind, numbers, hands)?;
-    let left = left_by(rt, alloc, project, number(numbers, 2), hands)?;
+    let left = build_local(rt, alloc, project, None, number(numbers, 2), hands)?;
     push_left(alloc, &left, pieces_left(hands), out)
 }
 
@@ -147,6 +133,31 @@ fn by_hands<W: Threads + Wait + Sync>(
 ) -> Mem<()> {
     let mut hands = Vec::new(alloc);
     tell_by(rt, alloc, project, kind, numbers, &mut hands, out)
+}
+
+// What is told of a build, and of another by so many workers over each image of each moment of its repository.
+fn push_both<W: Threads + Wait + Sync>(
+    rt: &W,
+    alloc: Global,
+    project: &Project,
+    again: usize,
+    left: &Left<NoFailures>,
+    out: &mut String,
+) -> Mem<()> {
+    push_left(alloc, left, 0, out)?;
+    push_images(rt, alloc, project, again, left, out)
+}
+
+// The same of a build that hasn't begun.
+fn images<W: Threads + Wait + Sync>(
+    rt: &W,
+    alloc: Global,
+    project: &Project,
+    numbers: &str,
+    out: &mut String,
+) -> Mem<()> {
+    let left = build_calm(rt, alloc, project, number(numbers, 0))?;
+    push_both(rt, alloc, project, number(numbers, 1), &left, out)
 }
 
 // What is told of a project of these fields, of which it has none yet.

@@ -12,7 +12,7 @@ use std::thread;
 /// How many calls have begun, how many have to before a goal goes on and before a jar is handed out, how often one looks whether they have,
 /// and how many fetches looked in vain.
 #[derive(Drop)]
-pub(crate) struct Meeting {
+pub struct Meeting {
     begun: AtomicU32,
     vain: AtomicU32,
     at_goal: u32,
@@ -32,12 +32,12 @@ impl Meeting {
     }
 
     /// The first goals wait until three have begun.
-    pub(crate) fn of_goals(looks: u32) -> Meeting {
+    pub fn of_goals(looks: u32) -> Meeting {
         Meeting::new(3, 0, looks)
     }
 
     /// The first goal waits until a fetch has begun, and the fetch until the next goal has.
-    pub(crate) fn of_a_fetch(looks: u32) -> Meeting {
+    pub fn of_a_fetch(looks: u32) -> Meeting {
         Meeting::new(2, 3, looks)
     }
 
@@ -76,11 +76,11 @@ fn goes_on(meeting: Option<&Meeting>) -> bool {
 
 /// The built-in goals. The first of them wait, and they fail as `alone` where that was in vain.
 #[derive(Drop)]
-pub(crate) struct WaitingGate<'a, F> {
-    pub(crate) alloc: Global,
-    pub(crate) goals: Builtin,
-    pub(crate) calls: F,
-    pub(crate) meeting: Option<&'a Meeting>,
+pub struct WaitingGate<'a, F> {
+    pub alloc: Global,
+    pub goals: Builtin,
+    pub calls: F,
+    pub meeting: Option<&'a Meeting>,
 }
 
 // What a goal answers that waited in vain.
@@ -121,9 +121,9 @@ impl<'a, F: Failures> Gate for WaitingGate<'a, F> {
 
 /// A repository of which calls for a jar wait.
 #[derive(Drop)]
-pub(crate) struct WaitingRemote<'a, R> {
-    pub(crate) files: R,
-    pub(crate) meeting: Option<&'a Meeting>,
+pub struct WaitingRemote<'a, R> {
+    pub files: R,
+    pub meeting: Option<&'a Meeting>,
 }
 
 impl<'a, R: Remote> Remote for WaitingRemote<'a, R> {

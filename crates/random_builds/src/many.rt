@@ -1,15 +1,13 @@
 // Builds of projects that are made from numbers.
-use crate::build::{CALM, Left, Manner};
-use crate::crews::faults::Faults;
-use crate::crews::left;
-use crate::crews::same::leave_same;
-use crate::crews::touched::is_untouched;
+use crate::touched::{is_untouched, leave_same};
 use mvn_shared::Mem;
 use outside_mem::Calls;
-use random_projects::{Project, random_project};
+use project_builds::{Left, build_by};
+use random_projects::{Faults, Project, random_project};
 use std::alloc::Global;
 use std::sync::Wait;
 use std::thread::Threads;
+use waiting_hands::{Manner, calm};
 
 // The most modules below the root.
 const MODULES: u32 = 30;
@@ -76,7 +74,7 @@ fn count(
     counts: &mut Counts,
 ) -> Mem<()> {
     let right = is_right(alloc, project, faults, one, many)?;
-    counts.count(seed, many.ended.status, right);
+    counts.count(seed, many.status, right);
     Ok(())
 }
 
@@ -90,7 +88,7 @@ fn compare_with<W: Threads + Wait + Sync>(
     one: &Left<Calls>,
     counts: &mut Counts,
 ) -> Mem<()> {
-    let many = left(rt, alloc, project, workers(seed), manner)?;
+    let many = build_by(rt, alloc, project, workers(seed), manner)?;
     count(alloc, project, seed, manner.faults, one, &many, counts)
 }
 
@@ -107,7 +105,7 @@ fn compare<W: Threads + Wait + Sync>(
         faults,
         meeting: None,
     };
-    let one = left(rt, alloc, project, 1, &CALM)?;
+    let one = build_by(rt, alloc, project, 1, &calm())?;
     compare_with(rt, alloc, project, seed, &manner, &one, counts)
 }
 
@@ -169,8 +167,8 @@ fn push_counts(
     push_wrong(alloc, counts, out)
 }
 
-/// Projects built by one worker and by several, with faults or without.
-pub(crate) fn many<W: Threads + Wait + Sync>(
+/// What is told of so many projects, from this number on, each built by one worker and by several, with faults or without.
+pub fn push_random<W: Threads + Wait + Sync>(
     rt: &W,
     alloc: Global,
     first: u32,

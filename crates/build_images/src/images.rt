@@ -1,13 +1,13 @@
-// A build, and another over each image of each moment of its repository.
-use crate::build::{CALM, Left, Worker, build, worker};
-use crate::files::{files_under, same_at};
-use crate::stops::{number, push_left};
+// A build over each image of each moment of another's repository.
+use compared_builds::{files_under, same_at};
 use mvn_shared::{Bytes, List, Mem};
 use outside_mem::{MemArea, MemShelf, NoFailures};
+use project_builds::{Left, build};
 use random_projects::Project;
 use std::alloc::Global;
 use std::sync::Wait;
 use std::thread::Threads;
+use waiting_hands::{Worker, calm, hand_with};
 
 /// A project, by how many workers it is built again, the files that its repository had, and what the build left.
 #[derive(Drop)]
@@ -48,7 +48,7 @@ fn old_files(alloc: Global, project: &Project) -> Mem<List<Option<Bytes>>> {
 
 // A hand whose area has no piece.
 fn hand(alloc: Global, project: &Project) -> Mem<Worker<'static, NoFailures>> {
-    worker(alloc, project, &CALM, 0, MemArea::without_failures(alloc))
+    hand_with(alloc, project, &calm(), 0, MemArea::without_failures(alloc))
 }
 
 // So many more.
@@ -123,9 +123,9 @@ fn is_whole(
 
 // The build ended as the other did: the same status, text and files.
 fn ended_alike(one: &Left<NoFailures>, other: &Left<NoFailures>) -> bool {
-    one.ended.status == other.ended.status
+    one.status == other.status
         && one.report == other.report
-        && one.ended.shelf.names() == other.ended.shelf.names()
+        && one.shelf.names() == other.shelf.names()
         && one.files.as_slice() == other.files.as_slice()
 }
 
@@ -175,7 +175,7 @@ fn look_at<W: Threads + Wait + Sync>(
     newest: &[bool],
     tally: &mut Tally,
 ) -> Mem<()> {
-    let shelf = &undisturbed.left.ended.shelf;
+    let shelf = &undisturbed.left.shelf;
     if moment >= shelf.moments() {
         return Ok(());
     }
@@ -219,13 +219,13 @@ fn tally_text(alloc: Global, moments: u64, tally: &Tally) -> Mem<String> {
 }
 
 // What is told of the images.
-fn push_images<W: Threads + Wait + Sync>(
+fn push_all<W: Threads + Wait + Sync>(
     rt: &W,
     alloc: Global,
     undisturbed: &Undisturbed,
     out: &mut String,
 ) -> Mem<()> {
-    let moments = undisturbed.left.ended.shelf.moments();
+    let moments = undisturbed.left.shelf.moments();
     let mut tally = Tally {
         images: 0,
         whole: 0,
@@ -238,8 +238,8 @@ fn push_images<W: Threads + Wait + Sync>(
     Ok(())
 }
 
-// A build over the project's own repository.
-fn over_own<W: Threads + Wait + Sync>(
+/// A build over the project's own repository, of which no call fails, by so many workers.
+pub fn build_calm<W: Threads + Wait + Sync>(
     rt: &W,
     alloc: Global,
     project: &Project,
@@ -249,8 +249,8 @@ fn over_own<W: Threads + Wait + Sync>(
     over(rt, alloc, project, workers, &mut shelf)
 }
 
-// What is told of the images of a build, by how many workers it is built again.
-fn push_images_of<W: Threads + Wait + Sync>(
+/// What is told of another build, by so many workers, over each image of each moment of the repository that a build left.
+pub fn push_images<W: Threads + Wait + Sync>(
     rt: &W,
     alloc: Global,
     project: &Project,
@@ -265,30 +265,5 @@ fn push_images_of<W: Threads + Wait + Sync>(
         old: old.as_slice(),
         left,
     };
-    push_images(rt, alloc, &undisturbed, out)
-}
-
-// The same behind what is told of the build.
-fn push_left_and_images<W: Threads + Wait + Sync>(
-    rt: &W,
-    alloc: Global,
-    project: &Project,
-    workers: usize,
-    left: &Left<NoFailures>,
-    out: &mut String,
-) -> Mem<()> {
-    push_left(alloc, left, 0, out)?;
-    push_images_of(rt, alloc, project, workers, left, out)
-}
-
-/// What is told of a build, and of another over each image of each moment of its repository.
-pub(crate) fn images<W: Threads + Wait + Sync>(
-    rt: &W,
-    alloc: Global,
-    project: &Project,
-    numbers: &str,
-    out: &mut String,
-) -> Mem<()> {
-    let left = over_own(rt, alloc, project, number(numbers, 0))?;
-    push_left_and_images(rt, alloc, project, number(numbers, 1), &left, out)
+    push_all(rt, alloc, &undisturbed, out)
 }

@@ -1,45 +1,10 @@
-// What a build with faults may leave, beside one without.
-use crate::build::Left;
-use crate::crews::same::all_stand;
-use crate::crews::shown::text_of;
-use crate::files::same_at;
-use mvn_base::FileName;
-use mvn_shared::{Bytes, Mem};
-use outside_mem::{Calls, MemFile};
+// What a build may leave, beside one by one worker without faults.
+use compared_builds::{all_stand, are_whole, same_at};
+use mvn_shared::Mem;
+use outside_mem::Calls;
+use project_builds::Left;
 use random_projects::Project;
 use std::alloc::{AllocError, Global};
-
-// The bytes that a repository had under a name.
-fn bytes_of<'a>(files: &'a [MemFile], name: &FileName) -> Option<&'a Bytes> {
-    for file in files {
-        if file.name == *name {
-            return Some(&file.bytes);
-        }
-    }
-    None
-}
-
-// Whether a name has what it had before, or what the build without faults gave it.
-fn is_whole(before: Option<&Bytes>, calm: &Option<Bytes>, now: &Option<Bytes>) -> bool {
-    match (before, now) {
-        (None, None) => true,
-        (Some(old), Some(new)) if old == new => true,
-        _ => now.is_some() && now == calm,
-    }
-}
-
-// The same of all names.
-fn are_whole(project: &Project, calm: &Left<Calls>, left: &Left<Calls>) -> bool {
-    let names = project.names.as_slice();
-    for at in 0..names.len() {
-        let before = bytes_of(project.local.as_slice(), &names[at]);
-        match (calm.files.get(at), left.files.get(at)) {
-            (Some(calm), Some(now)) if is_whole(before, calm, now) => {}
-            _ => return false,
-        }
-    }
-    true
-}
 
 // How many names have a file.
 fn count(left: &Left<Calls>) -> u64 {
@@ -159,11 +124,21 @@ fn built_are_installed(
     true
 }
 
+// Whether each file is one from before or one of the build without faults.
+fn files_are_whole(project: &Project, calm: &Left<Calls>, left: &Left<Calls>) -> bool {
+    are_whole(
+        project.names.as_slice(),
+        project.local.as_slice(),
+        calm.files.as_slice(),
+        left.files.as_slice(),
+    )
+}
+
 // Whether files and answers are as they may be, whatever the report says.
 fn parts_are_whole(project: &Project, calm: &Left<Calls>, left: &Left<Calls>) -> bool {
-    are_whole(project, calm, left)
-        && count(left) == left.ended.shelf.names()
-        && all_stand(left.ended.answers.as_slice(), calm.ended.answers.as_slice())
+    files_are_whole(project, calm, left)
+        && count(left) == left.shelf.names()
+        && all_stand(left.answers.as_slice(), calm.answers.as_slice())
 }
 
 /// Whether a build with faults left each name whole, and each module as without them that no fault touched.
@@ -176,13 +151,25 @@ pub(crate) fn is_untouched(
     if !parts_are_whole(project, calm, left) {
         return Ok(false);
     }
-    let report = text_of(&left.report);
+    let report = left.text();
     if report.starts_with("fault ") {
-        let files = left.ended.shelf.names();
-        return Ok(left.ended.status == 3 && files == project.local.len() as u64);
+        let files = left.shelf.names();
+        return Ok(left.status == 3 && files == project.local.len() as u64);
     }
     if !built_are_installed(project, calm, left, report) {
         return Ok(false);
     }
-    is_report(alloc, text_of(&calm.report), report)
+    is_report(alloc, calm.text(), report)
+}
+
+/// Whether two builds left the same status, report and files, and were answered the same, in any order.
+pub(crate) fn leave_same(one: &Left<Calls>, many: &Left<Calls>) -> bool {
+    let answers = one.answers.as_slice();
+    let others = many.answers.as_slice();
+    one.status == many.status
+        && one.report == many.report
+        && one.shelf.names() == many.shelf.names()
+        && one.files.as_slice() == many.files.as_slice()
+        && answers.len() == others.len()
+        && all_stand(answers, others)
 }

@@ -1,11 +1,11 @@
 // Which calls of the objects fail.
+use crate::draws::Draws;
 use mvn_shared::{List, Mem};
-use random_projects::Draws;
 use std::alloc::Global;
 
 /// An object of which calls may fail: the local repository, or a hand's remote repository, staging area or goals.
 #[derive(Clone, Copy)]
-pub(crate) enum Device {
+pub enum Device {
     Shelf,
     Remote(u32),
     Area(u32),
@@ -13,10 +13,10 @@ pub(crate) enum Device {
 }
 
 /// The number that the failing calls are made from, or no failing calls.
-pub(crate) type Faults = Option<u32>;
+pub type Faults = Option<u32>;
 
-// A number for each object.
-fn place(device: Device) -> u32 {
+/// A number for each object.
+pub(crate) fn place(device: Device) -> u32 {
     match device {
         Device::Shelf => 0,
         Device::Remote(hand) => (hand % 16).wrapping_add(1),
@@ -39,7 +39,7 @@ fn drawn(device: Device, draws: &mut Draws) -> Option<u64> {
 }
 
 /// The numbers of the object's calls that fail.
-pub(crate) fn calls(alloc: Global, faults: Faults, device: Device) -> Mem<List<u64>> {
+pub fn calls(alloc: Global, faults: Faults, device: Device) -> Mem<List<u64>> {
     let mut list = List::new(alloc);
     if let Some(seed) = faults {
         let mut draws = Draws::new(seed.wrapping_mul(64).wrapping_add(place(device)));

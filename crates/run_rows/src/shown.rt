@@ -1,24 +1,15 @@
 // What is told of the worked rows.
-use crate::build::{CALM, Left, Manner};
-use crate::crews::left;
-use crate::crews::waiting::Meeting;
-use crate::crews::worked::{put_failing, put_fetching, put_independent};
+use crate::worked::{put_failing, put_fetching, put_independent};
 use mvn_base::FileName;
 use mvn_shared::{Bytes, Mem};
 use outside_mem::Calls;
+use project_builds::{Left, build_by};
 use random_projects::Project;
 use random_projects::project::empty;
 use std::alloc::Global;
 use std::sync::Wait;
 use std::thread::Threads;
-
-/// The text of a report.
-pub(crate) fn text_of(bytes: &Bytes) -> &str {
-    match std::str::from_utf8(bytes.as_slice()) {
-        Ok(text) => text,
-        Err(_) => "no text\n",
-    }
-}
+use waiting_hands::{Manner, Meeting, calm};
 
 fn push_status(alloc: Global, status: u8, out: &mut String) -> Mem<()> {
     out.push_str(format!(in alloc; "status {status}\n")?.as_str())?;
@@ -27,8 +18,8 @@ fn push_status(alloc: Global, status: u8, out: &mut String) -> Mem<()> {
 
 // The status and the report.
 fn push_report(alloc: Global, left: &Left<Calls>, out: &mut String) -> Mem<()> {
-    push_status(alloc, left.ended.status, out)?;
-    out.push_str(text_of(&left.report))?;
+    push_status(alloc, left.status, out)?;
+    out.push_str(left.text())?;
     Ok(())
 }
 
@@ -45,7 +36,7 @@ fn waited<W: Threads + Wait + Sync>(
         faults: None,
         meeting: Some(meeting),
     };
-    let left = left(rt, alloc, project, workers, &manner)?;
+    let left = build_by(rt, alloc, project, workers, &manner)?;
     push_report(alloc, &left, out)
 }
 
@@ -115,7 +106,7 @@ fn push_left<W: Threads + Wait + Sync>(
     workers: u32,
     out: &mut String,
 ) -> Mem<()> {
-    let left = left(rt, alloc, project, workers, &CALM)?;
+    let left = build_by(rt, alloc, project, workers, &calm())?;
     push_both(alloc, project, &left, out)
 }
 

@@ -17,7 +17,7 @@ import re
 import sys
 
 TOP = os.path.join(os.path.dirname(os.path.abspath(__file__)), "..", "crates")
-CALLERS = re.compile(r"(_tests|_rows|_builds)$|^(row_models|waiting_hands|build_images)$|^bench_|^classpath_list$")
+CALLERS = re.compile(r"(_tests|_rows|_builds)$|^(row_models|waiting_hands|build_images|board_site|board_turns)$|^bench_|^classpath_list$")
 HEAD = re.compile(r"^(?:pub )?(impl|trait|struct|enum|mod)\b(.*)$")
 
 

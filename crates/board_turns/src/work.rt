@@ -1,18 +1,17 @@
 // Turns of a worker that fetch, read, answer and install.
-use crate::deeds::{Came, MOST};
 use crate::hand::{Hand, Stage, Turn};
 use crate::script::{place, plain};
-use crate::site::Site;
-use crate::world::World;
+use board_site::{Came, MOST, Site};
 use build_core::{Device, Ending, Entry, Origin, Plan, PlanModule};
 use goal_types::Slot;
 use mvn_outside::{ReadFault, Remote};
 use mvn_shared::{Bytes, Mem};
 use outside_mem::{Calls, MemRemote, MemShelf};
+use random_projects::World;
 use std::alloc::Global;
 
 /// A site over a repository in memory.
-pub(crate) type Table<'a> = Site<'a, MemShelf<Calls>>;
+pub type Table<'a> = Site<'a, MemShelf<Calls>>;
 
 // What comes of an event while names of the batch are held.
 fn came_held(came: Came, next: Stage) -> Turn {
@@ -56,7 +55,7 @@ fn remote_bytes(remote: &mut MemRemote<Calls>, plan: &Plan, file: u32) -> Result
 
 // A file fetched and published, where it is absent.
 fn fetch_file(site: &mut Table, worker: u32, hand: &mut Hand, plan: &Plan, file: u32) -> Came {
-    if site.board.has(file) {
+    if site.has(file) {
         return Came::Done;
     }
     match remote_bytes(&mut hand.remote, plan, file) {
@@ -119,7 +118,7 @@ fn read(site: &mut Table, worker: u32, module: &PlanModule, at: u32) -> Turn {
 
 // Whether a module has a main output.
 fn has_main(site: &Table, number: u32) -> Mem<bool> {
-    let main = site.board.output(number, Slot::Main)?;
+    let main = site.output(number, Slot::Main)?;
     Ok(main.is_some())
 }
 
@@ -159,7 +158,7 @@ fn ask(
 fn own_bytes(site: &Table, number: u32, module: &PlanModule, slot: Slot) -> Mem<Option<Bytes>> {
     match slot {
         Slot::Pom => Ok(Some(module.pom.clone()?)),
-        other => site.board.output(number, other),
+        other => site.output(number, other),
     }
 }
 
@@ -185,7 +184,7 @@ fn install(
 }
 
 /// A turn of a worker that builds a module.
-pub(crate) fn work(
+pub fn module_turn(
     alloc: Global,
     site: &mut Table,
     worker: u32,

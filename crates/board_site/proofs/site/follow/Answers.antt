@@ -1,7 +1,7 @@
 use Rattle.module_scripts.specs.Outlines.{outline_of}
 use Rattle.event_core.specs.Runs.{events_of}
-use Rattle.board_rows.proofs.Sites.{never_refused}
-use Rattle.board_rows.proofs.site.follow.Goals as goal
+use Rattle.board_site.proofs.Sites.{never_refused}
+use Rattle.board_site.proofs.site.follow.Goals as goal
 
 pub unreachable-requires : goal.unreachable-requires
 unreachable-requires g c =

@@ -1,5 +1,5 @@
-use Rattle.board_rows.proofs.Sites.{take_parts}
-use Rattle.board_rows.proofs.site.Site.take.Goals as goal
+use Rattle.board_site.proofs.Sites.{take_parts}
+use Rattle.board_site.proofs.site.Site.take.Goals as goal
 
 pub take-requires-clause-worker : goal.take-requires-clause-worker
 take-requires-clause-worker g c =

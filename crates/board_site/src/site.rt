@@ -10,14 +10,15 @@ ghost use Rattle.board.specs.Builds.{MayCome, module_at};
 use board::{Board, Finished};
 use build_core::{Event, Plan};
 use event_core::Core;
+use goal_types::Slot;
 use mvn_outside::Shelf;
-use mvn_shared::{Mem, OutOfMemory};
+use mvn_shared::{Bytes, Mem, OutOfMemory};
 use run_law::bound::runs_fit_in;
 use std::alloc::Global;
 
 /// A board under way.
 #[derive(Drop)]
-pub(crate) struct Site<'a, S: Shelf> {
+pub struct Site<'a, S: Shelf> {
     pub(crate) board: Board<'a, S>,
     pub(crate) core: Core,
     ghost same: { core ≡ (outline_of board.plan, events_of board.log) },
@@ -39,7 +40,7 @@ pub(crate) fn follow<S: Shelf>(board: &Board<S>, core: &mut Core, event: Event)
 impl<'a, S: Shelf + Drop> Site<'a, S> {
     /// The site of a build that hasn't begun.
     #[tactic(auto, using(board::proofs::Few::few_modules))]
-    pub(crate) fn new(alloc: Global, plan: &'a Plan, shelf: S) -> Mem<Site<'a, S>>
+    pub fn new(alloc: Global, plan: &'a Plan, shelf: S) -> Mem<Site<'a, S>>
         requires sound { IsSoundPlan plan.now }
         requires few { plan.now.events < 2 ^ 32 }
         requires names { length plan.now.names < 2 ^ 32 }
@@ -70,10 +71,27 @@ impl<'a, S: Shelf + Drop> Site<'a, S> {
         self.core.module(worker)
     }
 
+    /// Whether a file is there by now.
+    pub fn has(&self, file: u32) -> bool {
+        self.board.has(file)
+    }
+
+    /// A copy of the bytes that a module keeps in a slot, if any.
+    pub fn output(&self, number: u32, slot: Slot) -> Mem<Option<Bytes>> {
+        self.board.output(number, slot)
+    }
+
+    // What a build leaves that doesn't come to its end.
+    fn given_up(self) -> Option<Finished<S>> {
+        None
+    }
+
     /// What a whole build leaves, where each module has ended or was skipped.
-    pub(crate) fn finish(self) -> Option<Finished<S>> {
-        let complete = self.core.is_complete();
+    pub fn finish(self) -> Option<Finished<S>> {
+        if !self.core.is_complete() {
+            return self.given_up();
+        }
         let Site { board, core: _ } = self;
-        if complete { Some(board.finish()) } else { None }
+        Some(board.finish())
     }
 }

@@ -1,6 +1,6 @@
 // Turns of a worker that take and free names.
 use crate::hand::{Stage, Turn};
-use crate::site::Site;
+use board_site::Site;
 use build_core::{Ending, PlanModule};
 use mvn_outside::Shelf;
 use name_locks::Mode;
@@ -20,7 +20,7 @@ fn freed(done: bool, next: Stage) -> Turn {
 
 fn all_there<S: Shelf + Drop>(site: &Site<S>, files: &[u32]) -> bool {
     for file in files {
-        if !site.board.has(*file) {
+        if !site.has(*file) {
             return false;
         }
     }

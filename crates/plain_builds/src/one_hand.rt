@@ -1,31 +1,19 @@
 // The build by one hand, without a board and without faults: plain and slow.
-use crate::world::World;
 use build_core::{Answered, Ending, Plan, PlanModule, State};
+use compared_builds::bytes_of;
 use goal_outputs::{bytes_in, with_output};
 use goal_types::{GoalAnswer, OwnBytes, Slot};
-use mvn_base::FileName;
 use mvn_shared::{Bytes, List, Mem};
-use outside_mem::MemFile;
-use random_projects::Project;
+use random_projects::{Project, World};
 use std::alloc::Global;
 use std::mem::replace;
 
 /// What a build leaves: how its modules ended, its files by their places in the plan, and its answers.
 #[derive(Drop)]
-pub(crate) struct Built {
-    pub(crate) states: List<State>,
-    pub(crate) files: Vec<Option<Bytes>>,
-    pub(crate) answers: List<Answered>,
-}
-
-/// The bytes that a repository has under a name.
-pub(crate) fn bytes_of<'a>(files: &'a [MemFile], name: &FileName) -> Option<&'a Bytes> {
-    for file in files {
-        if file.name == *name {
-            return Some(&file.bytes);
-        }
-    }
-    None
+pub struct Built {
+    pub states: List<State>,
+    pub files: Vec<Option<Bytes>>,
+    pub answers: List<Answered>,
 }
 
 fn copy_of(bytes: Option<&Bytes>) -> Mem<Option<Bytes>> {
@@ -290,7 +278,7 @@ fn put_module(
 }
 
 /// Nothing built.
-pub(crate) fn nothing(alloc: Global) -> Built {
+pub fn nothing(alloc: Global) -> Built {
     Built {
         states: List::new(alloc),
         files: Vec::new(alloc),
@@ -299,7 +287,7 @@ pub(crate) fn nothing(alloc: Global) -> Built {
 }
 
 /// Builds all modules, one after another, where nothing is built.
-pub(crate) fn by_one(
+pub fn by_one(
     alloc: Global,
     plan: &Plan,
     project: &Project,

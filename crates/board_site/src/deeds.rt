@@ -16,11 +16,11 @@ use name_locks::{Mode, Tried};
 use turn_lock::Kept;
 
 /// The most bytes of a file that is read.
-pub(crate) const MOST: u64 = 134_217_728;
+pub const MOST: u64 = 134_217_728;
 
 /// What an event that needs an object gives: it came, the module ends so, or it may not come.
 #[derive(Clone, Copy)]
-pub(crate) enum Came {
+pub enum Came {
     Done,
     Ends(Ending),
     Stuck,
@@ -28,7 +28,7 @@ pub(crate) enum Came {
 
 impl<'a, S: Shelf + Drop> Site<'a, S> {
     /// What an idle worker does next.
-    pub(crate) fn start(&mut self, worker: u32) -> Option<Next> {
+    pub fn start(&mut self, worker: u32) -> Option<Next> {
         if worker >= self.board.workers() || self.module(worker).is_some() {
             return None;
         }
@@ -44,7 +44,7 @@ impl<'a, S: Shelf + Drop> Site<'a, S> {
     }
 
     /// Whether a name that may be taken was taken.
-    pub(crate) fn take(&mut self, worker: u32, name: u32, mode: Mode) -> bool {
+    pub fn take(&mut self, worker: u32, name: u32, mode: Mode) -> bool {
         let event = Event::Take { worker, name, mode };
         if !self.may_come(event) {
             return false;
@@ -59,7 +59,7 @@ impl<'a, S: Shelf + Drop> Site<'a, S> {
     }
 
     /// Whether a name that the worker holds was freed.
-    pub(crate) fn free(&mut self, worker: u32, name: u32) -> bool {
+    pub fn free(&mut self, worker: u32, name: u32) -> bool {
         let event = Event::Free { worker, name };
         if !self.may_come(event) {
             return false;
@@ -79,7 +79,7 @@ impl<'a, S: Shelf + Drop> Site<'a, S> {
     }
 
     /// Reads a file, and looks at no byte of it.
-    pub(crate) fn read(&mut self, worker: u32, file: u32) -> Came {
+    pub fn read(&mut self, worker: u32, file: u32) -> Came {
         let event = Event::Read { worker, file };
         if !self.may_come(event) {
             return Came::Stuck;
@@ -111,13 +111,7 @@ impl<'a, S: Shelf + Drop> Site<'a, S> {
     }
 
     /// Publishes bytes as a file.
-    pub(crate) fn publish(
-        &mut self,
-        worker: u32,
-        file: u32,
-        area: &mut S::Area,
-        bytes: &Bytes,
-    ) -> Came {
+    pub fn publish(&mut self, worker: u32, file: u32, area: &mut S::Area, bytes: &Bytes) -> Came {
         match stage(area, bytes.as_slice()) {
             Ok(piece) => self.put(worker, file, area, piece),
             Err(DeviceFault::Failed) => Came::Ends(Ending::Fault(Device::Area)),
@@ -126,7 +120,7 @@ impl<'a, S: Shelf + Drop> Site<'a, S> {
     }
 
     /// Keeps the answer of a goal.
-    pub(crate) fn answer(&mut self, worker: u32, goal: u32, answer: GoalAnswer) -> Came {
+    pub fn answer(&mut self, worker: u32, goal: u32, answer: GoalAnswer) -> Came {
         let event = Event::Answer { worker, goal };
         if !self.may_come(event) {
             return Came::Stuck;
@@ -142,7 +136,7 @@ impl<'a, S: Shelf + Drop> Site<'a, S> {
     }
 
     /// Whether the worker's module was ended so, or by a fault of the repository where that failed in it.
-    pub(crate) fn end(&mut self, worker: u32, wanted: Ending) -> bool {
+    pub fn end(&mut self, worker: u32, wanted: Ending) -> bool {
         let ending = allowed(self.board.shelf_failed(worker), wanted);
         let event = Event::End { worker, ending };
         if !self.may_come(event) {

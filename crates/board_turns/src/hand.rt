@@ -4,7 +4,7 @@ use outside_mem::{Calls, MemArea, MemRemote};
 
 /// The next thing that a worker does for its module. A number is a place in a list of the module.
 #[derive(Clone, Copy)]
-pub(crate) enum Stage {
+pub enum Stage {
     /// Asks for a module.
     Idle,
     /// Takes a name of the batch, shared.
@@ -35,16 +35,16 @@ pub(crate) enum Stage {
 
 /// A worker: its remote repository and its area, the module that it builds, and the next thing that it does.
 #[derive(Drop)]
-pub(crate) struct Hand {
-    pub(crate) remote: MemRemote<Calls>,
-    pub(crate) area: MemArea<Calls>,
-    pub(crate) module: u32,
-    pub(crate) stage: Stage,
+pub struct Hand {
+    pub remote: MemRemote<Calls>,
+    pub area: MemArea<Calls>,
+    pub module: u32,
+    pub stage: Stage,
 }
 
 /// What came of a turn.
 #[derive(Clone, Copy)]
-pub(crate) enum Turn {
+pub enum Turn {
     /// This comes next.
     Goes(Stage),
     /// The worker waits for another.

@@ -7,16 +7,8 @@
 //!   that is neither from before nor one hand's, or a module otherwise than one hand that no fault touched; and whether enough had a fault
 #![tactic(auto)]
 
-mod by_one;
-mod deeds;
-mod hand;
 mod play;
-mod same;
-mod script;
-mod site;
 mod tell;
-mod work;
-mod world;
 
 use mvn_shared::Mem;
 use std::alloc::Global;

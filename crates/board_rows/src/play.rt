@@ -4,15 +4,13 @@ ghost use Rattle.event_core.specs.SoundPlans.{IsSoundPlan};
 ghost use Rattle.outside_mem.specs.FilesNamed.{files_named};
 ghost use Rattle.run_law.specs.Given.{IsPresent};
 
-use crate::hand::{Hand, Stage, Turn};
-use crate::site::Site;
-use crate::work::{Table, work};
-use crate::world::{Device, World};
 use board::{Finished, Next};
+use board_site::Site;
+use board_turns::{Hand, Stage, Table, Turn, module_turn};
 use build_core::Plan;
 use mvn_shared::Mem;
 use outside_mem::{Calls, MemArea, MemRemote, MemShelf};
-use random_projects::{Draws, Project};
+use random_projects::{Device, Draws, Project, World};
 use std::alloc::Global;
 
 /// The most turns of a build: none needs so many, unless workers wait for one another for ever.
@@ -88,7 +86,7 @@ fn turn(
         return Ok(begin(site, worker, hand));
     }
     match plan.modules.get(hand.module as usize) {
-        Some(module) => work(alloc, site, worker, hand, world, plan, module),
+        Some(module) => module_turn(alloc, site, worker, hand, world, plan, module),
         None => Ok(Turn::Stuck),
     }
 }

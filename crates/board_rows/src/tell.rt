@@ -4,16 +4,15 @@ ghost use Rattle.event_core.specs.SoundPlans.{IsSoundPlan};
 ghost use Rattle.outside_mem.specs.FilesNamed.{files_named};
 ghost use Rattle.run_law.specs.Given.{IsPresent};
 
-use crate::by_one::{Built, by_one, nothing};
 use crate::play::{Left, build};
-use crate::same::{has_fault, is_same, is_untouched, put_files_left};
-use crate::world::World;
 use board::Finished;
 use build_core::Plan;
+use compared_builds::put_files_under;
 use mem_plans::plan;
-use mvn_shared::{Bytes, Mem};
+use mvn_shared::{Bytes, List, Mem};
 use outside_mem::{Calls, MemShelf};
-use random_projects::{Project, random_project};
+use plain_builds::{Built, by_one, has_fault, is_same, is_untouched, nothing};
+use random_projects::{Project, World, random_project};
 use std::alloc::Global;
 
 /// The most modules below the root: with it they are five.
@@ -82,10 +81,12 @@ fn is_right(
     left: &Finished<MemShelf<Calls>>,
     now: &[Option<Bytes>],
 ) -> bool {
+    let states = left.states.as_slice();
+    let answers = left.answers.as_slice();
     if faulty {
-        is_untouched(plan, project, calm, left, now)
+        is_untouched(plan, project, calm, states, answers, now)
     } else {
-        is_same(calm, left, now)
+        is_same(calm, states, answers, now)
     }
 }
 
@@ -117,9 +118,9 @@ fn compared(
     calm: &Built,
     left: &mut Finished<MemShelf<Calls>>,
 ) -> Mem<Told> {
-    let mut now = Vec::new(alloc);
-    put_files_left(plan, &mut left.shelf, &mut now)?;
-    Ok(judged(plan, project, faulty, calm, left, &now))
+    let mut now = List::new(alloc);
+    put_files_under(&mut left.shelf, plan.files.as_slice(), &mut now)?;
+    Ok(judged(plan, project, faulty, calm, left, now.as_slice()))
 }
 
 // The same of a build that came to its end, if it did.

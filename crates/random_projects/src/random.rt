@@ -78,7 +78,7 @@ fn put_sources(alloc: Global, project: &mut Project, draws: &mut Draws, name: &s
     }
     if draws.one_in(24) {
         let path = format!(in alloc; "{name}/src/test/java/fail-test")?;
-        put_file(alloc, project, path.as_str(), b"1 test failed")?;
+        put_file(alloc, project, path.as_str(), "1 test failed".as_bytes())?;
     }
     Ok(())
 }

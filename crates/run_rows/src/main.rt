@@ -1,24 +1,5 @@
-//! Rows about builds over objects in memory: those that a stop cut short, and those by several workers at once. A line of standard input
-//! is one of these; a line that begins with `#` is printed as it stands.
-//!
-//! A word, numbers with a space between two of them, and files with a bar in front of each. The words of each build are
-//! `install -T WORKERS`. A field is spelled as `row_fields` says:
-//!
-//! - `leftovers PIECES HANDS WORKERS|FILE|..`: a build by so many hands, in whose areas a stopped build left so many pieces each
-//! - `area HAND HANDS WORKERS|FILE|..`: a build where the first call to the area of this hand fails, from 0 on
-//! - `images WORKERS AGAIN|FILE|..`: a build, and another with `AGAIN` workers over each image of each moment of its repository
-//!
-//! The answer to the first two is the exit status, how many names hold a file, how many pieces are left in all areas, and the text.
-//! That to `images` is the same of the build, and then the numbers of moments and images; in how many images every name has no
-//! file, its old one or its new one; and over how many the other build had the same status, text and files.
-//!
-//! A file is one of these:
-//!
-//! - `m PATH ARTIFACT POM`: a POM of the project, behind the coordinates demo:ARTIFACT:1.0; `f PATH BYTES`: any file of the project
-//! - `r GROUP ARTIFACT VERSION POM`, `j GROUP ARTIFACT VERSION BYTES`: a POM, behind these coordinates, or a jar of the remote repository
-//! - `l GROUP ARTIFACT VERSION POM`, `k GROUP ARTIFACT VERSION BYTES`: the same of the local repository
-//!
-//! Or a word and one or two numbers. Such a row is printed, and then what is told of it:
+//! Rows about builds over objects in memory by several workers at once. A line of standard input is a word and one or two numbers. It is
+//! printed, and then what is told of it:
 //!
 //! - `goals N LOOKS`: the status and the report of an install by N workers of a root with three modules, of which none needs another. The
 //!   first goals wait until three have begun, and fail as `alone` where so many looks haven't seen it
@@ -31,49 +12,51 @@
 //!   one of the build without faults, and each module that no fault touches ends as there; and whether enough builds had a fault
 #![tactic(auto)]
 
-mod build;
-mod crews;
-mod files;
-mod stops;
+mod shown;
+mod worked;
 
 use mvn_shared::Mem;
+use random_builds::push_random;
 use std::alloc::Global;
 use std::sync::Wait;
 use std::thread::Threads;
 
-// A line as it stands, and what is told of it, if it is a row about builds by workers at once.
-fn tell_line<W: Threads + Wait + Sync>(
-    rt: &W,
-    alloc: Global,
-    line: &str,
-    out: &mut String,
-) -> Mem<()> {
-    out.push_str(line)?;
-    out.push_str("\n")?;
-    if line.starts_with("#") {
-        return Ok(());
-    }
-    let (kind, numbers) = line.split_once(' ').unwrap_or((line, ""));
-    crews::tell(rt, alloc, kind, numbers, out)
+// The number that a word spells, or 0.
+fn number(word: &str) -> u32 {
+    word.parse::<u32>().unwrap_or(0)
 }
 
-// What is printed for a line.
-fn tell<W: Threads + Wait + Sync>(rt: &W, alloc: Global, line: &str, out: &mut String) -> Mem<()> {
-    let (kind, row) = line.split_once(' ').unwrap_or((line, ""));
+// What is told of a row.
+fn tell<W: Threads + Wait + Sync>(rt: &W, alloc: Global, row: &str, out: &mut String) -> Mem<()> {
+    let (kind, numbers) = row.split_once(' ').unwrap_or((row, ""));
+    let (first, second) = numbers.split_once(' ').unwrap_or((numbers, ""));
+    let first = number(first);
+    let second = number(second);
     match kind {
-        "leftovers" | "area" | "images" => {
-            stops::tell(rt, alloc, kind, row, out)?;
-            out.push_str("\n")?;
-            Ok(())
-        }
-        _ => tell_line(rt, alloc, line, out),
+        "goals" => shown::goals(rt, alloc, first, second, out),
+        "fetch" => shown::fetch(rt, alloc, first, second, out),
+        "fails" => shown::fails(rt, alloc, first, out),
+        "random" => push_random(rt, alloc, first, second, false, out),
+        _ => push_random(rt, alloc, first, second, true, out),
     }
+}
+
+// A row, and what is told of it.
+fn push_told<W: Threads + Wait + Sync>(
+    rt: &W,
+    alloc: Global,
+    row: &str,
+    out: &mut String,
+) -> Mem<()> {
+    out.push_str(row)?;
+    out.push_str("\n")?;
+    tell(rt, alloc, row, out)
 }
 
 // The same as a text.
-fn told<W: Threads + Wait + Sync>(rt: &W, alloc: Global, line: &str) -> Mem<String> {
+fn told<W: Threads + Wait + Sync>(rt: &W, alloc: Global, row: &str) -> Mem<String> {
     let mut out = String::new(alloc);
-    tell(rt, alloc, line, &mut out)?;
+    push_told(rt, alloc, row, &mut out)?;
     Ok(out)
 }
 

@@ -1,5 +1,5 @@
 #!/usr/bin/env python3
-"""Prints what the program `bench_low` has to print for its walks through small builds: which events the definition of the event core
+"""Prints what the program `bench_events` has to print for its walks through small builds: which events the definition of the event core
 allows at each step, and why it forbids the others. It is plain and slow: at each question it works out from the list of events so far
 where the build stands. usage: event_walks.py FIRST LAST, the numbers of the walks"""
 import sys

@@ -6,14 +6,6 @@
 //! - `measure modules`: in which order modules are built. The first line is their number, each further one an edge: a module and an upstream
 //!   of it, with a space between. A line `soft K` gives each module K soft edges, to the modules that come behind it, the first again behind
 //!   the last. Prints the order, or the cycle, on one line, at the end of the part
-//! - `measure events`: walks through builds that are made from numbers, and what the event core answers. Each line is a word and a number:
-//!   `walk`, a build of at most three modules that is made from the number, of which at each moment every event is asked for and one that
-//!   may come is taken; prints a sum over all answers, and the number of events. `long`, so many events of a build of modules that have
-//!   nothing but their POM; prints how many were taken. `front`, a build of so many modules, each with the four before it as upstreams, of
-//!   which the first that may begin is built, again and again; prints how many were built. Or a line is a word and events of a build that was
-//!   worked out by hand, each a kind, a worker and a number with dots between: `worked` prints what is answered to each, 0 where it is taken;
-//!   `stands` where the build then stands: the first module that may begin, the first that is to be skipped, whether all are over, how
-//!   three modules stand, and which of four files there are
 //! - `measure turns`: what workers note under a turn lock, each worker in a thread of its own. Each line is a number of workers, from 1 to
 //!   16, a number of notes for each, and a way or none; prints how many notes there are, and how many of them stand in their worker's order.
 //!   The ways: `rounds`, each rests until all before it in its round have noted; `idle`, the same, and each sleeps for 100 ms before it notes;
@@ -23,17 +15,15 @@
 //!   is a hundredth of that to do: a host that takes the processors away for most of the time doesn't make it half of one
 #![tactic(auto)]
 
-mod events;
 mod modules;
 mod turns;
 mod versions;
 
-use modules::Graph;
+use mvn_shared::Mem;
 use std::alloc::Global;
 use std::sync::Wait;
 use std::thread::Threads;
 use std::time::{Clock, CpuClock};
-use versions::Versions;
 
 // What a part measures.
 #[derive(Clone, Copy)]
@@ -41,7 +31,6 @@ enum Kind {
     Nothing,
     Versions,
     Modules,
-    Events,
     Turns,
 }
 
@@ -50,41 +39,38 @@ fn kind_of(line: &str) -> Kind {
     match line {
         "measure versions" => Kind::Versions,
         "measure modules" => Kind::Modules,
-        "measure events" => Kind::Events,
         "measure turns" => Kind::Turns,
         _ => Kind::Nothing,
     }
 }
 
-// A part, with what was read of it where it is told at its end.
+// A part, with the lines that were read of it where it is told at its end.
 #[derive(Drop)]
 struct Part {
     kind: Kind,
-    versions: Versions,
-    graph: Graph,
+    lines: String,
 }
 
 fn begun(alloc: Global, kind: Kind) -> Part {
     Part {
         kind,
-        versions: Versions::new(alloc),
-        graph: Graph::new(alloc),
+        lines: String::new(alloc),
     }
 }
 
 // Whether a line is one of a part about turns.
-fn is_of_turns(part: &Part, line: &str) -> bool {
-    matches!(part.kind, Kind::Turns) && !line.starts_with("measure ")
+fn is_of_turns(kind: Kind, line: &str) -> bool {
+    matches!(kind, Kind::Turns) && !line.starts_with("measure ")
 }
 
 // What is told of a line, if it is one of a part about turns.
 fn told_of_turns<R: Threads + Wait + Clock + CpuClock + Sync>(
     rt: &R,
     alloc: Global,
-    part: &Part,
+    kind: Kind,
     line: &str,
 ) -> anyhow::Result<String> {
-    if is_of_turns(part, line) {
+    if is_of_turns(kind, line) {
         return turns::told(rt, alloc, line);
     }
     Ok(String::new(alloc))
@@ -97,21 +83,17 @@ fn print_text(rt: &HostRuntime, text: anyhow::Result<String>) -> anyhow::Result<
     Ok(())
 }
 
-// One line more of a part, where it isn't about turns.
-fn read(rt: &HostRuntime, part: &mut Part, line: &str) -> anyhow::Result<()> {
-    match part.kind {
-        Kind::Versions => part.versions.read(rt.alloc(), line),
-        Kind::Modules => part.graph.read(line),
-        Kind::Events => events::print_row(rt, line),
-        Kind::Turns | Kind::Nothing => Ok(()),
-    }
+fn push_line(lines: &mut String, line: &str) -> Mem<()> {
+    lines.push_str(line)?;
+    lines.push_str("\n")?;
+    Ok(())
 }
 
 // The end of a part.
 fn end(rt: &HostRuntime, part: &Part) -> anyhow::Result<()> {
     match part.kind {
-        Kind::Versions => part.versions.print(rt),
-        Kind::Modules => part.graph.print(rt),
+        Kind::Versions => versions::print(rt, part.lines.as_str()),
+        Kind::Modules => modules::print(rt, part.lines.as_str()),
         _ => Ok(()),
     }
 }
@@ -123,12 +105,20 @@ fn begin(rt: &HostRuntime, part: &mut Part, kind: Kind) -> anyhow::Result<()> {
     Ok(())
 }
 
+// One line more of a part.
+fn keep(part: &mut Part, line: &str) -> Mem<()> {
+    match part.kind {
+        Kind::Versions | Kind::Modules => push_line(&mut part.lines, line),
+        Kind::Turns | Kind::Nothing => Ok(()),
+    }
+}
+
 // One line more: the first of a part, or a further one.
 fn take(rt: &HostRuntime, part: &mut Part, line: &str) -> anyhow::Result<()> {
     if line.starts_with("measure ") {
         return begin(rt, part, kind_of(line));
     }
-    read(rt, part, line)
+    Ok(keep(part, line)?)
 }
 
 // The same, and what was told of the line.
@@ -146,7 +136,7 @@ fn main(rt: HostRuntime) -> anyhow::Result<()> {
     let mut part = begun(rt.alloc(), Kind::Nothing);
     for line in rt.lines(rt.alloc()) {
         let line = line?;
-        let told = told_of_turns(&rt, rt.alloc(), &part, line.as_str());
+        let told = told_of_turns(&rt, rt.alloc(), part.kind, line.as_str());
         take_told(&rt, &mut part, line.as_str(), told)?;
     }
     end(&rt, &part)

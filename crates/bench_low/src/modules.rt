@@ -61,51 +61,39 @@ fn print_order(rt: &HostRuntime, n: u32, edges: &[(u32, u32)]) -> anyhow::Result
     }
 }
 
-/// The number of modules, the edges, and how many soft ones each module has.
-#[derive(Drop)]
-pub(crate) struct Graph {
-    number: Option<u32>,
-    edges: Vec<(u32, u32)>,
-    soft: u32,
+// The order with so many soft edges of each module.
+fn print_kept(rt: &HostRuntime, n: u32, edges: &[(u32, u32)], soft: u32) -> anyhow::Result<()> {
+    if soft == 0 {
+        return print_order(rt, n, edges);
+    }
+    let kept = kept(rt.alloc(), n, edges, soft)?;
+    print_order(rt, n, kept.as_slice())
 }
 
-impl Graph {
-    pub(crate) fn new(alloc: Global) -> Graph {
-        Graph {
-            number: None,
-            edges: Vec::new(alloc),
-            soft: 0,
+fn push_edges(edges: &mut Vec<(u32, u32)>, lines: &str) -> Result<(), AllocError> {
+    for line in lines.lines() {
+        if let Some(edge) = edge(line) {
+            edges.push(edge)?;
         }
     }
+    Ok(())
+}
 
-    // One line more behind the number.
-    fn read_edge(&mut self, line: &str) -> anyhow::Result<()> {
+// How many soft edges each module has: what the last line `soft K` says.
+fn soft_of(lines: &str) -> u32 {
+    let mut soft = 0u32;
+    for line in lines.lines() {
         if let Some(count) = line.strip_prefix("soft ") {
-            self.soft = count.parse::<u32>().unwrap_or(0);
-        } else if let Some(edge) = edge(line) {
-            self.edges.push(edge)?;
+            soft = count.parse::<u32>().unwrap_or(0);
         }
-        Ok(())
     }
+    soft
+}
 
-    /// One line more: the number of modules, an edge, or `soft K`.
-    pub(crate) fn read(&mut self, line: &str) -> anyhow::Result<()> {
-        match self.number {
-            None => {
-                self.number = line.parse::<u32>().ok();
-                Ok(())
-            }
-            Some(_) => self.read_edge(line),
-        }
-    }
-
-    /// Prints the order, or the cycle, on one line.
-    pub(crate) fn print(&self, rt: &HostRuntime) -> anyhow::Result<()> {
-        let n = self.number.unwrap_or(0);
-        if self.soft == 0 {
-            return print_order(rt, n, &self.edges);
-        }
-        let kept = kept(rt.alloc(), n, &self.edges, self.soft)?;
-        print_order(rt, n, kept.as_slice())
-    }
+/// Prints the order, or the cycle, on one line. The number of modules is the first line; each further one is an edge, or `soft K`.
+pub(crate) fn print(rt: &HostRuntime, lines: &str) -> anyhow::Result<()> {
+    let (first, rest) = lines.split_once('\n').unwrap_or((lines, ""));
+    let mut edges = Vec::new(rt.alloc());
+    push_edges(&mut edges, rest)?;
+    print_kept(rt, first.parse::<u32>().unwrap_or(0), &edges, soft_of(rest))
 }

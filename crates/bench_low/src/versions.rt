@@ -1,5 +1,5 @@
 // Which versions a requirement admits.
-use mvn_shared::Text;
+use mvn_shared::{Mem, Text};
 use std::alloc::{AllocError, Global};
 use version_order::{Requirement, Version};
 
@@ -54,48 +54,48 @@ fn print_highest(
     Ok(())
 }
 
-/// A requirement, and the versions behind it.
-#[derive(Drop)]
-pub(crate) struct Versions {
-    requirement: Option<Requirement>,
-    versions: Vec<Version>,
+fn print_told(
+    rt: &HostRuntime,
+    requirement: &Requirement,
+    versions: &[Version],
+) -> anyhow::Result<()> {
+    print_admitted(rt, requirement, versions)?;
+    print_highest(rt, requirement, versions)
 }
 
-impl Versions {
-    pub(crate) fn new(alloc: Global) -> Versions {
-        Versions {
-            requirement: None,
-            versions: Vec::new(alloc),
-        }
-    }
+fn version_of(alloc: Global, line: &str) -> Mem<Version> {
+    let text = Text::from_str(alloc, line)?;
+    Version::parse(alloc, &text)
+}
 
-    /// One line more: the requirement, or a version.
-    pub(crate) fn read(&mut self, alloc: Global, line: &str) -> anyhow::Result<()> {
-        let text = Text::from_str(alloc, line)?;
-        if self.requirement.is_some() {
-            return self.read_version(alloc, &text);
-        }
-        self.read_requirement(alloc, &text)
+fn push_versions(alloc: Global, versions: &mut Vec<Version>, lines: &str) -> Mem<()> {
+    for line in lines.lines() {
+        versions.push(version_of(alloc, line)?)?;
     }
+    Ok(())
+}
 
-    // The requirement.
-    fn read_requirement(&mut self, alloc: Global, text: &Text) -> anyhow::Result<()> {
-        self.requirement = Some(Requirement::parse(alloc, text)?);
-        Ok(())
-    }
+fn print_of_lines(rt: &HostRuntime, requirement: &Requirement, lines: &str) -> anyhow::Result<()> {
+    let mut versions = Vec::new(rt.alloc());
+    push_versions(rt.alloc(), &mut versions, lines)?;
+    print_told(rt, requirement, &versions)
+}
 
-    // A version more.
-    fn read_version(&mut self, alloc: Global, text: &Text) -> anyhow::Result<()> {
-        self.versions.push(Version::parse(alloc, text)?)?;
-        Ok(())
-    }
+fn requirement_of(alloc: Global, line: &str) -> anyhow::Result<Requirement> {
+    let text = Text::from_str(alloc, line)?;
+    Ok(Requirement::parse(alloc, &text)?)
+}
 
-    /// Prints the admitted ones in ascending order, and the highest.
-    pub(crate) fn print(&self, rt: &HostRuntime) -> anyhow::Result<()> {
-        if let Some(requirement) = &self.requirement {
-            print_admitted(rt, requirement, &self.versions)?;
-            print_highest(rt, requirement, &self.versions)?;
-        }
-        Ok(())
+fn print_of_texts(rt: &HostRuntime, first: &str, rest: &str) -> anyhow::Result<()> {
+    let requirement = requirement_of(rt.alloc(), first)?;
+    print_of_lines(rt, &requirement, rest)
+}
+
+/// Prints which versions a requirement admits, in ascending order, and the highest. The requirement is the first line, a version each
+/// further one; without lines nothing is printed.
+pub(crate) fn print(rt: &HostRuntime, lines: &str) -> anyhow::Result<()> {
+    match lines.split_once('\n') {
+        Some((first, rest)) => print_of_texts(rt, first, rest),
+        None => Ok(()),
     }
 }

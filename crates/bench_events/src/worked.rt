@@ -1,9 +1,9 @@
 // A build worked out by hand: three modules, of which the second builds on the first. The first needs the file 0 under the name 0 and is
 // installed as the files 1 and 2 under the name 1; the second has nothing but its POM, the file 3, under the name 2; the third has nothing.
-use crate::events::answers::{TOLD, event_at, number_of, told_at};
-use crate::events::builds::{bare, of_nothing, push_absent};
-use crate::events::walks::begun;
+use crate::answers::{TOLD, event_at, number_of, told_at};
+use crate::walks::begun;
 use build_core::Event;
+use build_outlines::{bare, of_nothing, push_absent};
 use event_core::Core;
 use module_scripts::{ModuleOutline, Outline};
 use mvn_shared::{List, Mem};

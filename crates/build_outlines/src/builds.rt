@@ -1,11 +1,11 @@
 // Small builds, made from numbers. Each module has a name of its own, and each file that is fetched a name that covers it.
-use crate::events::draws::Draws;
+use crate::draws::Draws;
 use module_scripts::{ModuleOutline, Outline};
 use mvn_shared::{List, Mem};
 use std::alloc::Global;
 
-/// How many names and files are fetched under; the own names and files stand behind them.
-pub(crate) const SHARED: u32 = 3;
+// How many names and files are fetched under; the own names and files stand behind them.
+const SHARED: u32 = 3;
 
 // Some of the numbers below one, one of two.
 fn push_some(list: &mut List<u32>, draws: &mut Draws, bound: u32) -> Mem<()> {
@@ -45,7 +45,7 @@ fn push_own(list: &mut List<u32>, draws: &mut Draws, number: u32) -> Mem<()> {
 }
 
 /// A module that has nothing and isn't installed.
-pub(crate) fn bare(alloc: Global) -> ModuleOutline {
+pub fn bare(alloc: Global) -> ModuleOutline {
     ModuleOutline {
         upstream: List::new(alloc),
         batch: List::new(alloc),
@@ -97,7 +97,7 @@ fn push_present(list: &mut List<bool>, draws: &mut Draws, count: u32) -> Mem<()>
 }
 
 /// So many files that aren't there.
-pub(crate) fn push_absent(list: &mut List<bool>, count: u32) -> Mem<()> {
+pub fn push_absent(list: &mut List<bool>, count: u32) -> Mem<()> {
     for _file in 0..count {
         list.push(false)?;
     }
@@ -105,7 +105,7 @@ pub(crate) fn push_absent(list: &mut List<bool>, count: u32) -> Mem<()> {
 }
 
 /// A build without modules and files, with so many names, by one worker.
-pub(crate) fn of_nothing(alloc: Global, names: u32) -> Outline {
+pub fn of_nothing(alloc: Global, names: u32) -> Outline {
     Outline {
         modules: List::new(alloc),
         names,
@@ -126,7 +126,7 @@ fn put_small(alloc: Global, outline: &mut Outline, draws: &mut Draws) -> Mem<()>
 }
 
 /// A build of one to three modules by one to three workers.
-pub(crate) fn small(alloc: Global, draws: &mut Draws) -> Mem<Outline> {
+pub fn small(alloc: Global, draws: &mut Draws) -> Mem<Outline> {
     let mut outline = of_nothing(alloc, SHARED + 3);
     put_small(alloc, &mut outline, draws)?;
     Ok(outline)
@@ -153,7 +153,7 @@ fn put_plain(alloc: Global, outline: &mut Outline, count: u32) -> Mem<()> {
 }
 
 /// A build of so many modules that have nothing but their POM, by one worker.
-pub(crate) fn wide(alloc: Global, count: u32) -> Mem<Outline> {
+pub fn wide(alloc: Global, count: u32) -> Mem<Outline> {
     let mut outline = of_nothing(alloc, 1);
     outline.events = 8 * count as u64;
     put_plain(alloc, &mut outline, count)?;
@@ -183,7 +183,7 @@ fn push_links(alloc: Global, list: &mut List<ModuleOutline>, count: u32) -> Mem<
 }
 
 /// A build of so many modules, each with the four before it as upstreams, by one worker.
-pub(crate) fn linked(alloc: Global, count: u32) -> Mem<Outline> {
+pub fn linked(alloc: Global, count: u32) -> Mem<Outline> {
     let mut outline = of_nothing(alloc, 1);
     outline.events = 2 * count as u64;
     push_links(alloc, &mut outline.modules, count)?;

@@ -1,8 +1,7 @@
 // Walks through builds.
-use crate::events::answers::{KINDS, TOLD, answer_at, event_at, told_at};
-use crate::events::builds::{linked, small, wide};
-use crate::events::draws::Draws;
+use crate::answers::{KINDS, TOLD, answer_at, event_at, told_at};
 use build_core::{Ending, Event};
+use build_outlines::{Draws, linked, small, wide};
 use event_core::Core;
 use module_scripts::Outline;
 use mvn_shared::{Mem, OutOfMemory};

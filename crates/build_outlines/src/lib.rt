@@ -1,0 +1,9 @@
+//! Outlines of builds for measurements of the event core: small ones that are made from numbers, and long ones. Any build will do, so no
+//! clause says which one a number gives; the stored run of `bench_events` holds these.
+#![tactic(auto)]
+
+mod builds;
+mod draws;
+
+pub use builds::{bare, linked, of_nothing, push_absent, small, wide};
+pub use draws::Draws;

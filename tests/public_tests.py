@@ -4,11 +4,11 @@
     tests/public_tests.py           prints the functions that nothing calls, and a line of counts; fails where there is one
     tests/public_tests.py --all     prints a line for each function: crate, function, and the files that call it
 
-A function counts as called where a file of a test crate (`*_tests`), of a program of rows (`*_rows`, and their `row_models` and
-`shown_models`) or of a measurement (`bench_*`, `classpath_list` and its `graph_lines`, whose stored runs are compared too) names it: a
-function by its own name, one of a type without `self` as `Type::name`, a method as `.name(` in a file that names the crate. Where no such
-file does, the code that names it is listed behind the word `through`. Names are read and no types: a method with a common name may be
-found by a call of another type's.
+A function counts as called where a file of a test crate (`*_tests`), of a program of rows or what these share (`*_rows`, `row_models`,
+`row_plans`, `row_projects`, `shown_models`) or of a measurement (`bench_*`, `classpath_list` and its `graph_lines`, whose stored runs are
+compared too) names it: a function by its own name, one of a type without `self` as `Type::name`, a method as `.name(` in a file that names
+the crate. Where no such file does, the code that names it is listed behind the word `through`. Names are read and no types: a method with
+a common name may be found by a call of another type's.
 
 A law is a function without a value whose body does nothing: a call would show nothing, so laws are counted apart.
 """
@@ -18,7 +18,7 @@ import re
 import sys
 
 TOP = os.path.join(os.path.dirname(os.path.abspath(__file__)), "..", "crates")
-CALLERS = re.compile(r"(_tests|_rows|^row_models|^shown_models|^graph_lines|^classpath_list)$|^bench_")
+CALLERS = re.compile(r"(_tests|_rows)$|^(row_(models|plans|projects)|shown_models|graph_lines|classpath_list)$|^bench_")
 HEAD = re.compile(r"^(?:pub )?(impl|trait|struct|enum|mod)\b(.*)$")
 
 

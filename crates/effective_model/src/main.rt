@@ -6,17 +6,26 @@
 #![tactic(auto)]
 
 mod answer;
-mod given;
-mod library;
-mod project;
-mod reading;
+mod models;
 
 use disk_reading::RealTree;
-use given::given;
-use library::read_library;
+use models::{count, print};
 use mvn_shared::Text;
+use outside_mem::NoFailures;
 use pom_source::Given;
-use project::Project;
+use source_mem::MemPoms;
+use tree_projects::{Project, given, put_library};
+
+// Puts the POMs of a repository.
+fn read_library(
+    rt: &HostRuntime,
+    source: &mut MemPoms<NoFailures>,
+    folder: &str,
+) -> anyhow::Result<()> {
+    let root = Text::from_str(rt.alloc(), folder)?;
+    let mut tree = RealTree::new(rt, root);
+    put_library(source, &mut tree, rt.alloc())
+}
 
 // Puts the POMs of a project.
 fn read_project(rt: &HostRuntime, project: &mut Project, folder: &str) -> anyhow::Result<()> {
@@ -29,7 +38,7 @@ fn read_project(rt: &HostRuntime, project: &mut Project, folder: &str) -> anyhow
 fn read_all(rt: &HostRuntime, project: &mut Project, folders: &str) -> anyhow::Result<()> {
     let (folder, repository) = folders.split_once(' ').unwrap_or((folders, ""));
     if !repository.is_empty() {
-        read_library(rt, project.source(), repository)?;
+        read_library(rt, &mut project.source, repository)?;
     }
     read_project(rt, project, folder)
 }
@@ -41,8 +50,8 @@ fn print_told(
     word: &str,
 ) -> anyhow::Result<()> {
     match word {
-        "print" => project.print(rt, given),
-        _ => project.count(rt, given),
+        "print" => print(rt, project, given),
+        _ => count(rt, project, given),
     }
 }
 

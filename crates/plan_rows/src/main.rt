@@ -1,17 +1,6 @@
-//! Rows about projects over objects in memory: their POMs, the modules that are selected, and their plans. A line of standard input is a
-//! word and fields, with a bar between two of these; a line that begins with `#` is printed as it stands. A field is spelled as
-//! `row_models` says.
-//!
-//! Of the POMs that are found; the answer is printed as one line, the paths of the POMs in order or why there are none:
-//!
-//! - `discover IDS|PATH POM|PATH POM ..`: the project of these files, with these profiles switched on. A POM stands behind the coordinates
-//!   g:a:1
-//! - `discover-failing N|PATH POM ..`: the same, where the call with this number fails
-//! - `discover-wide N`: how many POMs there are of a root that lists N modules; `discover-deep N`: of N POMs of which each lists the next
-//! - `select WORDS|PATH ARTIFACT POM|..`: the artifacts of the modules that the words of a command line select, in the order in which they
-//!   are built; a POM stands behind the coordinates demo:ARTIFACT:1.0
-//!
-//! Of plans; the first field has the words of a command line, and each further one a file:
+//! Rows about the plans of projects over objects in memory. A line of standard input is a word and fields, with a bar between two of these;
+//! a line that begins with `#` is printed as it stands. A field is spelled as `row_models` says. The first field has the words of a command
+//! line, and each further one a file:
 //!
 //! - `order WORDS|FILE|..`: the artifacts of the modules that are built, in their order, each with the places of those that it stands on
 //! - `plan WORDS|FILE|..`: the names and the files of the plan, with a star behind each file that is there at the start, and a line for
@@ -31,23 +20,10 @@
 //! Where there is no plan, the answer is the refusal, `word N UnknownModule`, or the device that failed.
 #![tactic(auto)]
 
-mod discovery;
-mod given;
+mod planning;
 mod plans;
-mod texts;
 
-use mvn_shared::Mem;
-use std::alloc::Global;
-
-// What is told of a row, written into an empty text.
-fn told(alloc: Global, text: &mut String, kind: &str, row: &str) -> Mem<()> {
-    match kind {
-        "discover" | "discover-failing" | "discover-wide" | "discover-deep" | "select" => {
-            discovery::told(alloc, text, kind, row)
-        }
-        _ => plans::told(alloc, text, kind, row),
-    }
-}
+use plans::told;
 
 fn print_told(rt: &HostRuntime, line: &str) -> anyhow::Result<()> {
     let (kind, row) = line.split_once(' ').unwrap_or((line, ""));

@@ -89,22 +89,6 @@ fn active_among<F: Files>(
     Ok(places(alloc, judge, chosen.as_slice(), profiles)?)
 }
 
-// The same, by a judge that isn't needed afterwards.
-fn active_by<F: Files>(
-    alloc: Global,
-    judge: Judge<'_>,
-    raw: &RawModel,
-    files: &mut F,
-) -> Result<List<usize>, DeviceFault>
-    ensures asks { Asks F.fits F.faults F.tells_same files.old files.new result
-        (λ world. active_in judge world raw.now.profiles) }
-    ensures alone { Alone (asks_for_any judge raw.now.profiles) result
-        (λ world. active_in judge world raw.now.profiles) }
-    ensures untouched { asks_for_any judge raw.now.profiles ≡ false → files.new ≡ files.old }
-{
-    active_among(alloc, &judge, raw, files)
-}
-
 /// The places of a POM's active profiles, ascending. One is active that is switched on or whose
 /// criteria all hold, at least one, and one that is so by default where no profile of the POM is;
 /// none that is switched off. A POM read by coordinates knows no switches and no files. In every world
@@ -136,5 +120,5 @@ pub fn active<F: Files>(
         return Ok(List::new(alloc));
     }
     let judge = Judge::of(alloc, raw, machine, defines, choice)?;
-    active_by(alloc, judge, raw, files)
+    active_among(alloc, &judge, raw, files)
 }

@@ -1,0 +1,67 @@
+// What a call of the program works with.
+ghost use Rattle.std.specs.Prelude.{◌≡◌, length, IfOk};
+
+use crate::hands::{RealHand, hands};
+use disk_reading::RealTree;
+use mvn_base::Machine;
+use mvn_shared::{Mem, Text};
+use outside_real::{RealShelf, RealSink};
+use std::collections::BTreeMap;
+use std::os::fd::AsFd;
+use std::process;
+use std::process::ChildStdin;
+use surroundings::{Places, machine, named_places, variables};
+
+/// The project in the current folder, the local repository, the hands, and what a project may ask of this machine.
+pub struct Devices<'a> {
+    pub tree: RealTree<'a, HostRuntime>,
+    pub shelf: RealShelf<'a, HostRuntime>,
+    pub machine: Machine,
+    pub hands: Vec<RealHand<'a>>,
+}
+
+// The devices at these places.
+fn devices_at<'a>(
+    rt: &'a HostRuntime,
+    places: &Places,
+    variables: &BTreeMap<Text, Text>,
+) -> Mem<Devices<'a>>
+    ensures { IfOk result (λ devices. length devices.hands.items ≡ 16) }
+{
+    let folder = Text::from_str(rt.alloc(), ".")?;
+    let repository = places.repository.clone()?;
+    let machine = machine(rt.alloc(), variables)?;
+    let hands = hands(rt, places)?;
+    Ok(Devices {
+        tree: RealTree::new(rt, folder),
+        shelf: RealShelf::new(rt, repository),
+        machine,
+        hands,
+    })
+}
+
+// The devices at the places that the variables name.
+fn devices_with<'a>(rt: &'a HostRuntime, variables: &BTreeMap<Text, Text>) -> Mem<Devices<'a>>
+    ensures { IfOk result (λ devices. length devices.hands.items ≡ 16) }
+{
+    let number = process::id(rt.process());
+    let places = named_places(rt, rt.alloc(), number, variables)?;
+    devices_at(rt, &places, variables)
+}
+
+/// The devices that the environment names, with 16 hands. Opens nothing. Costs reading the environment.
+pub fn named_devices<'a>(rt: &'a HostRuntime) -> Mem<Devices<'a>>
+    ensures { IfOk result (λ devices. length devices.hands.items ≡ 16) }
+{
+    let variables = variables(rt, rt.alloc())?;
+    devices_with(rt, &variables)
+}
+
+/// Standard output, by a duplicate that is written without a signal where nobody reads: a closed pipe is then a fault. Nothing if there is
+/// no duplicate.
+pub fn standard_output(rt: &HostRuntime) -> Option<RealSink<ChildStdin>> {
+    let Ok(out) = rt.stdout().as_fd().try_clone_to_owned() else {
+        return None;
+    };
+    Some(RealSink::new(ChildStdin::from(out)))
+}

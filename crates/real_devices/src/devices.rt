@@ -1,5 +1,6 @@
 // What a call of the program works with.
-ghost use Rattle.std.specs.Prelude.{◌≡◌, length, IfOk};
+ghost use Rattle.std.specs.Prelude.{◌≡◌, length, map, replicate, IfOk};
+ghost use Rattle.real_devices.specs.Gates.{gate_program, named_program};
 
 use crate::hands::{RealHand, hands};
 use disk_reading::RealTree;
@@ -26,7 +27,9 @@ fn devices_at<'a>(
     places: &Places,
     variables: &BTreeMap<Text, Text>,
 ) -> Mem<Devices<'a>>
-    ensures { IfOk result (λ devices. length devices.hands.items ≡ 16) }
+    ensures count { IfOk result (λ devices. length devices.hands.items ≡ 16) }
+    ensures gates { IfOk result (λ devices. map (λ hand. gate_program hand.gate) devices.hands.items
+        ≡ replicate 16 (named_program places.now.program)) }
 {
     let folder = Text::from_str(rt.alloc(), ".")?;
     let repository = places.repository.clone()?;

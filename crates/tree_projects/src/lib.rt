@@ -3,11 +3,11 @@
 //! right.
 #![tactic(auto)]
 
-mod given;
 mod library;
+mod machine_given;
 mod project;
 mod reading;
 
-pub use given::given;
 pub use library::put_library;
+pub use machine_given::given;
 pub use project::Project;

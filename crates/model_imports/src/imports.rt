@@ -213,8 +213,8 @@ fn import_read<P: PomSource>(
 }
 
 /// A POM that was read, and what it builds on, in all further steps: the POMs that are being built are given, its own among them, and
-/// `left` more may be built. Or the first refusal; `Source` comes only if the source's count of faults rose. Costs what its imports cost, as far as they aren't kept, and the model, on the average. Maven Model Builder,
-/// "Model building"; the limit is a project rule.
+/// `left` more may be built. Or the first refusal; `Source` comes only if the source's count of faults rose. Costs what its imports cost,
+/// as far as they aren't kept, and the model, on the average. Maven Model Builder, "Model building"; the limit is a project rule.
 #[cycle(built)]
 #[tactic(auto, using(pom_store::proofs::Telling::untold))]
 pub fn whole<P: PomSource>(

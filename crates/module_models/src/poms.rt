@@ -37,7 +37,8 @@ fn found_poms(alloc: Global, modules: List<ModulePom>) -> Mem<List<ProjectPom>>
 }
 
 /// The POMs of the project in the order of their declaration, each with its coordinates as it says them and with its text, or the first
-/// refusal. Each POM's file is read and parsed once, and what it says stays in the store. Costs what `discover` costs. Guide to Working with Multiple Modules.
+/// refusal. Each POM's file is read and parsed once, and what it says stays in the store. Costs what `discover` costs. Guide to Working
+/// with Multiple Modules.
 #[tactic(auto, using(crate::proofs::Paths::poms_found, crate::proofs::Paths::some_poms, crate::proofs::Paths::few_poms))]
 pub fn project_poms<P: PomSource>(
     alloc: Global,

@@ -11,7 +11,7 @@ use Rattle.project_models.specs.Models as project
 use Rattle.reactor_modules.specs.Reactor.{AreBuilt, AreInOrder}
 use Rattle.reactor_modules.specs.declared.modules.ReactorModules.{ReactorModules}
 use Rattle.reactor_modules.proofs.Standing.{stands_on_winners}
-use Rattle.plan_numbers.specs.Plans.{IsNumbered}
+use Rattle.plan_parts.specs.Plans.{IsNumbered}
 use Rattle.plan_numbers.specs.Whole.{HasGav}
 use Rattle.plan_files.specs.declared.selected.Planned.{Planned}
 use Rattle.plan_files.specs.declared.selected.SelectedModule.{SelectedModule}

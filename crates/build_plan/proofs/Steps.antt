@@ -13,7 +13,7 @@ use Rattle.reactor_modules.specs.declared.modules.ReactorModules.{ReactorModules
 use Rattle.reactor_modules.specs.declared.modules.ReactorFault.{ReactorFault}
 use Rattle.reactor_modules.specs.declared.modules.ReactorFault.TheVariants as reactors
 use Rattle.reactor_modules.specs.Reactor.{Answers}
-use Rattle.plan_numbers.specs.Plans.{numbered}
+use Rattle.plan_parts.specs.Plans.{numbered}
 use Rattle.plan_files.specs.declared.selected.Planned.{Planned}
 use Rattle.plan_files.specs.declared.selected.SelectedModule.{SelectedModule}
 use Rattle.built_modules.specs.Selected.{AreModules}

@@ -30,7 +30,7 @@ use Rattle.reactor_modules.specs.declared.modules.ReactorModules.{ReactorModules
 use Rattle.reactor_modules.specs.declared.modules.ReactorFault.{ReactorFault}
 use Rattle.reactor_modules.specs.declared.modules.ReactorFault.TheVariants as reactor
 use Rattle.module_sources.specs.Modules.{module_sources}
-use Rattle.plan_numbers.specs.Plans.{IsNumbered, numbered, present_in}
+use Rattle.plan_parts.specs.Plans.{IsNumbered, numbered, present_in}
 use Rattle.plan_files.specs.declared.selected.Planned.{Planned}
 use Rattle.plan_files.specs.declared.selected.SelectedModule.{SelectedModule}
 use Rattle.plan_law.specs.Ready.{AreOrdered}

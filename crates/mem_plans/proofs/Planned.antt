@@ -9,7 +9,7 @@ use Rattle.build_core.specs.declared.plan.Plan.{Plan}
 use Rattle.module_scripts.specs.Scripts.{is_there}
 use Rattle.event_core.specs.SoundPlans.{IsSoundPlan}
 use Rattle.run_law.specs.Given.{IsPresent}
-use Rattle.plan_numbers.specs.Plans.{is_present, present_in}
+use Rattle.plan_parts.specs.Plans.{is_present, present_in}
 use Rattle.plan_files.specs.declared.selected.Planned.{Planned}
 use Rattle.build_plan.specs.Planning.{IsPlan, KnowsFiles}
 

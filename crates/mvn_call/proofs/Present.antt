@@ -10,7 +10,7 @@ use Rattle.pom_source.specs.declared.fault.BuildFault.TheVariants.{Refused, Abse
 use Rattle.build_core.specs.declared.plan.Plan.{Plan}
 use Rattle.module_scripts.specs.Scripts.{is_there}
 use Rattle.run_law.specs.Given.{IsPresent}
-use Rattle.plan_numbers.specs.Plans.{is_present, plan_with, planned_with, present_in}
+use Rattle.plan_parts.specs.Plans.{is_present, plan_with, planned_with, present_in}
 use Rattle.plan_files.specs.declared.selected.Planned.{Planned}
 use Rattle.plan_files.specs.declared.selected.SelectedModule.{SelectedModule}
 use Rattle.build_plan.specs.Planning.{IsPlan, KnowsFiles}

@@ -22,7 +22,7 @@ use Rattle.event_core.specs.Sound.{are_below}
 use Rattle.event_core.specs.SoundPlans.{IsSoundPlanModule, is_backed, pom_first}
 use Rattle.plan_files.specs.Numbers.{fetch_locks, fetch_names, number_of, numbers_of, own_names, plan_files, plan_names}
 use Rattle.plan_files.specs.Outputs.{attached, has_main, main_output, output, outputs}
-use Rattle.plan_numbers.specs.Plans.{entries_of, entry_of, kept_output, module_of, origin_of, own_file}
+use Rattle.plan_parts.specs.Plans.{entries_of, entry_of, kept_output, module_of, origin_of, own_file}
 use Rattle.plan_files.specs.Uses.{calls, fetched_files, fetched_locks, gavs, is_selected, module_at, slot_of, used, used_by}
 use Rattle.plan_files.specs.declared.selected.Output.{Output}
 use Rattle.plan_files.specs.declared.selected.SelectedModule.{SelectedModule}

@@ -15,7 +15,7 @@ use Rattle.event_core.specs.Sound.{are_below}
 use Rattle.event_core.specs.SoundPlans.{TextsClimb}
 use Rattle.plan_files.specs.Numbers.{fetch_locks, fetch_names, files_of, locks_of, number_of, numbers_of, own_names, plan_files, plan_names}
 use Rattle.plan_files.specs.Outputs.{outputs}
-use Rattle.plan_numbers.specs.Plans.{own_file}
+use Rattle.plan_parts.specs.Plans.{own_file}
 use Rattle.plan_files.specs.Uses.{calls, gavs, is_selected, used}
 use Rattle.plan_files.specs.declared.selected.SelectedModule.{SelectedModule}
 use Rattle.plan_law.proofs.FileNames.{fetched_from, file_of_winner, name_of, output_of, used_in}

@@ -15,7 +15,7 @@ use Rattle.module_scripts.specs.Outlines.{is_listed, module_outline, outline_of}
 use Rattle.event_core.specs.Sound.{IsSound, IsSoundModule}
 use Rattle.event_core.specs.SoundPlans.{IsSoundPlan, IsSoundPlanModule, greatest_events, is_own, same_text}
 use Rattle.plan_files.specs.Numbers.{fetch_locks, number_of, numbers_of, plan_files, plan_names}
-use Rattle.plan_numbers.specs.Plans.{IsNumbered, all_events, events_of, is_present, module_of, most_events, numbered, plan_modules, plan_with, planned_with, present_in, root_id}
+use Rattle.plan_parts.specs.Plans.{IsNumbered, all_events, events_of, is_present, module_of, most_events, numbered, plan_modules, plan_with, planned_with, present_in, root_id}
 use Rattle.plan_files.specs.Uses.{calls, fetched_locks, gavs, is_selected, used}
 use Rattle.plan_files.specs.declared.selected.SelectedModule.{SelectedModule}
 use Rattle.plan_files.specs.declared.selected.Planned.{Planned}

@@ -16,7 +16,7 @@ use Rattle.mvn_base.specs.Phase.{phase_number}
 use Rattle.module_scripts.specs.Outlines.{is_listed}
 use Rattle.plan_files.specs.Numbers.{ascending, fetch_names, locks_of, numbers_of, plan_files, plan_names}
 use Rattle.plan_files.specs.Outputs.{outputs}
-use Rattle.plan_numbers.specs.Plans.{entries_of}
+use Rattle.plan_parts.specs.Plans.{entries_of}
 use Rattle.build_core.specs.declared.plan.Entry.{Entry}
 use Rattle.build_core.specs.declared.plan.Origin.{Origin}
 use Rattle.build_core.specs.declared.plan.Origin.TheVariants as origin

@@ -10,7 +10,7 @@ ghost use Rattle.module_scripts.specs.Bounds.{total};
 ghost use Rattle.event_core.specs.SoundPlans.{IsSoundPlan, TextsClimb, greatest_events};
 ghost use Rattle.run_law.specs.Given.{IsPresent};
 ghost use Rattle.plan_files.specs.Numbers.{ascending, fetch_names, numbers_of, plan_files, plan_names};
-ghost use Rattle.plan_numbers.specs.Plans.{IsNumbered, entries_of, numbered};
+ghost use Rattle.plan_parts.specs.Plans.{IsNumbered, entries_of, numbered};
 ghost use Rattle.plan_files.specs.Uses.{gavs, used};
 ghost use Rattle.plan_files.specs.declared.selected.Planned as planned;
 ghost use Rattle.plan_files.specs.declared.selected.SelectedModule as selected;

@@ -12,10 +12,10 @@ use Rattle.mvn_shared.specs.Files.{Files}
 use Rattle.mvn_base.specs.declared.gav.Gav.{Gav}
 use Rattle.classpaths.specs.Classpaths.{with_name}
 use Rattle.plan_files.specs.Numbers.{ascending, with_text, with_texts}
-use Rattle.plan_numbers.specs.Plans.{most_events}
-use Rattle.plan_numbers.specs.Ready.{all_ready_events, files_in, names_in, ready_events, ready_files, ready_locks, ready_names}
+use Rattle.plan_parts.specs.Plans.{most_events}
+use Rattle.plan_parts.specs.Ready.{all_ready_events, files_in, names_in, ready_events, ready_files, ready_locks, ready_names}
 use Rattle.plan_numbers.specs.Whole.{counted}
-use Rattle.plan_numbers.specs.declared.ready.Ready.{Ready}
+use Rattle.plan_parts.specs.declared.ready.Ready.{Ready}
 use Rattle.plan_files.specs.declared.selected.Output.{Output}
 
 -- ---- how many are allowed

@@ -3,12 +3,12 @@ ghost use Rattle.std.specs.Prelude.{◌≡◌, [], fold, flat_map, IfOk, OnOk};
 ghost use Rattle.std.specs.FinMap as finite;
 ghost use Rattle.classpaths.specs.Classpaths.{with_name};
 ghost use Rattle.plan_files.specs.Numbers.{ascending, with_texts};
-ghost use Rattle.plan_numbers.specs.Ready.{files_in, names_in, ready_files, ready_locks, ready_names};
+ghost use Rattle.plan_parts.specs.Ready.{files_in, names_in, ready_files, ready_locks, ready_names};
 
-use crate::ready::Ready;
 use mvn_base::{FileName, lock_name};
 use mvn_shared::{FileMap, List, Mem, Text};
 use plan_files::{FileList, Output, add_text, texts_of};
+use plan_parts::Ready;
 use std::alloc::Global;
 
 // Puts copies of texts to a set.

@@ -1,19 +1,17 @@
 // The names, the files and the modules of a plan.
 ghost use Rattle.std.specs.Prelude.{◌≡◌, ◌≤◌, length, map, IfOk};
 ghost use Rattle.std.specs.List.{AllByRecursion};
-ghost use Rattle.plan_numbers.specs.Plans.{most_events};
-ghost use Rattle.plan_numbers.specs.Ready.{all_ready_events, ready, ready_files, ready_names};
+ghost use Rattle.plan_parts.specs.Plans.{most_events};
+ghost use Rattle.plan_parts.specs.Ready.{all_ready_events, ready, ready_files, ready_names};
 ghost use Rattle.plan_files.specs.Uses.{gavs};
 ghost use Rattle.plan_numbers.specs.Whole.{HasGav, numbered_few, numbered_if, numbered_with};
 
 use crate::events::count_events;
-use crate::numbers::copy_of;
-use crate::parts::{Parts, parts_of};
-use crate::ready::{Ready, made_ready};
 use crate::tables::{files_of, names_of};
 use mvn_base::{FileName, Gav, Phase};
 use mvn_shared::{List, Mem, Text};
 use plan_files::{FileList, Places, SelectedModule};
+use plan_parts::{Parts, Ready, copy_of, made_ready, parts_of};
 use std::alloc::Global;
 
 /// The names, the files and the modules of a plan, with what is shown of them.

@@ -27,7 +27,7 @@ use Rattle.run_law.proofs.Invariants.{IsFetchFile, IsOwnFile}
 use Rattle.run_law.proofs.Sounds.{sound_fit}
 use Rattle.run_law.proofs.Stored.{none_is}
 use Rattle.plan_files.specs.Numbers.{plan_files, plan_names}
-use Rattle.plan_numbers.specs.Plans.{module_of, plan_with, planned_with}
+use Rattle.plan_parts.specs.Plans.{module_of, plan_with, planned_with}
 use Rattle.plan_files.specs.Uses.{gavs}
 use Rattle.plan_files.specs.declared.selected.Planned.{Planned}
 use Rattle.plan_files.specs.declared.selected.SelectedModule.{SelectedModule}

@@ -13,7 +13,7 @@ use Rattle.reactor_modules.proofs.Standing.{stands_on_winners}
 use Rattle.built_modules.specs.Selected.{AreSelected}
 use Rattle.built_modules.proofs.Ordered.{are_ordered}
 use Rattle.event_core.specs.SoundPlans.{IsSoundPlan}
-use Rattle.plan_numbers.specs.Plans.{IsNumbered}
+use Rattle.plan_parts.specs.Plans.{IsNumbered}
 use Rattle.plan_files.specs.declared.selected.Planned.{Planned}
 use Rattle.plan_law.specs.Ready.{AreOrdered}
 use Rattle.plan_law.proofs.Whole.{is_numbered, sound_numbered}

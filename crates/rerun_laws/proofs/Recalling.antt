@@ -12,7 +12,7 @@ use Rattle.build_plan.specs.declared.planning.PlanFault.TheVariants.{Build, Unkn
 use Rattle.cli_words.specs.declared.command_line.CommandLine.{CommandLine}
 use Rattle.pom_source.specs.declared.fault.BuildFault.TheVariants.{Refused, Absent, Source, Memory}
 use Rattle.pom_source.specs.declared.found.Given.{Given}
-use Rattle.plan_numbers.specs.Plans.{present_in}
+use Rattle.plan_parts.specs.Plans.{present_in}
 use Rattle.plan_files.specs.declared.selected.Planned.{Planned}
 use Rattle.plan_laws.proofs.Founding.{one_found}
 use Rattle.run_law.proofs.Laws.{again_same}

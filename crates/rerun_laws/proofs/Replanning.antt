@@ -22,7 +22,7 @@ use Rattle.project_libraries.specs.Known.{known_at, libraries_of}
 use Rattle.project_libraries.specs.Resolving.{Resolves}
 use Rattle.cli_words.specs.declared.command_line.CommandLine.{CommandLine}
 use Rattle.plan_files.specs.Numbers.{plan_files}
-use Rattle.plan_numbers.specs.Plans.{IsNumbered, all_events, most_events, numbered, plan_modules, plan_with, planned_with, present_in, root_id}
+use Rattle.plan_parts.specs.Plans.{IsNumbered, all_events, most_events, numbered, plan_modules, plan_with, planned_with, present_in, root_id}
 use Rattle.plan_files.specs.declared.selected.Planned.{Planned}
 use Rattle.plan_files.specs.declared.selected.SelectedModule.{SelectedModule}
 use Rattle.plan_law.proofs.Members.{IsIn, at_in, each_passes, from_map, in_at, in_from}

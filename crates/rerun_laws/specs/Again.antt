@@ -3,7 +3,7 @@ use Rattle.std.specs.Prelude.{Result, Ok, Err}
 use Rattle.mvn_shared.specs.Files.{Files}
 use Rattle.build_core.specs.declared.plan.Plan.{Plan}
 use Rattle.crew_outcome.specs.declared.outcome.Outcome.{Outcome}
-use Rattle.plan_numbers.specs.Plans.{present_in}
+use Rattle.plan_parts.specs.Plans.{present_in}
 use Rattle.plan_files.specs.declared.selected.Planned.{Planned}
 use Rattle.mvn_call.specs.Headline.{World}
 

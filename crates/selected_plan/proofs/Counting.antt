@@ -4,7 +4,7 @@ use Rattle.mvn_shared.specs.Files.{Files}
 use Rattle.mvn_base.specs.declared.phase.Phase.{Phase}
 use Rattle.pom_source.specs.Answers.{Built, Says}
 use Rattle.pom_source.specs.declared.fault.BuildFault.{BuildFault}
-use Rattle.plan_numbers.specs.Plans.{IsNumbered, all_events, most_events, numbered, plan_modules, plan_with, planned_with, present_in}
+use Rattle.plan_parts.specs.Plans.{IsNumbered, all_events, most_events, numbered, plan_modules, plan_with, planned_with, present_in}
 use Rattle.plan_numbers.specs.Whole.{numbered_if, numbered_of}
 use Rattle.plan_files.specs.declared.selected.Planned.{Planned}
 use Rattle.plan_files.specs.declared.selected.SelectedModule.{SelectedModule}

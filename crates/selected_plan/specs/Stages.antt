@@ -3,7 +3,7 @@ use Rattle.std.specs.Prelude.{◌≡◌, ℕ, Bool, List, codes, length, Err}
 use Rattle.mvn_base.specs.declared.rule.Rule.TheVariants.{GraphTooLarge}
 use Rattle.pom_source.specs.Answers.{Built}
 use Rattle.pom_source.specs.Refusals.{text_refused}
-use Rattle.plan_numbers.specs.Plans.{root_id}
+use Rattle.plan_parts.specs.Plans.{root_id}
 use Rattle.plan_files.specs.declared.selected.Planned.{Planned}
 use Rattle.plan_numbers.specs.declared.whole.Numbered.{Numbered}
 

@@ -9,7 +9,7 @@ ghost use Rattle.model_resolver.specs.Devices.{Counted, IsCounted};
 ghost use Rattle.model_resolver.specs.Noting.{first_after};
 ghost use Rattle.model_resolver.specs.declared.failures.PomDevice.TheVariants as devices;
 ghost use Rattle.pom_source.specs.Answers.{Says, build_failed};
-ghost use Rattle.plan_numbers.specs.Plans.{numbered, present_in, IsNumbered};
+ghost use Rattle.plan_parts.specs.Plans.{numbered, present_in, IsNumbered};
 ghost use Rattle.plan_numbers.specs.Whole.{HasGav};
 ghost use Rattle.selected_plan.specs.Stages.{IsAssembled, assembled, too_many};
 

@@ -3,7 +3,7 @@ ghost use Rattle.std.specs.Prelude.{◌≡◌, ◌+◌, ◌++◌, ◌∷◌, [],
 ghost use Rattle.mvn_shared.specs.Cause.{HasCause};
 ghost use Rattle.mvn_outside.specs.Faults.{device_failed};
 ghost use Rattle.mvn_outside.specs.Shelf.{files_now};
-ghost use Rattle.plan_numbers.specs.Plans.{is_present, present_in};
+ghost use Rattle.plan_parts.specs.Plans.{is_present, present_in};
 
 use mvn_base::FileName;
 use mvn_outside::{DeviceFault, Shelf};

@@ -12,7 +12,7 @@ use Rattle.project_models.specs.Models.{project_models}
 use Rattle.plan_law.proofs.Whole.{is_numbered}
 use Rattle.plan_files.specs.Numbers.{plan_files, plan_names}
 use Rattle.plan_files.specs.Uses.{gavs}
-use Rattle.plan_numbers.specs.Plans.{module_of, plan_modules, plan_with}
+use Rattle.plan_parts.specs.Plans.{module_of, plan_modules, plan_with}
 use Rattle.plan_files.specs.declared.selected.Planned.{Planned}
 use Rattle.plan_files.specs.declared.selected.SelectedModule.{SelectedModule}
 use Rattle.reactor_modules.specs.Upstreams.{upstream_places}

@@ -2,7 +2,7 @@ use Rattle.std.proofs.Common.{ap, ◌∙◌}
 use Rattle.build_core.specs.OneThread.{Progress}
 use Rattle.run_law.specs.Given.{supply_by}
 use Rattle.run_law.proofs.Laws.{again_same}
-use Rattle.plan_numbers.specs.Plans.{present_in}
+use Rattle.plan_parts.specs.Plans.{present_in}
 use Rattle.rerun_laws.proofs.Planless.{build_same, report_same, told}
 use Rattle.rerun_laws.proofs.over_plan.over_one_plan.Goals as goal
 

@@ -1,7 +1,7 @@
 use Rattle.std.proofs.Common.{sym, ◌∙◌}
 use Rattle.std.proofs.lemmas.Option.{IfSome_then}
 use Rattle.mvn_outside.specs.Shelf.{files_now}
-use Rattle.plan_numbers.specs.Plans.{IsNumbered}
+use Rattle.plan_parts.specs.Plans.{IsNumbered}
 use Rattle.selected_plan.specs.Stages.{IsAssembled}
 use Rattle.selected_plan.proofs.Counting.{made, ok_then, said}
 use Rattle.selected_plan.proofs.planning.plan_selected.Goals as goal

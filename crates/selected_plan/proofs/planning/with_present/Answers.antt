@@ -1,7 +1,7 @@
 use Rattle.std.proofs.Common.{◌≡◌, ℕ, List, IfOk, IfSome, subst}
 use Rattle.std.proofs.lemmas.Option.{IfSome_then}
 use Rattle.mvn_outside.specs.Shelf.{files_now}
-use Rattle.plan_numbers.specs.Plans.{present_in}
+use Rattle.plan_parts.specs.Plans.{present_in}
 use Rattle.selected_plan.proofs.Counting.{swapped}
 use Rattle.selected_plan.proofs.planning.with_present.Goals as goal
 

@@ -1,6 +1,6 @@
 use Rattle.std.proofs.Common.{◌≡◌, ◌+◌, ◌++◌, drop, length, IfSome}
 use Rattle.mvn_outside.specs.Shelf.{files_now}
-use Rattle.plan_numbers.specs.Plans.{present_in}
+use Rattle.plan_parts.specs.Plans.{present_in}
 use Rattle.selected_plan.proofs.present.present_in.Given as goal
 
 -- what is known of the files so far

@@ -1,7 +1,7 @@
 use Rattle.std.proofs.Common.{◌≡◌, ◌++◌}
 use Rattle.std.specs.Vec.Iter.{into_iter_items}
-use Rattle.plan_numbers.specs.Parts.{parts_of}
-use Rattle.plan_numbers.proofs.parts.parts_of.Given as goal
+use Rattle.plan_parts.specs.Parts.{parts_of}
+use Rattle.plan_parts.proofs.parts.parts_of.Given as goal
 
 -- the modules so far, and those that are left
 abbrev pub invariant-loop-ready : goal.invariant-loop-ready

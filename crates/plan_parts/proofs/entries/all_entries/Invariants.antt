@@ -1,7 +1,7 @@
 use Rattle.std.proofs.Common.{◌≡◌, ◌++◌, drop, filter}
-use Rattle.plan_numbers.specs.Plans.{entries_of}
+use Rattle.plan_parts.specs.Plans.{entries_of}
 use Rattle.plan_files.specs.Uses.{has_names}
-use Rattle.plan_numbers.proofs.entries.all_entries.Given as goal
+use Rattle.plan_parts.proofs.entries.all_entries.Given as goal
 
 -- the entries so far, and those of the dependencies that are left
 abbrev pub invariant-loop-winner : goal.invariant-loop-winner

@@ -1,7 +1,7 @@
 // A module with what its numbers are made from.
 ghost use Rattle.std.specs.Prelude.{◌≡◌, map, IfOk};
 ghost use Rattle.mvn_base.specs.FileName.{IsValid};
-ghost use Rattle.plan_numbers.specs.Ready.{ready};
+ghost use Rattle.plan_parts.specs.Ready.{ready};
 
 use lifecycle::{GoalList, goals};
 use mvn_base::{FileName, Gav, Phase};
@@ -56,7 +56,7 @@ fn made_of(
 }
 
 /// A module made ready. Costs its goals, and the names of its dependencies.
-pub(crate) fn made_ready(
+pub fn made_ready(
     alloc: Global,
     phase: Phase,
     built: &Places<Gav>,

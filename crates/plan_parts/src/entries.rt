@@ -2,7 +2,7 @@
 ghost use Rattle.std.specs.Prelude.{◌≡◌, ◌<◌, ◌++◌, [], ◌∷◌, true, ◌&&◌, filter, length, if◌then◌else◌, IfOk, OnOk};
 ghost use Rattle.classpaths.specs.Classpaths.{artifact_file, has_scope, is_on};
 ghost use Rattle.classpaths.specs.declared.classpath.Kind.TheVariants as kinds;
-ghost use Rattle.plan_numbers.specs.Plans.{entries_of, entry_of, kept_output, origin_of};
+ghost use Rattle.plan_parts.specs.Plans.{entries_of, entry_of, kept_output, origin_of};
 ghost use Rattle.plan_files.specs.Uses.{has_names, used_by};
 
 use build_core::{Entry, Origin};
@@ -128,7 +128,7 @@ fn all_entries(
 
 /// The entries of a module's classpaths, by its goals and its dependencies: none where no goal needs a classpath. Costs their names.
 /// Introduction to the Dependency Mechanism, "Dependency Scope".
-pub(crate) fn entries_of(
+pub fn entries_of(
     alloc: Global,
     built: &Places<Gav>,
     files: &FileList,

@@ -9,11 +9,11 @@ use Rattle.build_core.specs.declared.plan.PlanModule.{PlanModule}
 use Rattle.classpaths.specs.Classpaths.{with_name}
 use Rattle.plan_files.specs.Numbers.{ascending, fetch_locks, fetch_names, number_of, numbers_of}
 use Rattle.plan_files.specs.Outputs.{is_pom, outputs}
-use Rattle.plan_numbers.specs.Plans.{budget_of, entries_of, own_file}
+use Rattle.plan_parts.specs.Plans.{budget_of, entries_of, own_file}
 use Rattle.plan_files.specs.Uses.{calls, used_by}
-use Rattle.plan_numbers.specs.declared.numbers.Numbers.{Numbers}
-use Rattle.plan_numbers.specs.declared.numbers.Part.{Part}
-use Rattle.plan_numbers.specs.declared.ready.Ready.{Ready}
+use Rattle.plan_parts.specs.declared.numbers.Numbers.{Numbers}
+use Rattle.plan_parts.specs.declared.numbers.Part.{Part}
+use Rattle.plan_parts.specs.declared.ready.Ready.{Ready}
 use Rattle.plan_files.specs.declared.selected.Output.{Output}
 use Rattle.plan_files.specs.declared.selected.SelectedModule.{SelectedModule}
 

@@ -6,7 +6,7 @@ use Rattle.build_core.specs.declared.plan.Entry.{Entry}
 use Rattle.classpaths.specs.Classpaths.{is_on}
 use Rattle.classpaths.specs.declared.classpath.Kind.TheVariants as kinds
 use Rattle.std.proofs.lemmas.List.{append_assoc}
-use Rattle.plan_numbers.specs.Plans.{entries_of, entry_of}
+use Rattle.plan_parts.specs.Plans.{entries_of, entry_of}
 use Rattle.plan_files.specs.Uses.{has_names}
 
 -- the entry of one dependency, and then those of the rest

@@ -1,9 +1,9 @@
 // A module of a plan: its numbers.
 ghost use Rattle.std.specs.Prelude.{◌≡◌, ◌<◌, length, map, IfOk};
 ghost use Rattle.plan_files.specs.Numbers.{number_of, numbers_of};
-ghost use Rattle.plan_numbers.specs.Plans.{budget_of, own_file};
+ghost use Rattle.plan_parts.specs.Plans.{budget_of, own_file};
 ghost use Rattle.mvn_base.specs.Gav.{lock_name};
-ghost use Rattle.plan_numbers.specs.Ready.{numbers_with, part_of, part_with};
+ghost use Rattle.plan_parts.specs.Ready.{numbers_with, part_of, part_with};
 
 use crate::entries::entries_of;
 use crate::ready::Ready;
@@ -161,7 +161,7 @@ fn assembled(gav: Gav, numbers: Numbers, ready: Ready, count: usize) -> Part
 }
 
 /// A copy of coordinates. Costs their length.
-pub(crate) fn copy_of(gav: &Gav) -> Mem<Gav>
+pub fn copy_of(gav: &Gav) -> Mem<Gav>
     ensures { IfOk result (λ copy. copy ≡ gav.now) }
 {
     Ok(gav.clone()?)
@@ -195,7 +195,7 @@ fn labels_of(
 
 /// A module of the plan, by the coordinates of all that are built and by the plan's names and files. Costs its names; what it was made
 /// from is moved.
-pub(crate) fn part_of(
+pub fn part_of(
     alloc: Global,
     built: &Places<Gav>,
     names: &Places<Text>,

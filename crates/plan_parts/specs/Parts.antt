@@ -1,10 +1,10 @@
 -- The modules of a plan, and what is shown of them. Own words.
 use Rattle.std.specs.Prelude.{ℕ, List, [], ◌∷◌, ◌++◌, map}
 use Rattle.mvn_base.specs.declared.gav.Gav.{Gav}
-use Rattle.plan_numbers.specs.Ready.{part_of}
-use Rattle.plan_numbers.specs.declared.numbers.Part.{Part}
-use Rattle.plan_numbers.specs.declared.parts.Parts.{Parts}
-use Rattle.plan_numbers.specs.declared.ready.Ready.{Ready}
+use Rattle.plan_parts.specs.Ready.{part_of}
+use Rattle.plan_parts.specs.declared.numbers.Part.{Part}
+use Rattle.plan_parts.specs.declared.parts.Parts.{Parts}
+use Rattle.plan_parts.specs.declared.ready.Ready.{Ready}
 
 abbrev pub no_parts : Parts
 no_parts = record { modules = []; models = []; resolutions = []; unbound = [] }

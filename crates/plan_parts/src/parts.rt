@@ -1,6 +1,6 @@
 // All modules of a plan.
 ghost use Rattle.std.specs.Prelude.{◌≡◌, ◌<◌, length, IfOk, OnOk};
-ghost use Rattle.plan_numbers.specs.Parts.{no_parts, parts_of, with_part};
+ghost use Rattle.plan_parts.specs.Parts.{no_parts, parts_of, with_part};
 
 use crate::numbers::{Part, part_of};
 use crate::ready::Ready;
@@ -44,7 +44,7 @@ fn no_parts(alloc: Global) -> Parts
 }
 
 /// The modules of a plan, of those that are ready. Costs their names; what they were made from is moved.
-pub(crate) fn parts_of(
+pub fn parts_of(
     alloc: Global,
     built: &Places<Gav>,
     names: &Places<Text>,

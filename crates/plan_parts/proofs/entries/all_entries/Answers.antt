@@ -2,10 +2,10 @@ use Rattle.std.proofs.Common.{◌≡◌, ◌+◌, ◌++◌, ◌∷◌, List, dro
 use Rattle.std.proofs.lemmas.List.{drop_more}
 use Rattle.build_core.specs.declared.plan.Entry.{Entry}
 use Rattle.classpaths.specs.declared.resolution.Resolved.{Resolved}
-use Rattle.plan_numbers.specs.Plans.{entries_of}
+use Rattle.plan_parts.specs.Plans.{entries_of}
 use Rattle.plan_files.specs.Uses.{has_names}
-use Rattle.plan_numbers.proofs.EntryWalks.{one_entry_more}
-use Rattle.plan_numbers.proofs.entries.all_entries.Goals as goal
+use Rattle.plan_parts.proofs.EntryWalks.{one_entry_more}
+use Rattle.plan_parts.proofs.entries.all_entries.Goals as goal
 
 pub loop-winner-preserved : goal.loop-winner-preserved
 loop-winner-preserved c =

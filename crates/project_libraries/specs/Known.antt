@@ -16,7 +16,7 @@ use Rattle.model_resolver.specs.declared.resolver.ProjectPom.{ProjectPom}
 use Rattle.library_lookup.specs.Libraries.{Libraries}
 use Rattle.library_lookup.specs.declared.known.Known.{Known}
 use Rattle.library_lookup.specs.declared.known.Known.TheVariants as known
-use Rattle.project_libraries.specs.Available.{available}
+use Rattle.available_versions.specs.Available.{available}
 
 -- the model of the first module of these effective coordinates
 abbrev pub module_of : List Model → Gav → Option Model

@@ -5,7 +5,6 @@ pub use Rattle.model_resolver.specs.Devices
 pub use Rattle.model_resolver.specs.Finding
 pub use Rattle.library_lookup.specs.Libraries
 pub use Rattle.resolution.specs.Resolved
-pub mod Available
 pub mod Known
 pub mod Resolving
 pub mod Holding

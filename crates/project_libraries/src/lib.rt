@@ -3,10 +3,8 @@
 #![tactic(auto)]
 
 mod known;
-mod listing;
 mod memo;
 mod resolving;
 mod run_lookup;
-mod versions;
 
 pub use resolving::resolve_modules;

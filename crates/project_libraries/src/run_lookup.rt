@@ -5,10 +5,10 @@ ghost use Rattle.mvn_outside.specs.Shelf.{files_now};
 ghost use Rattle.model_resolver.specs.Resolving.{TellsSame};
 ghost use Rattle.library_lookup.specs.Faults.{lookup_failed};
 ghost use Rattle.library_lookup.specs.Telling.{TellsOn};
-ghost use Rattle.project_libraries.specs.Available.{available};
+ghost use Rattle.available_versions.specs.Available.{available};
 
 use crate::known::known_at;
-use crate::versions::{Versions, available};
+use available_versions::{Versions, available};
 use import_store::RunStore;
 use library_lookup::{Known, Lookup, LookupFault};
 use model_resolver::ModelResolver;

@@ -17,7 +17,7 @@ use Rattle.coordinate_laws.proofs.Coordinates.{one_of_a_file}
 use Rattle.event_core.specs.SoundPlans.{TextsClimb}
 use Rattle.model_types.specs.declared.model.Model.{Model}
 use Rattle.mvn_outside.specs.Versions.{versions_of}
-use Rattle.project_libraries.specs.Available.{available, each_once, is_artifact, joined, listed, version_of, within_most}
+use Rattle.available_versions.specs.Available.{available, each_once, is_artifact, joined, listed, version_of, within_most}
 use Rattle.plan_files.specs.Numbers.{ascending}
 use Rattle.plan_law.proofs.FileNames.{of_pom}
 use Rattle.plan_law.proofs.Gavs.{left_of, right_of}

@@ -11,7 +11,7 @@ ghost use Rattle.model_resolver.specs.declared.resolver.ProjectPom as poms;
 ghost use Rattle.model_types.specs.declared.model.Model as models;
 ghost use Rattle.pom_source.specs.declared.found.Given as givens;
 ghost use Rattle.plan_files.specs.declared.selected.Planned as planned;
-ghost use Rattle.project_libraries.specs.Available.{available};
+ghost use Rattle.available_versions.specs.Available.{available};
 ghost use Rattle.rerun_laws.specs.Again.{planned_over};
 ghost use Rattle.rerun_laws.specs.Apart.{IsApart, is_said};
 ghost use Rattle.rerun_laws.specs.Grown.{IsGrown, gavs_of};

@@ -4,7 +4,7 @@ ghost use Rattle.mvn_shared.specs.Cause.{HasCause};
 ghost use Rattle.mvn_outside.specs.Shelf.{files_now};
 ghost use Rattle.model_resolver.specs.Devices.{Counted, IsCounted};
 ghost use Rattle.library_lookup.specs.Faults.{lookup_failed};
-ghost use Rattle.project_libraries.specs.Available.{available, each_once, joined, listed, version_of, with_version, within_most};
+ghost use Rattle.available_versions.specs.Available.{available, each_once, joined, listed, version_of, with_version, within_most};
 
 use crate::listing::{local_versions, remote_versions};
 use library_lookup::LookupFault;
@@ -15,7 +15,7 @@ use mvn_shared::{Bytes, FileMap, List, Mem, Shared, Text};
 use std::alloc::Global;
 
 /// An artifact's versions, unless there are too many.
-pub(crate) type Versions = Option<List<Text>>;
+pub type Versions = Option<List<Text>>;
 
 // Puts a module's version to others, if it is of this artifact.
 fn push_version(model: &Model, group: &Text, artifact: &Text, list: &mut List<Text>) -> Mem<()>
@@ -144,7 +144,7 @@ fn with_remote<R: Remote>(
 /// The versions of an artifact among the modules, in the local repository and in the remote one, each once, ascending by bytes; none where
 /// there are more than 4,096. Costs a look at each module, and two listings.
 #[tactic(auto, using(model_resolver::proofs::Counting::counted_none))]
-pub(crate) fn available<S: Shelf, R: Remote>(
+pub fn available<S: Shelf, R: Remote>(
     alloc: Global,
     shelf: &mut S,
     remote: &mut R,

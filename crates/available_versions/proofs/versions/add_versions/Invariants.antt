@@ -1,7 +1,7 @@
 use Rattle.std.proofs.Common.{◌≡◌, fold}
 use Rattle.std.specs.Vec.Iter.{into_iter_items}
-use Rattle.project_libraries.specs.Available.{with_version}
-use Rattle.project_libraries.proofs.versions.add_versions.Given as goal
+use Rattle.available_versions.specs.Available.{with_version}
+use Rattle.available_versions.proofs.versions.add_versions.Given as goal
 
 -- with the versions that are left, all versions
 abbrev pub invariant-loop-version : goal.invariant-loop-version

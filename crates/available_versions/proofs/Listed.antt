@@ -1,7 +1,7 @@
 -- Versions that a repository lists.
 use Rattle.std.proofs.Common.{◌≡◌, ◌≤◌, ◌<◌, ℕ, Bool, true, false, List, length, Option, Some, None, refl, sym, ap, if◌then◌else◌, arith}
 use Rattle.std.specs.Prelude.{nat_lt, ◌&&◌}
-use Rattle.project_libraries.specs.Available.{within_most}
+use Rattle.available_versions.specs.Available.{within_most}
 
 within_by : (versions : List (List ℕ)) (b : Bool) (value : Option (List (List ℕ))) → nat_lt 4096 (length versions) ≡ b → value ≡ (if b then None else Some versions) → value ≡ within_most versions
 within_by versions b value e is = subst_by

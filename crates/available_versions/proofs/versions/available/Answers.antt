@@ -1,8 +1,8 @@
 use Rattle.std.proofs.Common.{ℕ}
 use Rattle.model_resolver.specs.Devices.{Counts}
 use Rattle.model_resolver.proofs.Counting.{counted_twice}
-use Rattle.project_libraries.proofs.Joining.{available_of}
-use Rattle.project_libraries.proofs.versions.available.Goals as goal
+use Rattle.available_versions.proofs.Joining.{available_of}
+use Rattle.available_versions.proofs.versions.available.Goals as goal
 
 pub returns-in-Ok-clause-tells : goal.returns-in-Ok-clause-tells
 returns-in-Ok-clause-tells g c =

@@ -8,7 +8,7 @@ ghost use Rattle.mvn_outside.specs.Versions.{ListsAll, versions_of};
 ghost use Rattle.model_resolver.specs.Devices.{Counted, IsCounted};
 ghost use Rattle.model_resolver.specs.Noting.{first_after};
 ghost use Rattle.library_lookup.specs.Faults.{lookup_failed};
-ghost use Rattle.project_libraries.specs.Available.{is_artifact, listed, within_most};
+ghost use Rattle.available_versions.specs.Available.{is_artifact, listed, within_most};
 
 use crate::versions::Versions;
 use library_lookup::LookupFault;

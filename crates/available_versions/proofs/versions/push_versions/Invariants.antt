@@ -1,6 +1,6 @@
 use Rattle.std.proofs.Common.{◌≡◌, ◌++◌, drop, filter_map}
-use Rattle.project_libraries.specs.Available.{version_of}
-use Rattle.project_libraries.proofs.versions.push_versions.Given as goal
+use Rattle.available_versions.specs.Available.{version_of}
+use Rattle.available_versions.proofs.versions.push_versions.Given as goal
 
 -- the versions so far, and those that are left
 abbrev pub invariant-loop-model : goal.invariant-loop-model

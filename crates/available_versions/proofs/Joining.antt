@@ -7,7 +7,7 @@ use Rattle.mvn_shared.specs.Files.{Files}
 use Rattle.mvn_outside.specs.Shelf.{files_now}
 use Rattle.mvn_outside.specs.declared.shelf.ShelfTold.{ShelfTold}
 use Rattle.model_types.specs.declared.model.Model.{Model}
-use Rattle.project_libraries.specs.Available.{available, each_once, joined, listed, version_of, with_version, within_most}
+use Rattle.available_versions.specs.Available.{available, each_once, joined, listed, version_of, with_version, within_most}
 
 -- one after another
 pub one_by_one : {A B : Type 0} (f : A → Option B) (list : List B) (x : A) (xs : List A) → (list ++ filter_map f (x ∷ [])) ++ filter_map f xs ≡ list ++ filter_map f (x ∷ xs)

@@ -1,0 +1,2 @@
+pub use Rattle.model_resolver.specs.Devices
+pub mod Available

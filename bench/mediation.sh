@@ -38,6 +38,11 @@ sharing() {
   awk -v n="$1" 'BEGIN { srand(7); for (m = 0; m < n; m++) { print "module counted"; for (k = 0; k < 10; k++) print "needs g a" 1 + int(rand() * 300) " 1 jar - - -" } }'
 }
 
+# MODULES: so, over libraries that need nothing
+plain() {
+  sharing "$1" | awk '/^pom /{ lib = 1; print; next } /^module/ { lib = 0 } !lib'
+}
+
 printf 'needs g a1 1 jar - - -\n' > in
 base=$(least 15)
 for shape in chain diamonds excluded; do
@@ -59,10 +64,12 @@ for number in 10 20 40; do
   modules "$number" > in
   row 'modules of ten dependencies' "$number" $(($(least 15) - base))
 done
-sharing 0 > in
-base=$(least 15)
-first=
-for number in 250 500 1000; do
-  sharing "$number" > in
-  row 'modules over one set of libraries' "$number" $(($(least 15) - base))
+for shape in sharing plain; do
+  "$shape" 0 > in
+  base=$(least 15)
+  first=
+  for number in 250 500 1000; do
+    "$shape" "$number" > in
+    row "modules over one set of libraries: $shape" "$number" $(($(least 15) - base))
+  done
 done

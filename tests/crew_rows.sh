@@ -1,17 +1,17 @@
 #!/usr/bin/env bash
-# Builds projects that are made from numbers by 1 to 16 workers at once, over objects in memory, with the built program run_rows, and looks
-# whether they leave what one worker leaves: COUNT projects without faults, and as many in which calls of the objects fail. The stored output
-# of the program has others, and the rows of goals that wait for one another. usage: crew_rows.sh [COUNT [FIRST]]
+# Builds projects that are made from numbers by 1 to 16 workers at once, over objects in memory, with the built program build_rows, and
+# looks whether they leave what one worker leaves: COUNT projects without faults, and as many in which calls of the objects fail. The stored
+# output of the program has others, and the rows of goals that wait for one another. usage: crew_rows.sh [COUNT [FIRST]]
 . "$(dirname "$0")/cases.sh"
-program=crates/run_rows/out/run_rows
+program=crates/build_rows/out/build_rows
 count=${1-60}
 first=${2-1001}
-[ -x "$program" ] || stop "no $program here: call rt ci, or (cd crates/run_rows && rt run) first"
+[ -x "$program" ] || stop "no $program here: call rt ci, or (cd crates/build_rows && rt run) first"
 
 # CASE, KIND, WHAT IS TOLD
 tried() {
   local told
-  told=$(echo "$2 $first $count" | timeout 600 "$program" | tail -n 1)
+  told=$(echo "run $2 $first $count" | timeout 600 "$program" | tail -n 1)
   if [[ $told =~ ^$3,\ none\ different$ ]]; then
     pass "$1: $told"
   else

@@ -1,19 +1,19 @@
 #!/usr/bin/env bash
 # Tries, by hand and with no proof, bodies of the crew by which one worker does all, or keeps the others from their turns while it runs a goal
-# or fetches. No contract refuses them, since nothing is promised about who works when; the stored run of run_rows has to. Each is built by
+# or fetches. No contract refuses them, since nothing is promised about who works when; the stored run of build_rows has to. Each is built by
 # `rt try` from a copy, and given the first rows of workers at once one by one: it is caught where a row isn't answered as it is stored. Each takes some
 # minutes. usage: crew_wrongs.sh [NAME ..], of the names below; all if absent.
 . "$(dirname "$0")/cases.sh"
 . tests/wrong_bodies.sh
-stored=run_rows
+stored=build_rows
 cases=$work/rows
 seconds=60
 mkdir "$cases"
 # what is stored for each row of goals, of a fetch and of a failure begins with the row
 awk -v folder="$cases" '
-  NR == FNR { rows[$0]; next }
-  $0 in rows { name = $0; gsub(/ /, "_", name); if (name !~ /^(goals|fetch|fails)/) name = ""; else print > (folder "/" name) }
-  name != "" { print > (folder "/" name ".stdout") }' crates/run_rows/stdin crates/run_rows/stdout
+  NR == FNR { if (sub(/^run /, "")) rows[$0]; next }
+  $0 in rows { name = $0; gsub(/ /, "_", name); if (name !~ /^(goals|fetch|fails)/) name = ""; else print "run " $0 > (folder "/" name) }
+  name != "" { print > (folder "/" name ".stdout") }' crates/build_rows/stdin crates/build_rows/stdout
 
 half='let middle = first + front.len() as u32;'
 asked='let answer = match ask_gate(alloc, gate, task.unit, call, paths, request) {'

@@ -19,7 +19,7 @@ import sys
 
 TOP = os.path.join(os.path.dirname(os.path.abspath(__file__)), "..", "crates")
 CALLERS = re.compile(r"(_tests|_rows|_builds)$|^bench_|"
-                     r"^(row_(models|plans|projects)|shown_models|graph_lines|classpath_list|waiting_hands|build_images|board_site|board_turns)$")
+                     r"^(row_(models|plans|projects)|shown_models|merged_plugins|graph_lines|classpath_list|waiting_hands|build_images|board_site|board_turns)$")
 HEAD = re.compile(r"^(?:pub )?(impl|trait|struct|enum|mod)\b(.*)$")
 
 

@@ -3,13 +3,8 @@
 //! all builds had together.
 #![tactic(auto)]
 
-mod building;
-mod project;
-
-use building::events;
-use mem_plans::plan;
-use mvn_shared::{List, Mem};
-use project::put_poms;
+use bare_builds::events_of;
+use mvn_shared::Mem;
 use std::alloc::Global;
 use std::sync::Wait;
 use std::thread::Threads;
@@ -23,11 +18,7 @@ fn number(word: &str) -> u32 {
 fn told<W: Threads + Wait + Sync>(rt: &W, alloc: Global, line: &str) -> Mem<u64> {
     let (modules, rest) = line.split_once(' ').unwrap_or((line, ""));
     let (workers, times) = rest.split_once(' ').unwrap_or((rest, ""));
-    let mut poms = List::new(alloc);
-    put_poms(alloc, &mut poms, number(modules))?;
-    let none = List::new(alloc);
-    let plan = plan(alloc, &poms, &none, &none, number(workers))?;
-    events(rt, alloc, &plan, number(times))
+    events_of(rt, alloc, number(modules), number(workers), number(times))
 }
 
 fn main(rt: HostRuntime) -> anyhow::Result<()> {

@@ -1,5 +1,5 @@
 // Builds of the generated project, over objects of which none may be used but the sink (`generated_run`).
-use crate::builds::{Manner, NO_FAULT, check};
+use checked_builds::{Manner, NO_FAULT, check};
 use mvn_shared::Mem;
 use std::alloc::Global;
 use std::process::Abort;

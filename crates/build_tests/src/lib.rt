@@ -2,12 +2,8 @@
 #![tactic(auto)]
 
 #[cfg(test)]
-mod builds;
-#[cfg(test)]
 mod fetch_tests;
 #[cfg(test)]
 mod generated_tests;
 #[cfg(test)]
 mod install_tests;
-#[cfg(test)]
-mod library;

@@ -168,7 +168,7 @@ fn push_if_found(
 }
 
 // What is told of what is found.
-fn push_told(
+fn push_what_is_found(
     alloc: Global,
     text: &mut String,
     project: &mut Project,
@@ -194,7 +194,7 @@ fn told_with(
     first: &str,
 ) -> Mem<()> {
     let found = found(alloc, project, given);
-    push_told(alloc, text, project, given, &found, kind, first)
+    push_what_is_found(alloc, text, project, given, &found, kind, first)
 }
 
 // The same on a machine with Linux, with the profiles of the first field where these are asked for.
@@ -249,8 +249,16 @@ fn told_fields(
     told_of(alloc, text, &mut project, kind, row, fields)
 }
 
-/// What is told of a row about the POMs of a project.
-pub(crate) fn told(alloc: Global, text: &mut String, kind: &str, row: &str) -> Mem<()> {
+// What is told of a row of this kind.
+fn told_kind(alloc: Global, text: &mut String, kind: &str, row: &str) -> Mem<()> {
     let fields = split_row(alloc, row)?;
     told_fields(alloc, text, kind, row, fields.as_slice())
+}
+
+/// Adds what is told of a row about the POMs of a project, and the end of its line. Project rule.
+pub fn push_told(alloc: Global, row: &str, text: &mut String) -> Mem<()> {
+    let (kind, row) = row.split_once(' ').unwrap_or((row, ""));
+    told_kind(alloc, text, kind, row)?;
+    text.push_str("\n")?;
+    Ok(())
 }

@@ -91,7 +91,7 @@ fn push_sized(
 }
 
 // What is told of a row over no files yet; `other` is an empty text to write into.
-fn push_told(
+fn push_kind(
     alloc: Global,
     text: &mut String,
     other: &mut String,
@@ -110,12 +110,12 @@ fn push_told(
     }
 }
 
-/// What is told of a row about a plan.
-pub(crate) fn told(alloc: Global, text: &mut String, kind: &str, row: &str) -> Mem<()> {
+// What is told of a row of this kind.
+fn push_any(alloc: Global, text: &mut String, kind: &str, row: &str) -> Mem<()> {
     let fields = split_row(alloc, row)?;
     let mut files = no_files(alloc);
     let mut other = String::new(alloc);
-    push_told(
+    push_kind(
         alloc,
         text,
         &mut other,
@@ -124,4 +124,12 @@ pub(crate) fn told(alloc: Global, text: &mut String, kind: &str, row: &str) -> M
         row,
         fields.as_slice(),
     )
+}
+
+/// Adds what is told of a row about a plan, and the end of its line. Project rule.
+pub fn push_told(alloc: Global, row: &str, text: &mut String) -> Mem<()> {
+    let (kind, row) = row.split_once(' ').unwrap_or((row, ""));
+    push_any(alloc, text, kind, row)?;
+    text.push_str("\n")?;
+    Ok(())
 }

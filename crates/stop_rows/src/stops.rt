@@ -177,8 +177,8 @@ fn tell_of<W: Threads + Wait + Sync>(
     }
 }
 
-/// What is told of a row about a build that a stop cut short.
-pub(crate) fn tell<W: Threads + Wait + Sync>(
+// What is told of a row of this kind.
+fn push_kind<W: Threads + Wait + Sync>(
     rt: &W,
     alloc: Global,
     kind: &str,
@@ -188,4 +188,17 @@ pub(crate) fn tell<W: Threads + Wait + Sync>(
     let (numbers, fields) = row.split_once('|').unwrap_or((row, ""));
     let mut project = empty(alloc);
     tell_of(rt, alloc, &mut project, kind, numbers, fields, out)
+}
+
+/// Adds what is told of a row about a build that a stop cut short, and the end of its line. Project rule.
+pub fn push_told<W: Threads + Wait + Sync>(
+    rt: &W,
+    alloc: Global,
+    row: &str,
+    text: &mut String,
+) -> Mem<()> {
+    let (kind, row) = row.split_once(' ').unwrap_or((row, ""));
+    push_kind(rt, alloc, kind, row, text)?;
+    text.push_str("\n")?;
+    Ok(())
 }

@@ -16,12 +16,12 @@ use std::sync::Wait;
 use std::thread::Threads;
 
 /// The path of a POM, and its text.
-pub(crate) type Pom = (&'static str, &'static str);
+pub type Pom = (&'static str, &'static str);
 
 /// The object of which a call fails, and the number of that call.
-pub(crate) type Fault = (char, u64);
+pub type Fault = (char, u64);
 
-pub(crate) const NO_FAULT: Fault = ('-', 0);
+pub const NO_FAULT: Fault = ('-', 0);
 
 type Worker = Hand<MemRemote<Calls>, MemArea<Calls>, MemGate<Calls>>;
 
@@ -30,16 +30,16 @@ type Run = Ended<MemShelf<Calls>>;
 
 /// How a project is built: its POMs, how many workers there are, what their remotes have and what their goals answer, and which call fails.
 #[derive(Clone, Copy)]
-pub(crate) struct Manner {
-    pub(crate) poms: &'static [Pom],
-    pub(crate) workers: u32,
-    pub(crate) parts: &'static [Part],
-    pub(crate) letters: &'static str,
-    pub(crate) fault: Fault,
+pub struct Manner {
+    pub poms: &'static [Pom],
+    pub workers: u32,
+    pub parts: &'static [Part],
+    pub letters: &'static str,
+    pub fault: Fault,
 }
 
 /// Calls of an object, by the first and the one behind the last, and the status, the names and the text of a build in which one of them fails.
-pub(crate) type Case = (char, (u64, u64), (u8, u64), &'static str);
+pub type Case = (char, (u64, u64), (u8, u64), &'static str);
 
 // The calls of an object that fail.
 fn failing(alloc: Global, fault: Fault, object: char) -> Mem<List<u64>> {
@@ -234,9 +234,9 @@ fn check_left<W: Abort>(
     assert!(rt; told == text.as_bytes());
 }
 
-/// A command line ends with this status and so many names in the repository, and writes this text. How many modules were started and how
-/// many goals were answered.
-pub(crate) fn check<W: Abort + Threads + Wait + Sync>(
+/// Checks that a command line ends with this status and so many names in the repository, and writes this text. How many modules were
+/// started and how many goals were answered. Project rule.
+pub fn check<W: Abort + Threads + Wait + Sync>(
     rt: &W,
     alloc: Global,
     line: &[&str],
@@ -252,7 +252,7 @@ pub(crate) fn check<W: Abort + Threads + Wait + Sync>(
 }
 
 /// The words of an install.
-pub(crate) const INSTALL: &[&str] = &["install"];
+pub const INSTALL: &[&str] = &["install"];
 
 // Installs so, of which one of the calls of the case fails, end as the case says.
 fn check_case<W: Abort + Threads + Wait + Sync>(
@@ -271,7 +271,7 @@ fn check_case<W: Abort + Threads + Wait + Sync>(
 }
 
 /// The same of all cases.
-pub(crate) fn check_cases<W: Abort + Threads + Wait + Sync>(
+pub fn check_cases<W: Abort + Threads + Wait + Sync>(
     rt: &W,
     alloc: Global,
     manner: &Manner,

@@ -1,6 +1,5 @@
-//! Rows about the plans of projects over objects in memory. A line of standard input is a word and fields, with a bar between two of these;
-//! a line that begins with `#` is printed as it stands. A field is spelled as `row_models` says. The first field has the words of a command
-//! line, and each further one a file:
+//! Rows about the plans of projects over objects in memory. A row is a word and fields, with a bar between two of these. A field is spelled as
+//! `row_models` says. The first field has the words of a command line, and each further one a file:
 //!
 //! - `order WORDS|FILE|..`: the artifacts of the modules that are built, in their order, each with the places of those that it stands on
 //! - `plan WORDS|FILE|..`: the names and the files of the plan, with a star behind each file that is there at the start, and a line for
@@ -23,29 +22,4 @@
 mod planning;
 mod plans;
 
-use plans::told;
-
-fn print_told(rt: &HostRuntime, line: &str) -> anyhow::Result<()> {
-    let (kind, row) = line.split_once(' ').unwrap_or((line, ""));
-    let mut text = String::new(rt.alloc());
-    told(rt.alloc(), &mut text, kind, row)?;
-    println!(rt; "{text}")?;
-    Ok(())
-}
-
-// What is told of a line, or the line itself.
-fn print_line(rt: &HostRuntime, line: &str) -> anyhow::Result<()> {
-    if line.starts_with('#') {
-        println!(rt; "{line}")?;
-        return Ok(());
-    }
-    print_told(rt, line)
-}
-
-fn main(rt: HostRuntime) -> anyhow::Result<()> {
-    for line in rt.lines(rt.alloc()) {
-        let line = line?;
-        print_line(&rt, line.as_str())?;
-    }
-    Ok(())
-}
+pub use plans::push_told;

@@ -1,5 +1,5 @@
-//! Rows about builds over objects in memory by several workers at once. A line of standard input is a word and one or two numbers. It is
-//! printed, and then what is told of it:
+//! Rows about builds over objects in memory by several workers at once. A row is a word and one or two numbers. It is told itself, and then
+//! what comes of it:
 //!
 //! - `goals N LOOKS`: the status and the report of an install by N workers of a root with three modules, of which none needs another. The
 //!   first goals wait until three have begun, and fail as `alone` where so many looks haven't seen it
@@ -41,36 +41,14 @@ fn tell<W: Threads + Wait + Sync>(rt: &W, alloc: Global, row: &str, out: &mut St
     }
 }
 
-// A row, and what is told of it.
-fn push_told<W: Threads + Wait + Sync>(
+/// Adds a row about builds by several workers, and what is told of it. Project rule.
+pub fn push_told<W: Threads + Wait + Sync>(
     rt: &W,
     alloc: Global,
     row: &str,
-    out: &mut String,
+    text: &mut String,
 ) -> Mem<()> {
-    out.push_str(row)?;
-    out.push_str("\n")?;
-    tell(rt, alloc, row, out)
-}
-
-// The same as a text.
-fn told<W: Threads + Wait + Sync>(rt: &W, alloc: Global, row: &str) -> Mem<String> {
-    let mut out = String::new(alloc);
-    push_told(rt, alloc, row, &mut out)?;
-    Ok(out)
-}
-
-// A text, where there was memory for it.
-fn print_text(rt: &HostRuntime, text: Mem<String>) -> anyhow::Result<()> {
-    let text = text?;
-    print!(rt; "{text}")?;
-    Ok(())
-}
-
-fn main(rt: HostRuntime) -> anyhow::Result<()> {
-    for line in rt.lines(rt.alloc()) {
-        let line = line?;
-        print_text(&rt, told(&rt, rt.alloc(), line.as_str()))?;
-    }
-    Ok(())
+    text.push_str(row)?;
+    text.push_str("\n")?;
+    tell(rt, alloc, row, text)
 }

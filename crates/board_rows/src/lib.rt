@@ -1,5 +1,5 @@
 //! Plays builds over objects in memory by a board in one thread, which takes the turns of 1 to 4 workers in an order that is drawn, and
-//! compares each with the build by one hand. A line of standard input is one of these:
+//! compares each with the build by one hand. A row is told itself, and then what comes of it. It is one of these:
 //!
 //! - `calm FIRST COUNT`: of so many projects of up to 5 modules that are made from numbers, from the first on, how many left other endings,
 //!   files or answers than one hand leaves
@@ -59,17 +59,10 @@ fn told(alloc: Global, row: &str) -> Mem<String> {
     counts_text(alloc, much(faulty, &counts, count), &counts)
 }
 
-fn print_told(rt: &HostRuntime, line: &str) -> anyhow::Result<()> {
-    println!(rt; "{line}")?;
-    let told = told(rt.alloc(), line)?;
-    print!(rt; "{told}")?;
-    Ok(())
-}
-
-fn main(rt: HostRuntime) -> anyhow::Result<()> {
-    for line in rt.lines(rt.alloc()) {
-        let line = line?;
-        print_told(&rt, line.as_str())?;
-    }
+/// Adds a row about builds by a board, and what is told of it. Project rule.
+pub fn push_told(alloc: Global, row: &str, text: &mut String) -> Mem<()> {
+    text.push_str(row)?;
+    text.push_str("\n")?;
+    text.push_str(told(alloc, row)?.as_str())?;
     Ok(())
 }

@@ -4,8 +4,11 @@ ghost use Rattle.event_core.specs.SoundPlans.{IsSoundPlan};
 ghost use Rattle.run_law.specs.Given.{IsPresent};
 ghost use Rattle.outside_mem.specs.FilesNamed.{files_named};
 
+use crate::project::put_poms;
 use build_core::Plan;
 use crew::build_all;
+use goal_types::SourceFile;
+use mem_plans::plan;
 use mvn_outside::Hand;
 use mvn_shared::{List, Mem, OutOfMemory};
 use outside_mem::{MemArea, MemGate, MemRemote, MemShelf, NoFailures};
@@ -50,13 +53,8 @@ fn build<W: Threads + Wait + Sync>(rt: &W, alloc: Global, plan: &Plan) -> Mem<u6
     }
 }
 
-/// How many events so many builds have together.
-pub(crate) fn events<W: Threads + Wait + Sync>(
-    rt: &W,
-    alloc: Global,
-    plan: &Plan,
-    times: u32,
-) -> Mem<u64>
+// How many events so many builds have together.
+fn events<W: Threads + Wait + Sync>(rt: &W, alloc: Global, plan: &Plan, times: u32) -> Mem<u64>
     requires sound { IsSoundPlan plan.now }
     requires few { plan.now.events < 2 ^ 32 }
     requires names { length plan.now.names < 2 ^ 32 }
@@ -67,4 +65,31 @@ pub(crate) fn events<W: Threads + Wait + Sync>(
         count = count.wrapping_add(build(rt, alloc, plan)?);
     }
     Ok(count)
+}
+
+// The events of so many builds of a project of these POMs.
+fn events_over<W: Threads + Wait + Sync>(
+    rt: &W,
+    alloc: Global,
+    poms: &List<SourceFile>,
+    workers: u32,
+    times: u32,
+) -> Mem<u64> {
+    let none = List::new(alloc);
+    let plan = plan(alloc, poms, &none, &none, workers)?;
+    events(rt, alloc, &plan, times)
+}
+
+/// How many events so many builds by so many workers, from 1 to 16, have together of a project of so many modules, which is planned once.
+/// Project rule.
+pub fn events_of<W: Threads + Wait + Sync>(
+    rt: &W,
+    alloc: Global,
+    modules: u32,
+    workers: u32,
+    times: u32,
+) -> Mem<u64> {
+    let mut poms = List::new(alloc);
+    put_poms(alloc, &mut poms, modules)?;
+    events_over(rt, alloc, &poms, workers, times)
 }

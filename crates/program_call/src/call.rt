@@ -1,0 +1,120 @@
+// From the words to the exit status.
+ghost use Rattle.std.specs.Prelude.{◌≡◌, ◌≤◌, length, IfOk};
+
+use generated_run::run_words;
+use mvn_base::Machine;
+use mvn_outside::{DeviceFault, Gate, Hand, Remote, Shelf, Sink, Tree};
+use mvn_shared::{Bytes, Mem};
+use mvn_top::{FAULT, NO_MEMORY};
+use real_devices::{Devices, named_devices, standard_output};
+use std::alloc::Global;
+use std::sync::Wait;
+use std::thread::Threads;
+use surroundings::{asks_for_help, asks_for_version, words, write_help, write_version};
+
+// The exit status behind a text of the program's own.
+fn status_of(written: Result<(), DeviceFault>) -> u8
+    ensures { result ≤ 4 }
+{
+    match written {
+        Ok(()) => 0,
+        Err(DeviceFault::Failed) => FAULT,
+        Err(DeviceFault::Memory) => NO_MEMORY,
+    }
+}
+
+// Runs the words over any devices, in threads that `threads` starts. The exit status.
+#[tactic(auto, using(crate::proofs::Bound::words_bound))]
+fn run_over<
+    W: Threads + Wait + Sync,
+    T: Tree,
+    R: Remote + Send,
+    S: Shelf + Send + Drop,
+    G: Gate + Send,
+    O: Sink,
+>(
+    threads: &W,
+    alloc: Global,
+    words: &[Bytes],
+    machine: Machine,
+    tree: &mut T,
+    shelf: S,
+    hands: &mut [Hand<R, S::Area, G>],
+    out: &mut O,
+) -> u8
+where
+    S::Area: Send,
+    requires { length hands.old ≡ 16 }
+    ensures { result ≤ 4 }
+{
+    let ended = run_words(threads, alloc, words, machine, tree, shelf, hands, out);
+    ended.status
+}
+
+// Builds the project in the current folder over these devices.
+fn build_over<W: Threads + Wait + Sync, O: Sink>(
+    threads: &W,
+    alloc: Global,
+    words: &[Bytes],
+    devices: Devices<'_>,
+    out: &mut O,
+) -> u8
+    requires { length devices.hands.items ≡ 16 }
+    ensures { result ≤ 4 }
+{
+    let Devices {
+        tree,
+        shelf,
+        machine,
+        hands,
+    } = devices;
+    let mut tree = tree;
+    let mut hands = hands;
+    run_over(
+        threads, alloc, words, machine, &mut tree, shelf, &mut hands, out,
+    )
+}
+
+// Builds the project in the current folder, in threads that `threads` starts.
+fn build<W: Threads + Wait + Sync, O: Sink>(
+    rt: &HostRuntime,
+    threads: &W,
+    words: &[Bytes],
+    out: &mut O,
+) -> Mem<u8>
+    ensures { IfOk result (λ status. status ≤ 4) }
+{
+    let devices = named_devices(rt)?;
+    Ok(build_over(threads, rt.alloc(), words, devices, out))
+}
+
+// What the words ask for: the help, the version, or a build.
+fn answer<W: Threads + Wait + Sync, O: Sink>(
+    rt: &HostRuntime,
+    threads: &W,
+    words: &[Bytes],
+    out: &mut O,
+) -> Mem<u8>
+    ensures { IfOk result (λ status. status ≤ 4) }
+{
+    if asks_for_help(words) {
+        return Ok(status_of(write_help(out)));
+    }
+    if asks_for_version(words) {
+        return Ok(status_of(write_version(out)));
+    }
+    build(rt, threads, words, out)
+}
+
+/// What the words of the command line ask for: the help, the version, or a build of the project in the current folder, in threads that
+/// `threads` starts. The exit status. May wait. Costs what the build costs. Project rule.
+pub fn run<W: Threads + Wait + Sync>(rt: &HostRuntime, threads: &W) -> Mem<u8>
+    ensures { IfOk result (λ status. status ≤ 4) }
+{
+    let words = words(rt, rt.alloc())?;
+    let Some(out) = standard_output(rt) else {
+        return Ok(FAULT);
+    };
+    let mut out = out;
+    answer(rt, threads, &words, &mut out)
+}

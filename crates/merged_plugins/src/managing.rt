@@ -1,0 +1,34 @@
+// What a POM manages.
+use keyed_lists::Keyed;
+use managed_deps::{ManagedSet, managed};
+use model_types::{Dependency, RawModel};
+use mvn_base::ModelError;
+use mvn_shared::Mem;
+use row_models::behind;
+use std::alloc::Global;
+
+// How many entries a set has, where it has one of the dependency's key.
+fn count_with(alloc: Global, set: ManagedSet, dependency: &Dependency) -> Mem<Option<usize>> {
+    let key = dependency.key(alloc)?;
+    if set.find(&key).is_none() {
+        return Ok(None);
+    }
+    Ok(Some(set.into_list(alloc)?.len()))
+}
+
+// The same of all that a POM manages, and the first entry of that.
+fn count_of(alloc: Global, model: &RawModel) -> Mem<Option<usize>> {
+    match model.base.managed.get(0) {
+        Some(entry) => {
+            let set = managed(alloc, model.base.managed.as_slice(), &[])?;
+            count_with(alloc, set, entry)
+        }
+        None => Ok(None),
+    }
+}
+
+/// How many dependencies a POM manages, where the first of them is found among them. Project rule.
+pub fn managed_count(alloc: Global, inside: &str) -> Result<Option<usize>, ModelError> {
+    let model = behind(alloc, inside)?;
+    Ok(count_of(alloc, &model)?)
+}

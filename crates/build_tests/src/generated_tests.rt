@@ -1,5 +1,6 @@
 // Builds of the generated project, over objects of which none may be used but the sink (`generated_run`).
 use checked_builds::{Manner, NO_FAULT, check};
+use make_project::summary;
 use mvn_shared::Mem;
 use std::alloc::Global;
 use std::process::Abort;
@@ -46,4 +47,14 @@ fn generated_project_of_200_modules(rt: HostRuntime) -> Mem<()> {
 #[test]
 fn generated_project_of_one_module(rt: HostRuntime) -> Mem<()> {
     check_generated(&rt, rt.alloc(), LINE_OF_ONE, OF_ONE, (1, 0))
+}
+
+const OF_NONE: &str =
+    "generated 3\ntotal 0 built 0 failed 0 skipped 0\nclasspath entries 1\nfiles 2\n";
+
+#[test]
+fn summary_of_no_rows(rt: HostRuntime) -> Mem<()> {
+    let told = summary(rt.alloc(), 3, &[], 1, 2)?;
+    assert!(rt; told.as_slice() == OF_NONE.as_bytes());
+    Ok(())
 }

@@ -3,8 +3,12 @@
 #![tactic(auto)]
 
 #[cfg(test)]
+mod children;
+#[cfg(test)]
 mod disk;
 #[cfg(test)]
 mod goals;
 #[cfg(test)]
 mod memory;
+#[cfg(test)]
+mod sources;

@@ -21,17 +21,27 @@ fn the_calls_of_a_list_fail(rt: HostRuntime) -> Result<(), Fail> {
     Ok(())
 }
 
+// A tree with the file a/b.
+pub(crate) fn tree(alloc: Global) -> Mem<MemTree<NoFailures>> {
+    let path = Text::from_str(alloc, "a/b")?;
+    let bytes = Bytes::from_slice(alloc, b"x")?;
+    let mut files = List::new(alloc);
+    files.push(SourceFile { path, bytes })?;
+    MemTree::without_failures(alloc, files)
+}
+
+// Whether the folder is there, is no file, and has one entry.
+fn has_one_entry<T: Tree>(tree: &mut T, folder: &Text) -> bool {
+    matches!(tree.has(folder), Ok(true))
+        && matches!(tree.read(folder, 1), Ok(None))
+        && matches!(tree.list(folder), Ok(list) if list.len() == 1)
+}
+
 #[test]
 fn a_tree_without_failures_answers(rt: HostRuntime) -> Result<(), Fail> {
-    let path = Text::from_str(rt.alloc(), "a/b")?;
-    let bytes = Bytes::from_slice(rt.alloc(), b"x")?;
-    let mut files = List::new(rt.alloc());
-    files.push(SourceFile { path, bytes })?;
-    let mut tree = MemTree::without_failures(rt.alloc(), files)?;
     let folder = Text::from_str(rt.alloc(), "a")?;
-    assert!(rt; matches!(tree.has(&folder), Ok(true)));
-    assert!(rt; matches!(tree.read(&folder, 1), Ok(None)));
-    assert!(rt; matches!(tree.list(&folder), Ok(list) if list.len() == 1));
+    let mut tree = tree(rt.alloc())?;
+    assert!(rt; has_one_entry(&mut tree, &folder));
     Ok(())
 }
 

@@ -2,10 +2,10 @@
 //! rows (`row_models`): by what stands behind its coordinates.
 #![tactic(auto)]
 
-mod joined;
+mod joining;
 mod managing;
 mod single;
 
-pub use joined::{Way, joined, joined_over};
+pub use joining::{Way, joined, joined_over};
 pub use managing::managed_count;
 pub use single::{executions_left, is_execution_inherited, is_inherited, key_artifact};

@@ -1,5 +1,5 @@
 // A plugin and its executions, merged with themselves or settled.
-use crate::joined::plugins;
+use crate::joining::plugins;
 use keyed_lists::Keyed;
 use model_merge::{Mergeable, merged_execution, settled_plugin};
 use model_types::Plugin;

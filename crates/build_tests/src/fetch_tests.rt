@@ -1,6 +1,7 @@
 // Installs that need a library of the remote repository, of which one call may fail, and installs by several workers (`mvn_top`).
+use crate::checks::{Case, check, check_cases};
 use crate::install_tests::{ALL, AREA, BUILT, GATE, SETTLE, SHELF, THREE};
-use checked_builds::{Case, Manner, NO_FAULT, Part, Pom, check, check_cases};
+use checked_builds::{Manner, NO_FAULT, Part, Pom};
 use mvn_shared::Mem;
 use std::alloc::Global;
 use std::process::Abort;

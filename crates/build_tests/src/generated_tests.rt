@@ -1,5 +1,6 @@
 // Builds of the generated project, over objects of which none may be used but the sink (`generated_run`).
-use checked_builds::{Manner, NO_FAULT, check};
+use crate::checks::check;
+use checked_builds::{Manner, NO_FAULT};
 use make_project::summary;
 use mvn_shared::Mem;
 use std::alloc::Global;

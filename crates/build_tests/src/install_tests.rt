@@ -1,5 +1,6 @@
 // Installs of one POM, and of three, over objects in memory, of which one call may fail (`mvn_top`).
-use checked_builds::{Case, INSTALL, Manner, NO_FAULT, Pom, check, check_cases};
+use crate::checks::{Case, INSTALL, check, check_cases};
+use checked_builds::{Manner, NO_FAULT, Pom};
 use mvn_shared::Mem;
 use std::alloc::Global;
 use std::process::Abort;

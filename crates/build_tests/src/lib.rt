@@ -2,6 +2,8 @@
 #![tactic(auto)]
 
 #[cfg(test)]
+mod checks;
+#[cfg(test)]
 mod fetch_tests;
 #[cfg(test)]
 mod generated_tests;

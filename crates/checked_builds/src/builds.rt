@@ -1,4 +1,4 @@
-// Builds over objects in memory, of which one call may fail (`mvn_top`, `generated_run`).
+// Builds of which one call may fail.
 ghost use Rattle.std.specs.Prelude.{◌≤◌, length};
 
 use crate::library::{Part, files_of};
@@ -11,7 +11,6 @@ use mvn_shared::{Bytes, List, Mem, OutOfMemory, Text};
 use mvn_top::Ended;
 use outside_mem::{Calls, MemArea, MemGate, MemRemote, MemShelf, MemSink, MemTree};
 use std::alloc::Global;
-use std::process::Abort;
 use std::sync::Wait;
 use std::thread::Threads;
 
@@ -37,9 +36,6 @@ pub struct Manner {
     pub letters: &'static str,
     pub fault: Fault,
 }
-
-/// Calls of an object, by the first and the one behind the last, and the status, the names and the text of a build in which one of them fails.
-pub type Case = (char, (u64, u64), (u8, u64), &'static str);
 
 // The calls of an object that fail.
 fn failing(alloc: Global, fault: Fault, object: char) -> Mem<List<u64>> {
@@ -220,65 +216,37 @@ fn starts(trace: &[Event]) -> usize {
     starts
 }
 
-// The status and the names are these, and the text is this one.
-fn check_left<W: Abort>(
-    rt: &W,
-    fault: Fault,
-    left: (u8, u64),
-    wanted: (u8, u64),
-    told: &[u8],
-    text: &str,
-) {
-    let (object, call) = fault;
-    assert_eq!(rt; left, wanted, "{object} {call}: {text}");
-    assert!(rt; told == text.as_bytes());
+/// What a command line left: its status, how many names the repository has, whether a text was written, how many modules were started and
+/// how many goals were answered.
+#[derive(Clone, Copy)]
+pub struct BuildLeft {
+    pub status: u8,
+    pub names: u64,
+    pub is_told: bool,
+    pub starts: usize,
+    pub answers: usize,
 }
 
-/// Checks that a command line ends with this status and so many names in the repository, and writes this text. How many modules were
-/// started and how many goals were answered. Project rule.
-pub fn check<W: Abort + Threads + Wait + Sync>(
+// What a run left that wrote these bytes, where this text is asked for.
+fn left_by(run: &Run, told: &[u8], text: &str) -> BuildLeft {
+    BuildLeft {
+        status: run.status,
+        names: run.shelf.names(),
+        is_told: told == text.as_bytes(),
+        starts: starts(run.trace.as_slice()),
+        answers: run.answers.len(),
+    }
+}
+
+/// What a command line leaves of a project that is built so, and whether it writes this text. May wait. Project rule.
+pub fn left<W: Threads + Wait + Sync>(
     rt: &W,
     alloc: Global,
     line: &[&str],
     manner: &Manner,
-    wanted: (u8, u64),
     text: &str,
-) -> Mem<(usize, usize)> {
+) -> Mem<BuildLeft> {
     let mut sink = sink(alloc, manner)?;
     let run = build(rt, alloc, line, manner, &mut sink)?;
-    let left = (run.status, run.shelf.names());
-    check_left(rt, manner.fault, left, wanted, sink.bytes(), text);
-    Ok((starts(run.trace.as_slice()), run.answers.len()))
-}
-
-/// The words of an install.
-pub const INSTALL: &[&str] = &["install"];
-
-// Installs so, of which one of the calls of the case fails, end as the case says.
-fn check_case<W: Abort + Threads + Wait + Sync>(
-    rt: &W,
-    alloc: Global,
-    manner: &Manner,
-    case: &Case,
-) -> Mem<()> {
-    let (object, calls, wanted, text) = *case;
-    let mut faulty = *manner;
-    for call in calls.0..calls.1 {
-        faulty.fault = (object, call);
-        check(rt, alloc, INSTALL, &faulty, wanted, text)?;
-    }
-    Ok(())
-}
-
-/// The same of all cases.
-pub fn check_cases<W: Abort + Threads + Wait + Sync>(
-    rt: &W,
-    alloc: Global,
-    manner: &Manner,
-    cases: &[Case],
-) -> Mem<()> {
-    for case in cases {
-        check_case(rt, alloc, manner, case)?;
-    }
-    Ok(())
+    Ok(left_by(&run, sink.bytes(), text))
 }

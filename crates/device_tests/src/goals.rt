@@ -5,7 +5,7 @@ use goal_outputs::{bytes_in, with_output};
 use goal_types::{GoalAnswer, GoalCall, GoalRequest, Need, Slot, request_line};
 use mvn_base::{Gav, Phase};
 use mvn_outside::Gate;
-use mvn_shared::{Bytes, List, Text};
+use mvn_shared::{Bytes, List, Mem, Text};
 use outside_mem::MemGate;
 use std::alloc::Global;
 use std::test::Fail;
@@ -46,21 +46,40 @@ fn request(alloc: Global) -> GoalRequest
     }
 }
 
+// Whether a request's line begins with its artifact and its classpath.
+fn line_begins(alloc: Global, request: &GoalRequest) -> Mem<bool>
+    requires { HasOwnSlots request.now.own }
+{
+    let line = request_line(alloc, request)?;
+    Ok(
+        line.as_slice()
+            .starts_with(b"{\"artifactId\":\"\",\"classpath\":[],"),
+    )
+}
+
+// The same of a request without names.
+fn request_begins(alloc: Global) -> Mem<bool> {
+    let request = request(alloc);
+    line_begins(alloc, &request)
+}
+
 #[test]
 fn a_request_is_a_line(rt: HostRuntime) -> Result<(), Fail> {
-    let line = request_line(rt.alloc(), &request(rt.alloc()))?;
-    assert!(rt;
-        line.as_slice()
-            .starts_with(b"{\"artifactId\":\"\",\"classpath\":[],")
-    );
+    let begins = request_begins(rt.alloc())?;
+    assert!(rt; begins);
     Ok(())
+}
+
+// Whether a gate answers a request without names that it is done.
+fn is_done<G: Gate>(alloc: Global, gate: &mut G) -> bool {
+    let request = request(alloc);
+    matches!(gate.call(&request), Ok(GoalAnswer::Done))
 }
 
 #[test]
 fn a_gate_without_answers_is_done(rt: HostRuntime) {
     let mut gate = MemGate::without_failures(List::new(rt.alloc()));
-    let answer = gate.call(&request(rt.alloc()));
-    assert!(rt; matches!(answer, Ok(GoalAnswer::Done)));
+    assert!(rt; is_done(rt.alloc(), &mut gate));
 }
 
 #[test]

@@ -65,17 +65,30 @@ fn gav(alloc: Global) -> Mem<Gav> {
     })
 }
 
-// The name of the file a of a:a:a.
-fn name(alloc: Global) -> Result<FileName, Fail> {
+// The name of a file of these coordinates, of valid names alone.
+fn name_of(alloc: Global, gav: &Gav, none: &Text) -> Mem<Option<FileName>> {
+    let named = valid_group(gav.group.as_bytes())
+        && valid_name(gav.artifact.as_bytes())
+        && valid_version(gav.version.as_bytes())
+        && none.is_empty();
+    if !named {
+        return Ok(None);
+    }
+    Ok(Some(file_of(alloc, gav, none, &gav.artifact)?))
+}
+
+// The name of the file a of a:a:a, if it has one.
+fn found_name(alloc: Global) -> Mem<Option<FileName>> {
     let gav = gav(alloc)?;
-    let none = Text::of(String::new(alloc));
-    if !valid_group(gav.group.as_bytes()) || !valid_name(gav.artifact.as_bytes()) {
-        return Err(Fail::new("the names"));
+    name_of(alloc, &gav, &Text::of(String::new(alloc)))
+}
+
+// The same, or a failure.
+fn name(alloc: Global) -> Result<FileName, Fail> {
+    match found_name(alloc)? {
+        Some(name) => Ok(name),
+        None => Err(Fail::new("no name")),
     }
-    if !valid_version(gav.version.as_bytes()) || !none.is_empty() {
-        return Err(Fail::new("the version"));
-    }
-    Ok(file_of(alloc, &gav, &none, &gav.artifact)?)
 }
 
 // Whether the repository takes three bytes under the name, and settles; the area is swept.
@@ -93,22 +106,49 @@ fn takes(
     settle(shelf).is_ok() && sweep(area).is_ok()
 }
 
+// What the repository and the area have then: pieces, names, and whether three bytes are read.
+fn left_of(
+    shelf: &mut MemShelf<NoFailures>,
+    area: &MemArea<NoFailures>,
+    name: &FileName,
+) -> (u64, u64, bool) {
+    let is_read = matches!(shelf.read(name, 3), Ok(Some(_)));
+    (area.pieces(), shelf.names(), is_read)
+}
+
+// Whether a repository that takes three bytes has them then, and its area no piece.
+fn keeps(
+    shelf: &mut MemShelf<NoFailures>,
+    area: &mut MemArea<NoFailures>,
+    name: &FileName,
+) -> bool {
+    takes(shelf, area, name) && left_of(shelf, area, name) == (0, 1, true)
+}
+
 #[test]
 fn a_repository_keeps_what_is_put(rt: HostRuntime) -> Result<(), Fail> {
     let name = name(rt.alloc())?;
-    let mut shelf = MemShelf::without_failures(rt.alloc(), List::new(rt.alloc()))?;
     let mut area = MemArea::without_failures(rt.alloc());
-    assert!(rt; takes(&mut shelf, &mut area, &name));
-    assert_eq!(rt; (area.pieces(), shelf.names()), (0, 1));
-    assert!(rt; matches!(shelf.read(&name, 3), Ok(Some(_))));
+    let mut shelf = MemShelf::without_failures(rt.alloc(), List::new(rt.alloc()))?;
+    assert!(rt; keeps(&mut shelf, &mut area, &name));
     Ok(())
+}
+
+// Whether the first fetch fails, and the second finds nothing.
+fn fails_once(remote: &mut MemRemote<Calls>, name: &FileName) -> bool {
+    remote.fetch(name, 3).is_err() && matches!(remote.fetch(name, 3), Ok(None))
+}
+
+// A remote without files, whose first call fails.
+fn failing_remote(alloc: Global) -> Mem<MemRemote<Calls>> {
+    let first = first(alloc)?;
+    MemRemote::new(alloc, List::new(alloc), &first)
 }
 
 #[test]
 fn a_remote_fails_where_it_is_told_to(rt: HostRuntime) -> Result<(), Fail> {
     let name = name(rt.alloc())?;
-    let mut remote = MemRemote::new(rt.alloc(), List::new(rt.alloc()), &first(rt.alloc())?)?;
-    assert!(rt; remote.fetch(&name, 3).is_err());
-    assert!(rt; matches!(remote.fetch(&name, 3), Ok(None)));
+    let mut remote = failing_remote(rt.alloc())?;
+    assert!(rt; fails_once(&mut remote, &name));
     Ok(())
 }

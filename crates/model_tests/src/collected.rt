@@ -1,32 +1,66 @@
 // What the dependencies of a POM lead to (`collector`).
-use collector::{Exclusions, direct_edges, edges};
-use managed_deps::managed;
-use mvn_shared::List;
+use collector::{Edge, Exclusions, direct_edges, edges};
+use managed_deps::{ManagedSet, managed};
+use model_types::RawModel;
+use mvn_shared::{List, Mem};
 use row_models::behind;
+use std::alloc::Global;
 use std::test::Fail;
 
 const POM: &str =
     "<dependencyManagement><dependencies><dependency><groupId>g</groupId><artifactId>x</artifactId><version>2</version></dependency></dependencies></dependencyManagement><dependencies><dependency><groupId>g</groupId><artifactId>y</artifactId><optional>true</optional></dependency><dependency><groupId>g</groupId><artifactId>x</artifactId><version>1</version></dependency></dependencies>";
 
+// How many edges there are, and the position of the one at this place, where it requires this.
+fn seen(edges: &List<Edge>, at: usize, requirement: &str) -> (usize, Option<usize>) {
+    match edges.get(at) {
+        Some(edge) if edge.requirement.as_str() == requirement => {
+            (edges.len(), Some(edge.position))
+        }
+        _ => (edges.len(), None),
+    }
+}
+
+// The same of a project's own edges, of which the second is looked at.
+fn own(alloc: Global, model: &RawModel) -> Mem<(usize, Option<usize>)> {
+    let own = direct_edges(alloc, model.base.dependencies.as_slice())?;
+    Ok(seen(&own, 1, "1"))
+}
+
 #[test]
 fn a_project_has_all_that_it_declares(rt: HostRuntime) -> Result<(), Fail> {
     let model = behind(rt.alloc(), POM)?;
-    let own = direct_edges(rt.alloc(), model.base.dependencies.as_slice())?;
-    let edge = own.get(1).ok_or("no edge")?;
-    assert_eq!(rt; (own.len(), edge.requirement.as_str()), (2, "1"));
+    let own = own(rt.alloc(), &model)?;
+    assert!(rt; own == (2, Some(1)));
     Ok(())
+}
+
+// The same of the edges below a project, of which the first is looked at.
+fn cut_below(
+    alloc: Global,
+    model: &RawModel,
+    set: &ManagedSet,
+    cut: &Exclusions,
+) -> Mem<(usize, Option<usize>)> {
+    let below = edges(alloc, model.base.dependencies.as_slice(), set, cut)?;
+    Ok(seen(&below, 0, "2"))
+}
+
+// The same where nothing is excluded.
+fn below_with(alloc: Global, model: &RawModel, set: &ManagedSet) -> Mem<(usize, Option<usize>)> {
+    let cut = Exclusions::new(alloc, List::new(alloc))?;
+    cut_below(alloc, model, set, &cut)
+}
+
+// The same by the project's own management.
+fn below(alloc: Global, model: &RawModel) -> Mem<(usize, Option<usize>)> {
+    let set = managed(alloc, model.base.managed.as_slice(), &[])?;
+    below_with(alloc, model, &set)
 }
 
 #[test]
 fn below_a_project_the_optional_is_left_out(rt: HostRuntime) -> Result<(), Fail> {
     let model = behind(rt.alloc(), POM)?;
-    let set = managed(rt.alloc(), model.base.managed.as_slice(), &[])?;
-    let cut = Exclusions::new(rt.alloc(), List::new(rt.alloc()))?;
-    let below = edges(rt.alloc(), model.base.dependencies.as_slice(), &set, &cut)?;
-    let edge = below.get(0).ok_or("no edge")?;
-    assert_eq!(rt;
-        (below.len(), edge.position, edge.requirement.as_str()),
-        (1, 1, "2")
-    );
+    let below = below(rt.alloc(), &model)?;
+    assert!(rt; below == (1, Some(1)));
     Ok(())
 }

@@ -1,6 +1,7 @@
 //! Rows about whole projects over objects in memory. A line of standard input is the name of a table and one of its rows, with a space
 //! between; a line that begins with `#` is printed as it stands. The tables are those of the libraries `discovery_rows`, `plan_rows`,
-//! `stop_rows`, `run_rows` and `board_rows`, each by the first word of its name: they say what a row is, and what is printed for it.
+//! `stop_rows`, `run_rows`, `fault_rows` and `board_rows`, each by the first word of its name: they say what a row is, and what is printed
+//! for it.
 #![tactic(auto)]
 
 use mvn_shared::Mem;
@@ -21,6 +22,7 @@ fn push_told<W: Threads + Wait + Sync>(
         "plan" => plan_rows::push_told(alloc, row, text),
         "stop" => stop_rows::push_told(rt, alloc, row, text),
         "run" => run_rows::push_told(rt, alloc, row, text),
+        "fault" => fault_rows::push_told(rt, alloc, row, text),
         _ => board_rows::push_told(alloc, row, text),
     }
 }

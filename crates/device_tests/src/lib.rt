@@ -12,3 +12,5 @@ mod goals;
 mod memory;
 #[cfg(test)]
 mod sources;
+#[cfg(test)]
+mod summaries;

@@ -5,7 +5,7 @@ use outside_mem::MemFile;
 use std::alloc::Global;
 
 /// A file of the library: its extension, and its text.
-pub type Part = (&'static str, &'static str);
+pub(crate) type Part = (&'static str, &'static str);
 
 // Its coordinates.
 fn gav(alloc: Global) -> Mem<Gav> {

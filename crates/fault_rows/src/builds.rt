@@ -1,7 +1,8 @@
 // Builds of which one call may fail.
 ghost use Rattle.std.specs.Prelude.{◌≤◌, length};
 
-use crate::library::{Part, files_of};
+use crate::library::files_of;
+use crate::projects::{Built, Pom};
 use build_core::Event;
 use generated_run::run_words;
 use goal_types::{GoalAnswer, SourceFile};
@@ -10,35 +11,32 @@ use mvn_outside::Hand;
 use mvn_shared::{Bytes, List, Mem, OutOfMemory, Text};
 use mvn_top::Ended;
 use outside_mem::{Calls, MemArea, MemGate, MemRemote, MemShelf, MemSink, MemTree};
+use row_fields::escaped;
 use std::alloc::Global;
 use std::sync::Wait;
 use std::thread::Threads;
 
-/// The path of a POM, and its text.
-pub type Pom = (&'static str, &'static str);
+/// How many hands there are; as many build as the words say.
+const HANDS: u32 = 8;
 
-/// The object of which a call fails, and the number of that call.
-pub type Fault = (char, u64);
-
-pub const NO_FAULT: Fault = ('-', 0);
+/// The object of which a call fails, by its letter, and the number of that call.
+pub(crate) type Fault<'a> = (&'a str, u64);
 
 type Worker = Hand<MemRemote<Calls>, MemArea<Calls>, MemGate<Calls>>;
 
 // What a build leaves.
 type Run = Ended<MemShelf<Calls>>;
 
-/// How a project is built: its POMs, how many workers there are, what their remotes have and what their goals answer, and which call fails.
+/// How a project is built: what it is, what its goals answer, and which call fails.
 #[derive(Clone, Copy)]
-pub struct Manner {
-    pub poms: &'static [Pom],
-    pub workers: u32,
-    pub parts: &'static [Part],
-    pub letters: &'static str,
-    pub fault: Fault,
+pub(crate) struct Manner<'a> {
+    pub(crate) project: Built,
+    pub(crate) letters: &'a str,
+    pub(crate) fault: Fault<'a>,
 }
 
 // The calls of an object that fail.
-fn failing(alloc: Global, fault: Fault, object: char) -> Mem<List<u64>> {
+fn failing(alloc: Global, fault: Fault<'_>, object: &str) -> Mem<List<u64>> {
     let mut calls = List::new(alloc);
     if fault.0 == object {
         calls.push(fault.1)?;
@@ -61,21 +59,21 @@ fn files(alloc: Global, poms: &[Pom]) -> Mem<List<SourceFile>> {
 }
 
 // The project's folder.
-fn tree(alloc: Global, manner: &Manner) -> Mem<MemTree<Calls>> {
-    let files = files(alloc, manner.poms)?;
-    let failing = failing(alloc, manner.fault, 't')?;
+fn tree(alloc: Global, manner: &Manner<'_>) -> Mem<MemTree<Calls>> {
+    let files = files(alloc, manner.project.poms)?;
+    let failing = failing(alloc, manner.fault, "t")?;
     MemTree::new(alloc, files, &failing)
 }
 
 // A repository without files.
-fn shelf(alloc: Global, manner: &Manner) -> Mem<MemShelf<Calls>> {
-    let failing = failing(alloc, manner.fault, 's')?;
+fn shelf(alloc: Global, manner: &Manner<'_>) -> Mem<MemShelf<Calls>> {
+    let failing = failing(alloc, manner.fault, "s")?;
     MemShelf::new(alloc, List::new(alloc), &failing)
 }
 
 // What the report is written to.
-fn sink(alloc: Global, manner: &Manner) -> Mem<MemSink<Calls>> {
-    let failing = failing(alloc, manner.fault, 'o')?;
+fn sink(alloc: Global, manner: &Manner<'_>) -> Mem<MemSink<Calls>> {
+    let failing = failing(alloc, manner.fault, "o")?;
     MemSink::new(alloc, &failing)
 }
 
@@ -103,24 +101,24 @@ fn answers(alloc: Global, letters: &str) -> Mem<List<GoalAnswer>> {
     Ok(answers)
 }
 
-fn gate(alloc: Global, manner: &Manner) -> Mem<MemGate<Calls>> {
+fn gate(alloc: Global, manner: &Manner<'_>) -> Mem<MemGate<Calls>> {
     let answers = answers(alloc, manner.letters)?;
-    let failing = failing(alloc, manner.fault, 'g')?;
+    let failing = failing(alloc, manner.fault, "g")?;
     MemGate::new(alloc, answers, &failing)
 }
 
-fn remote(alloc: Global, manner: &Manner) -> Mem<MemRemote<Calls>> {
-    let files = files_of(alloc, manner.parts)?;
-    let failing = failing(alloc, manner.fault, 'r')?;
+fn remote(alloc: Global, manner: &Manner<'_>) -> Mem<MemRemote<Calls>> {
+    let files = files_of(alloc, manner.project.parts)?;
+    let failing = failing(alloc, manner.fault, "r")?;
     MemRemote::new(alloc, files, &failing)
 }
 
-fn area(alloc: Global, manner: &Manner) -> Mem<MemArea<Calls>> {
-    let failing = failing(alloc, manner.fault, 'a')?;
+fn area(alloc: Global, manner: &Manner<'_>) -> Mem<MemArea<Calls>> {
+    let failing = failing(alloc, manner.fault, "a")?;
     MemArea::new(alloc, &failing)
 }
 
-fn worker(alloc: Global, manner: &Manner) -> Mem<Worker> {
+fn worker(alloc: Global, manner: &Manner<'_>) -> Mem<Worker> {
     let remote = remote(alloc, manner)?;
     let area = area(alloc, manner)?;
     let gate = gate(alloc, manner)?;
@@ -128,9 +126,9 @@ fn worker(alloc: Global, manner: &Manner) -> Mem<Worker> {
 }
 
 // The workers of a build.
-fn workers(alloc: Global, manner: &Manner) -> Mem<Vec<Worker>> {
+fn workers(alloc: Global, manner: &Manner<'_>) -> Mem<Vec<Worker>> {
     let mut workers = Vec::new(alloc);
-    for _ in 0..manner.workers {
+    for _ in 0..HANDS {
         workers.push(worker(alloc, manner)?)?;
     }
     Ok(workers)
@@ -152,9 +150,9 @@ fn machine(alloc: Global) -> Mem<Machine> {
 }
 
 // The words of a command line.
-fn words(alloc: Global, line: &[&str]) -> Mem<Vec<Bytes>> {
+fn words(alloc: Global, line: &str) -> Mem<Vec<Bytes>> {
     let mut words = Vec::new(alloc);
-    for word in line {
+    for word in line.split_whitespace() {
         words.push(Bytes::from_slice(alloc, word.as_bytes())?)?;
     }
     Ok(words)
@@ -180,8 +178,8 @@ fn call<W: Threads + Wait + Sync>(
 fn build<W: Threads + Wait + Sync>(
     rt: &W,
     alloc: Global,
-    line: &[&str],
-    manner: &Manner,
+    line: &str,
+    manner: &Manner<'_>,
     sink: &mut MemSink<Calls>,
 ) -> Mem<Run> {
     let words = words(alloc, line)?;
@@ -216,37 +214,49 @@ fn starts(trace: &[Event]) -> usize {
     starts
 }
 
-/// What a command line left: its status, how many names the repository has, whether a text was written, how many modules were started and
-/// how many goals were answered.
-#[derive(Clone, Copy)]
-pub struct BuildLeft {
-    pub status: u8,
-    pub names: u64,
-    pub is_told: bool,
-    pub starts: usize,
-    pub answers: usize,
+fn push_number(alloc: Global, name: &str, number: u64, out: &mut String) -> Mem<()> {
+    out.push_str(format!(in alloc; "{name} {number} ")?.as_str())?;
+    Ok(())
 }
 
-// What a run left that wrote these bytes, where this text is asked for.
-fn left_by(run: &Run, told: &[u8], text: &str) -> BuildLeft {
-    BuildLeft {
-        status: run.status,
-        names: run.shelf.names(),
-        is_told: told == text.as_bytes(),
-        starts: starts(run.trace.as_slice()),
-        answers: run.answers.len(),
+// How many modules were started, and how many goals were answered.
+fn push_run(alloc: Global, run: &Run, out: &mut String) -> Mem<()> {
+    push_number(alloc, "starts", starts(run.trace.as_slice()) as u64, out)?;
+    push_number(alloc, "answers", run.answers.len() as u64, out)
+}
+
+// The status, how many names the repository has, and what was written; how far it came, too, where no call fails.
+fn push_left(alloc: Global, fault: Fault<'_>, run: &Run, told: &[u8], out: &mut String) -> Mem<()> {
+    push_number(alloc, "status", u64::from(run.status), out)?;
+    push_number(alloc, "names", run.shelf.names(), out)?;
+    if fault.0 == "-" {
+        push_run(alloc, run, out)?;
     }
+    out.push_str(escaped(alloc, told)?.as_str())?;
+    Ok(())
 }
 
-/// What a command line leaves of a project that is built so, and whether it writes this text. May wait. Project rule.
-pub fn left<W: Threads + Wait + Sync>(
+// The same of a build that hasn't begun.
+fn push_built<W: Threads + Wait + Sync>(
     rt: &W,
     alloc: Global,
-    line: &[&str],
-    manner: &Manner,
-    text: &str,
-) -> Mem<BuildLeft> {
+    line: &str,
+    manner: &Manner<'_>,
+    sink: &mut MemSink<Calls>,
+    out: &mut String,
+) -> Mem<()> {
+    let run = build(rt, alloc, line, manner, sink)?;
+    push_left(alloc, manner.fault, &run, sink.bytes(), out)
+}
+
+/// What is told of what a command line leaves of a project that is built so.
+pub(crate) fn push_build<W: Threads + Wait + Sync>(
+    rt: &W,
+    alloc: Global,
+    line: &str,
+    manner: &Manner<'_>,
+    out: &mut String,
+) -> Mem<()> {
     let mut sink = sink(alloc, manner)?;
-    let run = build(rt, alloc, line, manner, &mut sink)?;
-    Ok(left_by(&run, sink.bytes(), text))
+    push_built(rt, alloc, line, manner, &mut sink, out)
 }

@@ -70,16 +70,23 @@ fn a_request_is_a_line(rt: HostRuntime) -> Result<(), Fail> {
     Ok(())
 }
 
-// Whether a gate answers a request without names that it is done.
-fn is_done<G: Gate>(alloc: Global, gate: &mut G) -> bool {
+// Whether a gate answers a request that it is done.
+fn is_done<G: Gate>(gate: &mut G, request: &GoalRequest) -> bool
+    requires { HasOwnSlots request.now.own }
+{
+    matches!(gate.call(request), Ok(GoalAnswer::Done))
+}
+
+// The same of a request without names.
+fn request_is_done<G: Gate>(alloc: Global, gate: &mut G) -> bool {
     let request = request(alloc);
-    matches!(gate.call(&request), Ok(GoalAnswer::Done))
+    is_done(gate, &request)
 }
 
 #[test]
 fn a_gate_without_answers_is_done(rt: HostRuntime) {
     let mut gate = MemGate::without_failures(List::new(rt.alloc()));
-    assert!(rt; is_done(rt.alloc(), &mut gate));
+    assert!(rt; request_is_done(rt.alloc(), &mut gate));
 }
 
 #[test]

@@ -4,9 +4,9 @@
     tests/public_tests.py           prints the functions that nothing calls, and a line of counts; fails where there is one
     tests/public_tests.py --all     prints a line for each function: crate, function, and the files that call it
 
-A function counts as called where a file of a test crate (`*_tests`), of a program of rows (`*_rows`, and the libraries that these alone
-stand on, as `row_models` and `*_builds`) or of a measurement (`bench_*`, `classpath_list` and its `graph_lines`, whose stored runs are
-compared too) names it: a function by its own name, one of a type without `self` as `Type::name`, a method as `.name(` in a file that names
+A function counts as called where a file of a test crate (`*_tests`, and its `merged_plugins`), of rows (`*_rows`, programs and libraries,
+and those that these alone stand on, as `row_models` and `*_builds`) or of a measurement (`bench_*` and its `bare_builds`, `classpath_list`
+and its `graph_lines`, whose stored runs are compared too) names it: a function by its own name, one of a type without `self` as `Type::name`, a method as `.name(` in a file that names
 the crate. Where no such file does, the code that names it is listed behind the word `through`. Names are read and no types: a method with
 a common name may be found by a call of another type's.
 

@@ -80,8 +80,8 @@ fn events_over<W: Threads + Wait + Sync>(
     events(rt, alloc, &plan, times)
 }
 
-/// How many events so many builds by so many workers, from 1 to 16, have together of a project of so many modules, which is planned once.
-/// Project rule.
+/// How many events `times` builds of a project of `modules` modules, each by `workers` workers (1 to 16), have together. The project is
+/// planned once. Project rule.
 pub fn events_of<W: Threads + Wait + Sync>(
     rt: &W,
     alloc: Global,

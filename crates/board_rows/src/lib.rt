@@ -1,5 +1,5 @@
 //! Plays builds over objects in memory by a board in one thread, which takes the turns of 1 to 4 workers in an order that is drawn, and
-//! compares each with the build by one hand. A row is told itself, and then what comes of it. It is one of these:
+//! compares each with the build by one hand. The answer to a row is the row itself, and then what comes of it:
 //!
 //! - `calm FIRST COUNT`: of so many projects of up to 5 modules that are made from numbers, from the first on, how many left other endings,
 //!   files or answers than one hand leaves

@@ -9,6 +9,11 @@ use std::alloc::Global;
 use std::sync::Wait;
 use std::thread::Threads;
 
+fn push_no_table(text: &mut String) -> Mem<()> {
+    text.push_str("no such table\n")?;
+    Ok(())
+}
+
 // Adds what is told of a row of this table.
 fn push_told<W: Threads + Wait + Sync>(
     rt: &W,
@@ -23,7 +28,8 @@ fn push_told<W: Threads + Wait + Sync>(
         "stop" => stop_rows::push_told(rt, alloc, row, text),
         "run" => run_rows::push_told(rt, alloc, row, text),
         "fault" => fault_rows::push_told(rt, alloc, row, text),
-        _ => board_rows::push_told(alloc, row, text),
+        "board" => board_rows::push_told(alloc, row, text),
+        _ => push_no_table(text),
     }
 }
 

@@ -21,7 +21,7 @@ fn the_calls_of_a_list_fail(rt: HostRuntime) -> Result<(), Fail> {
     Ok(())
 }
 
-// A tree with the file a/b.
+/// A tree with the file a/b.
 pub(crate) fn tree(alloc: Global) -> Mem<MemTree<NoFailures>> {
     let path = Text::from_str(alloc, "a/b")?;
     let bytes = Bytes::from_slice(alloc, b"x")?;

@@ -1,4 +1,4 @@
-// Builds of which one call may fail.
+// Builds in which one call may fail.
 ghost use Rattle.std.specs.Prelude.{◌≤◌, length};
 
 use crate::library::files_of;

@@ -13,12 +13,12 @@ fn number(word: &str) -> u64 {
 
 // The first call that ends otherwise than those before it.
 fn push_otherwise(alloc: Global, call: u64, out: &mut String) -> Mem<()> {
-    out.push_str(format!(in alloc; " otherwise from call {call} on")?.as_str())?;
+    out.push_str(format!(in alloc; " otherwise at call {call}")?.as_str())?;
     Ok(())
 }
 
-// What is told of builds in which a call fails, each of these in turn: the first's, and the number of the first call after which another is
-// left. What is told of each is written into `told`.
+// What is told of the builds in which these calls fail, each in one: what the first leaves, and the number of the first call that leaves
+// something else. `told` is written over for each.
 fn push_calls<W: Threads + Wait + Sync>(
     rt: &W,
     alloc: Global,
@@ -63,7 +63,7 @@ fn push_faults<W: Threads + Wait + Sync>(
     push_calls(rt, alloc, line, &mut manner, calls, &mut told, out)
 }
 
-/// Adds what is told of a row about builds of which one call fails, and the end of its line. Project rule.
+/// Adds what is told of a row about builds in which one call fails, and the end of its line. Project rule.
 pub fn push_told<W: Threads + Wait + Sync>(
     rt: &W,
     alloc: Global,

@@ -10,7 +10,7 @@ use mvn_shared::{List, Mem, Shared};
 use row_models::behind;
 use std::alloc::Global;
 
-/// How the plugins of a POM and of its parent come to one list.
+/// How the plugins of a POM and of its parent become one list.
 #[derive(Clone, Copy)]
 pub enum Way {
     /// Those of the POM, each over the parent's of its key (`merged_under`).

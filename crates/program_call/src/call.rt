@@ -106,8 +106,8 @@ fn answer<W: Threads + Wait + Sync, O: Sink>(
     build(rt, threads, words, out)
 }
 
-/// What the words of the command line ask for: the help, the version, or a build of the project in the current folder, in threads that
-/// `threads` starts. The exit status. May wait. Costs what the build costs. Project rule.
+/// Does what the words of the command line ask for: prints the help or the version, or builds the project in the current folder, in threads
+/// that `threads` starts. Gives the exit status, at most 4, or says that memory ran out. May wait. Costs what the build costs. Project rule.
 pub fn run<W: Threads + Wait + Sync>(rt: &HostRuntime, threads: &W) -> Mem<u8>
     ensures { IfOk result (λ status. status ≤ 4) }
 {

@@ -1,5 +1,5 @@
-//! Rows about builds over objects in memory by several workers at once. A row is a word and one or two numbers. It is told itself, and then
-//! what comes of it:
+//! Rows about builds over objects in memory by several workers at once. A row is a word and one or two numbers. The answer is the row
+//! itself, and then what comes of it:
 //!
 //! - `goals N LOOKS`: the status and the report of an install by N workers of a root with three modules, of which none needs another. The
 //!   first goals wait until three have begun, and fail as `alone` where so many looks haven't seen it

@@ -189,12 +189,22 @@ fn read_line(
     Ok(())
 }
 
-fn main(rt: HostRuntime) -> anyhow::Result<()> {
-    let mut graph = Graph::new(rt.alloc())?;
-    let mut rows = KeptRows::new(rt.alloc());
+// All lines, and the end of the last project.
+fn read_lines(rt: &HostRuntime, graph: &mut Graph, rows: &mut KeptRows) -> anyhow::Result<()> {
     for line in rt.lines(rt.alloc()) {
         let line = line?;
-        read_line(&rt, &mut graph, &mut rows, line.as_str())?;
+        read_line(rt, graph, rows, line.as_str())?;
     }
-    tell(&rt, &mut graph, &mut rows)
+    tell(rt, graph, rows)
+}
+
+// The same into a project without lines yet.
+fn read_all(rt: &HostRuntime, graph: &mut Graph) -> anyhow::Result<()> {
+    let mut rows = KeptRows::new(rt.alloc());
+    read_lines(rt, graph, &mut rows)
+}
+
+fn main(rt: HostRuntime) -> anyhow::Result<()> {
+    let mut graph = Graph::new(rt.alloc())?;
+    read_all(&rt, &mut graph)
 }

@@ -1,5 +1,5 @@
 // From words to what is written.
-ghost use Rattle.std.specs.Prelude.{◌≡◌, ◌≤◌, length, Ok};
+ghost use Rattle.std.specs.Prelude.{◌≡◌, ◌≤◌, length, IfOk, Ok};
 ghost use Rattle.crew_stages.specs.Hands.{state_by};
 ghost use Rattle.crew_outcome.specs.Left.{outside_by};
 ghost use Rattle.mvn_call.specs.Commands.{asked};
@@ -12,7 +12,7 @@ use cli_words::CommandLine;
 use mvn_base::Machine;
 use mvn_outside::{Gate, Hand, Remote, Shelf, Sink, Tree};
 use mvn_shared::{Bytes, List};
-use mvn_top::{Ended, NO_MEMORY, mvn, write_answer};
+use mvn_top::{Ended, NO_MEMORY, Outcome, mvn, write_answer};
 use std::alloc::Global;
 use std::sync::Wait;
 use std::thread::Threads;
@@ -104,6 +104,60 @@ where
     }
 }
 
+// Runs words that ask for this, or that are answered so, as `run_words` does.
+fn run_asked<
+    W: Threads + Wait + Sync,
+    T: Tree,
+    R: Remote + Send,
+    S: Shelf + Send,
+    G: Gate + Send,
+    O: Sink,
+>(
+    rt: &W,
+    alloc: Global,
+    words: &[Bytes],
+    answer: &Result<CommandLine, Outcome>,
+    machine: Machine,
+    tree: &mut T,
+    shelf: S,
+    hands: &mut [Hand<R, S::Area, G>],
+    out: &mut O,
+) -> Ended<S>
+where
+    S::Area: Send,
+    requires some_hand { 1 ≤ length hands.old }
+    requires most_hands { length hands.old ≤ 16 }
+    requires says { answer.now ≡ asked words.now (length hands.old) }
+    requires workers { IfOk answer.now (λ line. (1 ≤ line.workers) × (line.workers ≤ 16)) }
+    ensures call { IsWordsCall (asked words.now (length hands.old))
+        (record {
+          tree = T.files tree.old;
+          faults = T.faults tree.old;
+          machine = machine;
+          outside = outside_by S.told S.faults (state_by R.files R.faults S.Area.contents
+              S.Area.faults S.Area.pieces G.answers G.faults) shelf hands.old;
+        })
+        (record {
+          faults = T.faults tree.new;
+          outside = outside_by S.told S.faults (state_by R.files R.faults S.Area.contents
+              S.Area.faults S.Area.pieces G.answers G.faults) result.shelf hands.new;
+        })
+        result.trace result.answers
+        (record {
+          status = result.status;
+          before = O.written out.old;
+          now = O.written out.new;
+          faults = O.faults out.old;
+          count = O.faults out.new;
+        }) }
+    ensures hands { OthersStay (asked words.now (length hands.old)) hands.old hands.new }
+{
+    match answer {
+        Ok(line) => run_line(rt, alloc, words, line, machine, tree, shelf, hands, out),
+        Err(_) => mvn(rt, alloc, words, machine, tree, shelf, hands, out),
+    }
+}
+
 /// Runs words as `mvn` does, unless they ask for a generated project: then that is built, over objects in memory and by the built-in goals,
 /// the summary is written in place of the report, and of all that is given the sink alone is used. May wait. Costs reading the words
 /// besides. Project rule.
@@ -151,10 +205,8 @@ where
         }) }
     ensures hands { OthersStay (asked words.now (length hands.old)) hands.old hands.new }
 {
-    let answer = asked(alloc, words, hands.len() as u32);
-    match answer {
-        Ok(Ok(line)) => run_line(rt, alloc, words, &line, machine, tree, shelf, hands, out),
-        Ok(Err(_)) => mvn(rt, alloc, words, machine, tree, shelf, hands, out),
+    match asked(alloc, words, hands.len() as u32) {
+        Ok(answer) => run_asked(rt, alloc, words, &answer, machine, tree, shelf, hands, out),
         Err(_) => Ended {
             status: NO_MEMORY,
             shelf,

@@ -7,13 +7,24 @@ use mvn_shared::Mem;
 use row_models::behind;
 use std::alloc::Global;
 
-// How many entries a set has, where it has one of the dependency's key.
-fn count_with(alloc: Global, set: ManagedSet, dependency: &Dependency) -> Mem<Option<usize>> {
+// Whether a set has an entry of the dependency's key.
+fn has_key_of(alloc: Global, set: &ManagedSet, dependency: &Dependency) -> Mem<bool> {
     let key = dependency.key(alloc)?;
-    if set.find(&key).is_none() {
-        return Ok(None);
-    }
+    Ok(set.find(&key).is_some())
+}
+
+// How many entries a set has.
+fn entries_in(alloc: Global, set: ManagedSet) -> Mem<Option<usize>> {
     Ok(Some(set.into_list(alloc)?.len()))
+}
+
+// The same where it has one of the dependency's key.
+fn count_with(alloc: Global, set: ManagedSet, dependency: &Dependency) -> Mem<Option<usize>> {
+    if has_key_of(alloc, &set, dependency)? {
+        entries_in(alloc, set)
+    } else {
+        Ok(None)
+    }
 }
 
 // The same of all that a POM manages, and the first entry of that.

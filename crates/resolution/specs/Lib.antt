@@ -3,4 +3,5 @@ pub use Rattle.mediation.specs.Rows
 pub use Rattle.winner_scopes.specs.Scopes
 pub use Rattle.range_conflicts.specs.Conflicts
 pub use Rattle.tree_order.specs.Preorder
+pub mod Kept
 pub mod Resolved

@@ -1,7 +1,7 @@
 // Rows that projects are built with, each held once.
 ghost use Rattle.std.specs.Prelude.{◌≡◌, true, IfOk, IfSome};
-ghost use Rattle.std.specs.HashMap.{IsEmpty};
 ghost use Rattle.library_lookup.specs.Libraries.{gav_of};
+ghost use Rattle.resolution.specs.Kept.{HasNoRows};
 ghost use Rattle.resolution.specs.Resolved.{resolved};
 
 use crate::notes::{coordinate, is_there};
@@ -23,7 +23,7 @@ pub struct KeptRows {
 impl KeptRows {
     /// No rows yet. Takes no memory.
     pub fn new(alloc: Global) -> KeptRows
-        ensures { IsEmpty result.rows }
+        ensures { HasNoRows result }
     {
         KeptRows {
             rows: HashMap::new(alloc),

@@ -1,35 +1,14 @@
-use Rattle.std.proofs.Common.{◌≡◌, ◌∙◌, ap, length, refl, subst, Result, Ok, Err, IfOk}
-use Rattle.mvn_shared.specs.declared.memory.OutOfMemory.{OutOfMemory}
-use Rattle.cli_words.specs.declared.command_line.CommandLine.{CommandLine}
+use Rattle.std.proofs.Common.{length, refl}
 use Rattle.crew_stages.specs.Hands.{state_by}
 use Rattle.crew_outcome.specs.Left.{outside_by}
-use Rattle.crew_outcome.specs.declared.outcome.Outcome.{Outcome}
 use Rattle.mvn_call.specs.Commands.{asked}
 use Rattle.mvn_call.specs.Seen.{After, Seen}
-use Rattle.generated_run.specs.Whole.{IsMvn, Written}
-use Rattle.generated_run.proofs.Calls.{words_error, words_none}
+use Rattle.generated_run.specs.Whole.{Written}
+use Rattle.generated_run.proofs.Calls.{words_none}
 use Rattle.generated_run.proofs.words.run_words.Goals as goal
 
-pub run_line-requires-clause-line : goal.run_line-requires-clause-line
-run_line-requires-clause-line g c κs within =
-    let said = asked c.args.words.now (length c.args.hands.now) in
-    let e : c.asked-answer.result ≡ Ok (Ok c.in-Ok-Ok.line) = c.in-Ok-Ok.is ∙ ap (λ (r : Result CommandLine Outcome). Ok r) c.in-Ok-Ok.field-0-is in
-    subst (λ (r : Result (Result CommandLine Outcome) OutOfMemory). IfOk r (λ answer. answer ≡ said)) e c.asked-answer.ensures.says
-
-pub returns-in-Ok-Err-clause-call : goal.returns-in-Ok-Err-clause-call
-returns-in-Ok-Err-clause-call g c =
-    let seen : Seen = record { tree = g.T.Tree.files c.args.tree.now; faults = g.T.Files.faults c.args.tree.now; machine = c.args.machine; outside = outside_by g.S.Shelf.told g.S.Shelf.faults (state_by g.R.Remote.files g.R.Remote.faults g.S.Area.Area.contents g.S.Area.Area.faults g.S.Area.Area.pieces g.G.Gate.answers g.G.Gate.faults) c.args.shelf c.args.hands.now } in
-    let said = asked c.args.words.now (length c.args.hands.now) in
-    let call = c.mvn in
-    let after : After = record { faults = g.T.Files.faults call.new.tree; outside = outside_by g.S.Shelf.told g.S.Shelf.faults (state_by g.R.Remote.files g.R.Remote.faults g.S.Area.Area.contents g.S.Area.Area.faults g.S.Area.Area.pieces g.G.Gate.answers g.G.Gate.faults) call.result.shelf call.new.hands } in
-    let out : Written = record { status = call.result.status; before = g.O.Sink.written c.args.out.now; now = g.O.Sink.written call.new.out; faults = g.O.Sink.faults c.args.out.now; count = g.O.Sink.faults call.new.out } in
-    let is : IsMvn said seen after call.result.trace call.result.answers out = record { outcome = call.ensures.outcome; again = call.ensures.again; remains = call.ensures.remains; history = call.ensures.history; kept = call.ensures.answers; causes = call.ensures.causes; refused = call.ensures.refused; once = call.ensures.once; whole_files = call.ensures.whole_files; settled = call.ensures.settled; areas = call.ensures.areas; quiet = call.ensures.quiet; fault = call.ensures.fault; bound = call.ensures.bound; tells = call.ensures.tells } in
-    let e : c.asked-answer.result ≡ Ok (Err c.in-Ok-Err.field-0-0) = c.in-Ok-Err.is ∙ ap (λ (r : Result CommandLine Outcome). Ok r) c.in-Ok-Err.field-0-is in
-    let error : Err c.in-Ok-Err.field-0-0 ≡ said = subst (λ (r : Result (Result CommandLine Outcome) OutOfMemory). IfOk r (λ answer. answer ≡ said)) e c.asked-answer.ensures.says in
-    words_error said c.in-Ok-Err.field-0-0 seen after call.result.trace call.result.answers out error is
-
-pub returns-clause-call : goal.returns-clause-call
-returns-clause-call g c =
+pub returns-in-Err-clause-call : goal.returns-in-Err-clause-call
+returns-in-Err-clause-call g c =
     let seen : Seen = record { tree = g.T.Tree.files c.args.tree.now; faults = g.T.Files.faults c.args.tree.now; machine = c.args.machine; outside = outside_by g.S.Shelf.told g.S.Shelf.faults (state_by g.R.Remote.files g.R.Remote.faults g.S.Area.Area.contents g.S.Area.Area.faults g.S.Area.Area.pieces g.G.Gate.answers g.G.Gate.faults) c.args.shelf c.args.hands.now } in
     let said = asked c.args.words.now (length c.args.hands.now) in
     let after : After = record { faults = g.T.Files.faults c.args.tree.now; outside = outside_by g.S.Shelf.told g.S.Shelf.faults (state_by g.R.Remote.files g.R.Remote.faults g.S.Area.Area.contents g.S.Area.Area.faults g.S.Area.Area.pieces g.G.Gate.answers g.G.Gate.faults) c.args.shelf c.args.hands.now } in

@@ -21,22 +21,20 @@ pub struct Devices<'a> {
     pub hands: Vec<RealHand<'a>>,
 }
 
-// The devices at these places.
-fn devices_at<'a>(
-    rt: &'a HostRuntime,
-    places: &Places,
-    variables: &BTreeMap<Text, Text>,
-) -> Mem<Devices<'a>>
+// The devices at these places, for this machine.
+fn devices_at<'a>(rt: &'a HostRuntime, places: Places, machine: Machine) -> Mem<Devices<'a>>
     ensures count { IfOk result (λ devices. length devices.hands.items ≡ 16) }
     ensures gates { IfOk result (λ devices. map (λ hand. gate_program hand.gate) devices.hands.items
-        ≡ replicate 16 (named_program places.now.program)) }
+        ≡ replicate 16 (named_program places.program)) }
 {
-    let folder = Text::from_str(rt.alloc(), ".")?;
-    let repository = places.repository.clone()?;
-    let machine = machine(rt.alloc(), variables)?;
-    let hands = hands(rt, places)?;
+    let hands = hands(rt, &places)?;
+    let Places {
+        project,
+        repository,
+        ..
+    } = places;
     Ok(Devices {
-        tree: RealTree::new(rt, folder),
+        tree: RealTree::new(rt, project),
         shelf: RealShelf::new(rt, repository),
         machine,
         hands,
@@ -49,7 +47,8 @@ fn devices_with<'a>(rt: &'a HostRuntime, variables: &BTreeMap<Text, Text>) -> Me
 {
     let number = process::id(rt.process());
     let places = named_places(rt, rt.alloc(), number, variables)?;
-    devices_at(rt, &places, variables)
+    let machine = machine(rt.alloc(), variables)?;
+    devices_at(rt, places, machine)
 }
 
 /// The devices that the environment names, with 16 hands. Opens nothing. Costs reading the environment.

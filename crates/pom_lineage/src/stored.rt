@@ -182,9 +182,41 @@ fn line<P: PomSource>(
     Ok(put_over(alloc, &raw.pom, &own, &above)?)
 }
 
+// What a POM builds on, by its parent, with the POMs up to it.
+#[cycle(stored)]
+#[tactic(auto, using(pom_store::proofs::Telling::told_both, pom_store::proofs::Telling::untold, pom_store::proofs::Kept::parent_kept))]
+fn from_parent<P: PomSource>(
+    alloc: Global,
+    store: &mut Store,
+    source: &mut P,
+    given: &Given,
+    left: u32,
+    pom: &PomId,
+    seen: &List<PomId>,
+    parent: &Parent,
+) -> Result<Shared<Joined>, BuildFault>
+    ensures says { (world : World) → P.fits_poms source.old world → Holds world given.now store.old
+        → Says (above (joined_up world given.now left pom.now seen.now) (Some parent.now)) result }
+    ensures fit { (world : World) → P.fits_poms source.old world → P.fits_poms source.new world }
+    ensures same { TellsOn P.tells_same source.old source.new }
+    ensures holds { (world : World) → P.fits_poms source.old world → Holds world given.now store.old
+        → Holds world given.now store.new }
+    ensures kept { (world : World) → P.fits_poms source.old world → Holds world given.now store.old
+        → OnOk result (KeepsParent world store.new pom.now (Some parent.now)) }
+    ensures keeps { KeepsRead store.old store.new }
+    ensures keeps_lines { KeepsLines store.old store.new }
+    ensures cause { HasCause (P.faults source.old) (P.faults source.new) (build_failed result) }
+{
+    let origin = origin_of(alloc, store, source, pom, parent)?;
+    match joined_from(alloc, store, source, given, left, pom, seen, &origin) {
+        Ok(line) => Ok(line),
+        Err(fault) => Err(fault),
+    }
+}
+
 // What a POM builds on, by its parent.
 #[cycle(stored)]
-#[tactic(auto, using(pom_store::proofs::Telling::told_both, pom_store::proofs::Telling::untold, pom_store::proofs::Kept::no_parent_kept, pom_store::proofs::Kept::parent_kept))]
+#[tactic(auto, using(pom_store::proofs::Kept::no_parent_kept))]
 fn above<P: PomSource>(
     alloc: Global,
     store: &mut Store,
@@ -212,8 +244,7 @@ fn above<P: PomSource>(
         None => Ok(top(alloc)?),
         Some(parent) => {
             let seen = next_poms(seen, pom)?;
-            let origin = origin_of(alloc, store, source, pom, parent)?;
-            match joined_from(alloc, store, source, given, left, pom, &seen, &origin) {
+            match from_parent(alloc, store, source, given, left, pom, &seen, parent) {
                 Ok(line) => Ok(line),
                 Err(fault) => Err(fault),
             }

@@ -4,11 +4,11 @@ use Rattle.pom_store.specs.Stores.{IsThere, LedThere}
 use Rattle.pom_store.proofs.Judging.{entered_says, led_there, packed_there, placed}
 use Rattle.pom_lineage.proofs.stored.+stored.Goals as goal
 
-pub above-returns-in-Ok-clause-keeps : goal.above-returns-in-Ok-clause-keeps
-above-returns-in-Ok-clause-keeps g t c = λ path found there. c.joined_from.ensures.keeps path found (c.origin_of.ensures.keeps path found there)
+pub from_parent-returns-in-Ok-clause-keeps : goal.from_parent-returns-in-Ok-clause-keeps
+from_parent-returns-in-Ok-clause-keeps g t c = λ path found there. c.joined_from.ensures.keeps path found (c.origin_of.ensures.keeps path found there)
 
-pub above-returns-clause-keeps : goal.above-returns-clause-keeps
-above-returns-clause-keeps g t c = λ path found there. c.joined_from.ensures.keeps path found (c.origin_of.ensures.keeps path found there)
+pub from_parent-returns-clause-keeps : goal.from_parent-returns-clause-keeps
+from_parent-returns-clause-keeps g t c = λ path found there. c.joined_from.ensures.keeps path found (c.origin_of.ensures.keeps path found there)
 
 pub joined_from-returns-in-Some-clause-says : goal.joined_from-returns-in-Some-clause-says
 joined_from-returns-in-Some-clause-says g t c = λ world fits holds at.

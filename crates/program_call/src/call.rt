@@ -6,7 +6,7 @@ use mvn_base::Machine;
 use mvn_outside::{DeviceFault, Gate, Hand, Remote, Shelf, Sink, Tree};
 use mvn_shared::{Bytes, Mem};
 use mvn_top::{FAULT, NO_MEMORY};
-use real_devices::{Devices, named_devices, standard_output};
+use real_devices::{Devices, RealGate, named_devices, standard_output};
 use std::alloc::Global;
 use std::sync::Wait;
 use std::thread::Threads;
@@ -51,6 +51,25 @@ where
     ended.status
 }
 
+// Runs the words over any project and repository; the goals run in the system's children or in this program.
+fn run_goals<W: Threads + Wait + Sync, T: Tree, R: Remote + Send, S: Shelf + Send + Drop, O: Sink>(
+    threads: &W,
+    alloc: Global,
+    words: &[Bytes],
+    machine: Machine,
+    tree: &mut T,
+    shelf: S,
+    hands: &mut [Hand<R, S::Area, RealGate<'_>>],
+    out: &mut O,
+) -> u8
+where
+    S::Area: Send,
+    requires { length hands.old ≡ 16 }
+    ensures { result ≤ 4 }
+{
+    run_over(threads, alloc, words, machine, tree, shelf, hands, out)
+}
+
 // Builds the project in the current folder over these devices.
 fn build_over<W: Threads + Wait + Sync, O: Sink>(
     threads: &W,
@@ -70,7 +89,7 @@ fn build_over<W: Threads + Wait + Sync, O: Sink>(
     } = devices;
     let mut tree = tree;
     let mut hands = hands;
-    run_over(
+    run_goals(
         threads, alloc, words, machine, &mut tree, shelf, &mut hands, out,
     )
 }

@@ -24,7 +24,7 @@ Options:
   -T NUMBER       how many workers build at once, 1 to 16 (by default 1)
   --full          the report tells each module's effective model and classpaths too
   --generated N   builds a project of N POMs (1 to 1024) made in memory, and tells in
-                  four lines what came of it; nothing is read, and nothing is put
+                  four lines what came of it; no file is read or written
   -fae, -B, -ntp  as it is done anyway
   -h, --help      print this help
   -v, --version   print the version
@@ -61,9 +61,11 @@ Environment:
   MVN_GATE        a program that runs the goals, once for each (by default the
                   built-in goals)
   MVN_JDK         the version of the JDK, for profiles that ask for it
+  PWD             the folder of the project, as ${basedir} has it (by default .)
+  any NAME        what ${env.NAME} stands for
 
-Exit status: 0 all modules built, 1 a module failed, 2 refused, 3 reading or writing
-failed, 4 out of memory.
+Exit status: 0 all modules built, 1 a module isn't built, 2 refused, 3 reading or
+writing failed, 4 out of memory.
 
 Example:
   cd examples/shop && mvn install

@@ -27,7 +27,8 @@ fn listed_so(
 ) -> Result<Versions, LookupFault>
     ensures tells { (versions : Items (Items ℕ)) → ListsAll versions listing
         → IfOk result (λ found. found ≡ within_most versions) }
-    ensures first { failures.new.first ≡ first_after device (list_failed listing) failures.old.first }
+    ensures first { failures.new.first ≡ first_after device (list_failed listing)
+        failures.old.first }
     ensures failed { lookup_failed result ≡ list_failed listing }
     ensures cause { HasCause failures.old.count failures.new.count (list_failed listing) }
 {

@@ -1,7 +1,7 @@
 // What the board answers.
 
 /// What a worker is told to do next.
-#[derive(Clone, Copy, Debug, PartialEq, Eq)]
+#[derive(Clone, Copy)]
 pub enum Next {
     /// It builds this module, which has begun.
     Module(u32),
@@ -14,7 +14,7 @@ pub enum Next {
 }
 
 /// Whether an answer's output is kept within its module's budget.
-#[derive(Clone, Copy, Debug, PartialEq, Eq)]
+#[derive(Clone, Copy)]
 pub enum AnswerKept {
     Held,
     /// With it the kept outputs would have more bytes than the budget: it stands among the answers alone.

@@ -56,7 +56,8 @@ impl<'a, S: Shelf> Board<'a, S> {
             ≡ with_shelf (with_fault self.old worker (has_failed fault)) self.new.shelf) }
         ensures large { IfErr result (λ fault. fault ≡ TooLarge
             → IfSome (S.told self.old.shelf) (λ told. IsSomeAnd
-            (file_at (files_now told) (name_of self.old.plan file)) (λ bytes. limit < length bytes))) }
+            (file_at (files_now told) (name_of self.old.plan file))
+            (λ bytes. limit < length bytes))) }
         ensures told { S.told self.new.shelf ≡ S.told self.old.shelf }
         ensures never { S.never_fails self.new.shelf ≡ S.never_fails self.old.shelf }
         ensures cause { HasCause (S.faults self.old.shelf) (S.faults self.new.shelf)

@@ -148,8 +148,16 @@ fn plan_found<T: Tree, S: Shelf, R: Remote>(
     ensures shelf { S.told shelf.new ≡ S.told shelf.old }
     ensures remote { R.files remote.new ≡ R.files remote.old }
     ensures counted { Counted failures.old.first failures.new.first
-        (record { tree = T.faults tree.old; shelf = S.faults shelf.old; remote = R.faults remote.old })
-        (record { tree = T.faults tree.new; shelf = S.faults shelf.new; remote = R.faults remote.new }) }
+        (record {
+          tree = T.faults tree.old;
+          shelf = S.faults shelf.old;
+          remote = R.faults remote.old;
+        })
+        (record {
+          tree = T.faults tree.new;
+          shelf = S.faults shelf.new;
+          remote = R.faults remote.new;
+        }) }
     ensures noted { IsCounted failures.old → IsCounted failures.new }
     ensures cause { HasCause failures.old.count failures.new.count (plan_failed result) }
 {
@@ -202,8 +210,16 @@ fn plan_counted<T: Tree, S: Shelf, R: Remote>(
     ensures shelf { S.told shelf.new ≡ S.told shelf.old }
     ensures remote { R.files remote.new ≡ R.files remote.old }
     ensures counted { Counted failures.old.first failures.new.first
-        (record { tree = T.faults tree.old; shelf = S.faults shelf.old; remote = R.faults remote.old })
-        (record { tree = T.faults tree.new; shelf = S.faults shelf.new; remote = R.faults remote.new }) }
+        (record {
+          tree = T.faults tree.old;
+          shelf = S.faults shelf.old;
+          remote = R.faults remote.old;
+        })
+        (record {
+          tree = T.faults tree.new;
+          shelf = S.faults shelf.new;
+          remote = R.faults remote.new;
+        }) }
     ensures noted { IsCounted failures.old → IsCounted failures.new }
     ensures cause { HasCause failures.old.count failures.new.count (plan_failed result) }
 {
@@ -241,8 +257,16 @@ pub fn plan_build<T: Tree, S: Shelf, R: Remote>(
     ensures shelf { S.told shelf.new ≡ S.told shelf.old }
     ensures remote { R.files remote.new ≡ R.files remote.old }
     ensures counted { Counted None result.failed
-        (record { tree = T.faults tree.old; shelf = S.faults shelf.old; remote = R.faults remote.old })
-        (record { tree = T.faults tree.new; shelf = S.faults shelf.new; remote = R.faults remote.new }) }
+        (record {
+          tree = T.faults tree.old;
+          shelf = S.faults shelf.old;
+          remote = R.faults remote.old;
+        })
+        (record {
+          tree = T.faults tree.new;
+          shelf = S.faults shelf.new;
+          remote = R.faults remote.new;
+        }) }
     ensures failed { is_some result.failed ≡ plan_failed result.answer }
 {
     let mut failures = Failures::none();

@@ -91,7 +91,8 @@ fn root_missing(alloc: Global) -> Mem<Refusal>
 // What is answered where planning refused or failed: of a device that failed the line that names it.
 fn unplanned(alloc: Global, fault: &BuildFault, failed: Option<PomDevice>) -> Mem<Outcome>
     requires failed { is_some failed ≡ fault_failed fault.now }
-    ensures { IfOk result (λ outcome. IsMadeOf (Err (faults.Build fault.now)) failed (Err outcome)) }
+    ensures { IfOk result (λ outcome. IsMadeOf (Err (faults.Build fault.now)) failed
+        (Err outcome)) }
 {
     match fault {
         BuildFault::Refused(refusal) => refused_by(alloc, refusal),

@@ -1,8 +1,10 @@
 -- What children in memory hold.
-use Rattle.std.specs.Prelude.{ℕ, List}
+use Rattle.std.specs.Prelude.{ℕ, Bool, List}
 use Rattle.child_outside.specs.Children.{Children}
 use Rattle.child_outside.specs.Numbers.{numbers}
 use Rattle.std.specs.Vec.Iter.{into_iter_items}
+use Rattle.outside_mem.specs.declared.calls.Calls.{Calls}
+use Rattle.outside_mem.specs.Calls.{fails}
 use Rattle.child_outside.specs.declared.spawner.ChildRecord.{ChildRecord}
 use Rattle.child_mem.specs.declared.spawner.ChildScript.{ChildScript}
 use Rattle.child_mem.specs.declared.spawner.MemSpawner.{MemSpawner}
@@ -22,3 +24,7 @@ present spawner = spawner.there.keys
 -- the children that are there
 abbrev pub children_there : {F : Type 0} → MemSpawner F → Children
 children_there spawner = numbers spawner.there.keys
+
+-- whether the call with this number fails
+abbrev pub call_fails : MemSpawner Calls → ℕ → Bool
+call_fails spawner = fails spawner.calls

@@ -17,14 +17,13 @@ pub struct MemSource<F> {
 
 impl MemSource<Calls> {
     ghost use Rattle.std.specs.List.{list_any};
-    ghost use Rattle.outside_mem.specs.Calls.{fails};
-    ghost use Rattle.child_mem.specs.Source.{source_left};
+    ghost use Rattle.child_mem.specs.Source.{read_fails, source_left};
 
     /// These bytes. The reads with the numbers fail, from 0 on.
     pub fn new(alloc: Global, bytes: Bytes, failing: &List<u64>) -> Mem<MemSource<Calls>>
         ensures value { IfOk result (λ source. source_left source ≡ bytes) }
         ensures failing { IfOk result (λ source. (n : ℕ) →
-            fails source.calls n ≡ list_any (λ m. n == m) failing.now) }
+            read_fails source n ≡ list_any (λ m. n == m) failing.now) }
         ensures never { failing.now ≡ [] → IfOk result
             (λ source. ⟦<MemSource<Calls> as Source>⟧.never_fails source ≡ true) }
     {

@@ -29,8 +29,7 @@ pub struct MemSpawner<F> {
 
 impl MemSpawner<Calls> {
     ghost use Rattle.std.specs.List.{list_any};
-    ghost use Rattle.outside_mem.specs.Calls.{fails};
-    ghost use Rattle.child_mem.specs.Spawner.{scripts_left, child_records, present};
+    ghost use Rattle.child_mem.specs.Spawner.{call_fails, scripts_left, child_records, present};
 
     /// These scripts, in order. The calls with the numbers fail, from 0 on.
     pub fn new(
@@ -42,7 +41,7 @@ impl MemSpawner<Calls> {
         ensures records { IfOk result (λ spawner. child_records spawner ≡ []) }
         ensures present { IfOk result (λ spawner. present spawner ≡ []) }
         ensures failing { IfOk result (λ spawner. (n : ℕ) →
-            fails spawner.calls n ≡ list_any (λ m. n == m) failing.now) }
+            call_fails spawner n ≡ list_any (λ m. n == m) failing.now) }
         ensures never { failing.now ≡ [] → IfOk result
             (λ spawner. ⟦<MemSpawner<Calls> as Spawner>⟧.never_fails spawner ≡ true) }
     {

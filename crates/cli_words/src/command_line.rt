@@ -2,7 +2,7 @@ use mvn_base::{Choice, Pair, Phase};
 use mvn_shared::{List, Text};
 
 /// A selector of modules, and the number of the word where it stands. Guide to Working with Multiple Modules.
-#[derive(Clone, Drop, PartialEq, Eq)]
+#[derive(Drop)]
 pub struct Word {
     pub place: usize,
     pub text: Text,

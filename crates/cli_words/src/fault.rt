@@ -6,7 +6,7 @@ use std::error::Error;
 use std::fmt;
 
 /// What is wrong with a word. Own kinds.
-#[derive(Clone, Copy, Debug, PartialEq, Eq)]
+#[derive(Clone, Copy, Debug)]
 pub enum WordKind {
     UnknownWord,
     UnknownPhase,
@@ -49,7 +49,7 @@ impl WordKind {
 }
 
 /// The first fault of a command line: the number of the word, from 0, and what is wrong there.
-#[derive(Clone, Copy, Debug, PartialEq, Eq)]
+#[derive(Clone, Copy, Debug)]
 pub struct WordFault {
     pub place: usize,
     pub kind: WordKind,
@@ -70,7 +70,7 @@ impl fmt::Display for WordFault {
 }
 
 /// Why words have no meaning.
-#[derive(Clone, Copy, Debug, PartialEq, Eq)]
+#[derive(Clone, Copy, Debug)]
 pub enum WordError {
     Fault(WordFault),
     Memory,

@@ -2,7 +2,7 @@ ghost use Rattle.std.specs.Prelude.{◌≡◌};
 ghost use Rattle.cli_words.specs.Spellings.{has_no_effect, is_word, spelled};
 
 /// What the value of an option is. Maven's command-line options.
-#[derive(Clone, Copy, PartialEq, Eq)]
+#[derive(Clone, Copy)]
 pub enum Wanted {
     Workers,
     Profiles,
@@ -13,7 +13,7 @@ pub enum Wanted {
 }
 
 /// What a word that begins with a hyphen stands for by itself. Maven's command-line options.
-#[derive(Clone, Copy, PartialEq, Eq)]
+#[derive(Clone, Copy)]
 pub enum Spelling {
     Takes(Wanted),
     AlsoMake,

@@ -87,14 +87,16 @@ fn from_joined<P: PomSource>(
     raw: &Shared<RawModel>,
     joined: &Joined,
 ) -> Result<Model, BuildFault>
-    ensures says { (world : World) → P.fits_poms source.old world → HoldsAll world given.now store.old
+    ensures says { (world : World) → P.fits_poms source.old world
+        → HoldsAll world given.now store.old
         → lineage world given.now raw.now ≡ Ok joined.now
         → Says (whole world given.now (imported world given.now 31 raw.now.pom
         (raw.now.pom ∷ [])) raw.now) result }
     ensures lawful { IfOk result IsLawful }
     ensures fit { (world : World) → P.fits_poms source.old world → P.fits_poms source.new world }
     ensures same { TellsOn P.tells_same source.old source.new }
-    ensures holds { (world : World) → P.fits_poms source.old world → HoldsAll world given.now store.old
+    ensures holds { (world : World) → P.fits_poms source.old world
+        → HoldsAll world given.now store.old
         → HoldsAll world given.now store.new }
     ensures cause { HasCause (P.faults source.old) (P.faults source.new) (build_failed result) }
 {
@@ -114,12 +116,14 @@ fn modelled<P: PomSource>(
     given: &Given,
     pom: &PomId,
 ) -> Result<Model, BuildFault>
-    ensures says { (world : World) → P.fits_poms source.old world → HoldsAll world given.now store.old
+    ensures says { (world : World) → P.fits_poms source.old world
+        → HoldsAll world given.now store.old
         → Says (effective world given.now pom.now) result }
     ensures lawful { IfOk result IsLawful }
     ensures fit { (world : World) → P.fits_poms source.old world → P.fits_poms source.new world }
     ensures same { TellsOn P.tells_same source.old source.new }
-    ensures holds { (world : World) → P.fits_poms source.old world → HoldsAll world given.now store.old
+    ensures holds { (world : World) → P.fits_poms source.old world
+        → HoldsAll world given.now store.old
         → HoldsAll world given.now store.new }
     ensures cause { HasCause (P.faults source.old) (P.faults source.new) (build_failed result) }
 {
@@ -142,14 +146,16 @@ pub fn effective_with<P: PomSource>(
     given: &Given,
     pom: &PomId,
 ) -> Result<Model, BuildFault>
-    ensures says { (world : World) → P.fits_poms source.old world → HoldsAll world given.now store.old
+    ensures says { (world : World) → P.fits_poms source.old world
+        → HoldsAll world given.now store.old
         → Says (effective world given.now pom.now) result }
     ensures absent { (world : World) → P.fits_poms source.old world
         → HoldsAll world given.now store.old → IsAbsentExactly (has_pom world pom.now) result }
     ensures lawful { IfOk result IsLawful }
     ensures fit { (world : World) → P.fits_poms source.old world → P.fits_poms source.new world }
     ensures same { TellsOn P.tells_same source.old source.new }
-    ensures holds { (world : World) → P.fits_poms source.old world → HoldsAll world given.now store.old
+    ensures holds { (world : World) → P.fits_poms source.old world
+        → HoldsAll world given.now store.old
         → HoldsAll world given.now store.new }
     ensures cause { HasCause (P.faults source.old) (P.faults source.new) (build_failed result) }
 {

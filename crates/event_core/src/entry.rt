@@ -3,7 +3,7 @@ use goal_types::GoalAnswer;
 use mvn_shared::Bytes;
 
 /// What an event of a run carries.
-#[derive(Clone, Drop)]
+#[derive(Drop)]
 pub enum Carried {
     /// Nothing, or what isn't told.
     Nothing,
@@ -13,8 +13,8 @@ pub enum Carried {
     Answered(GoalAnswer),
 }
 
-/// An event of a run, with what it carries. Own.
-#[derive(Clone, Drop)]
+/// An event of a run, with what it carries. Project rule.
+#[derive(Drop)]
 pub struct RunEntry {
     pub event: Event,
     pub carried: Carried,

@@ -1,7 +1,7 @@
 use build_core::State;
 
-/// Why an event may not come now: the first that holds, in this order. Own.
-#[derive(Clone, Copy, PartialEq, Eq)]
+/// Why an event may not come now: the first that holds, in this order. Project rule.
+#[derive(Clone, Copy)]
 pub enum NotEnabled {
     /// This number of the event is too large.
     Range(u32),

@@ -19,7 +19,7 @@ use mvn_shared::{List, Mem};
 use std::alloc::Global;
 use std::marker::Model;
 
-/// A build under way: the plan without its bytes, and the events so far. Own.
+/// A build under way: the plan without its bytes, and the events so far. Project rule.
 #[derive(Drop)]
 pub struct Core {
     outline: Outline,
@@ -94,7 +94,7 @@ impl Core {
     }
 
     /// The first cause for which an event may not come now: none exactly where `step` takes it. Costs what `step` does; takes no
-    /// memory. Own.
+    /// memory. Project rule.
     pub fn cause(&self, event: Event) -> Option<NotEnabled>
         ensures first { result ≡ cause_now self.now.0 (standing_of self.now.0 self.now.1) event }
         ensures none { (result ≡ None) ↔ Enabled self.now.0 self.now.1 event }
@@ -105,7 +105,7 @@ impl Core {
     /// An event more, where it may come; else the first cause for which it may not, and nothing is changed. Takes no memory. Constant
     /// time on the average over a build, but for a take, which costs the number of workers: with each module that ends or is skipped,
     /// those that it is an upstream of are looked at, each once, and with the last name of a batch, a fetched file and a start the files
-    /// of the fetch list that are there are passed over, each once or twice. Nothing grows with the events so far. Own.
+    /// of the fetch list that are there are passed over, each once or twice. Nothing grows with the events so far. Project rule.
     pub fn step(&mut self, event: Event) -> Result<(), NotEnabled>
         ensures ok { OnOk result (Enabled self.old.0 self.old.1 event
             × (self.new ≡ (self.old.0, self.old.1 ++ event ∷ []))) }
@@ -135,7 +135,7 @@ impl Core {
     }
 
     /// A law: the events of a core are a run, in which each could follow those before it, and there are no more of them than its plan
-    /// reserves. Does nothing. Own.
+    /// reserves. Does nothing. Project rule.
     pub fn runs_within_bound(&self)
         ensures run { IsRun self.now.0 [] self.now.1 }
         ensures bound { length self.now.1 ≤ self.now.0.events }

@@ -25,7 +25,7 @@ pub struct Builtin {
 impl Builtin {
     ghost use Rattle.std.specs.Prelude.{true};
 
-    /// The built-in goals; what they make is allocated with `alloc`. Constant cost. Own.
+    /// The built-in goals; what they make is allocated with `alloc`. Constant cost. Project rule.
     pub fn new(alloc: Global) -> Builtin
         ensures never { ⟦<Builtin as Gate>⟧.never_fails result ≡ true }
     {

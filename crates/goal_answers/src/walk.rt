@@ -14,7 +14,7 @@ use goal_types::{GoalAnswer, Slot};
 use mvn_shared::Bytes;
 
 /// How a module's goals stand by their answers: none failed or made too much, or this one did first.
-#[derive(Clone, Copy, Debug, PartialEq, Eq)]
+#[derive(Clone, Copy)]
 pub enum GoalsStand {
     Good,
     Failed(usize),
@@ -37,7 +37,8 @@ fn slot_number(slot: Slot) -> u8
 }
 
 fn step_of(answer: Option<&GoalAnswer>, slot: Slot, sizes: Sizes, budget: u64) -> Step
-    ensures { result ≡ step_of (unwrap_or (option_map (λ a. a.now) answer.entry) Done) slot sizes budget }
+    ensures { result ≡ step_of (unwrap_or (option_map (λ a. a.now) answer.entry) Done)
+        slot sizes budget }
 {
     match answer {
         None | Some(GoalAnswer::Done) => Step::Leaves,

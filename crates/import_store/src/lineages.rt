@@ -24,11 +24,13 @@ pub fn lineage_with<P: PomSource>(
     given: &Given,
     raw: &Shared<RawModel>,
 ) -> Result<Shared<Joined>, BuildFault>
-    ensures says { (world : World) → P.fits_poms source.old world → HoldsAll world given.now store.old
+    ensures says { (world : World) → P.fits_poms source.old world
+        → HoldsAll world given.now store.old
         → Says (lineage world given.now raw.now) result }
     ensures fit { (world : World) → P.fits_poms source.old world → P.fits_poms source.new world }
     ensures same { TellsOn P.tells_same source.old source.new }
-    ensures holds { (world : World) → P.fits_poms source.old world → HoldsAll world given.now store.old
+    ensures holds { (world : World) → P.fits_poms source.old world
+        → HoldsAll world given.now store.old
         → HoldsAll world given.now store.new }
     ensures cause { HasCause (P.faults source.old) (P.faults source.new) (build_failed result) }
 {
@@ -48,11 +50,13 @@ fn module_with<P: PomSource>(
     path: &Text,
     raw: &Shared<RawModel>,
 ) -> Result<Shared<Joined>, BuildFault>
-    ensures says { (world : World) → P.fits_poms source.old world → HoldsAll world given.now store.old
+    ensures says { (world : World) → P.fits_poms source.old world
+        → HoldsAll world given.now store.old
         → asked_path world path.now ≡ Ok raw.now → Says (lineage world given.now raw.now) result }
     ensures fit { (world : World) → P.fits_poms source.old world → P.fits_poms source.new world }
     ensures same { TellsOn P.tells_same source.old source.new }
-    ensures holds { (world : World) → P.fits_poms source.old world → HoldsAll world given.now store.old
+    ensures holds { (world : World) → P.fits_poms source.old world
+        → HoldsAll world given.now store.old
         → asked_path world path.now ≡ Ok raw.now → HoldsAll world given.now store.new }
     ensures cause { HasCause (P.faults source.old) (P.faults source.new) (build_failed result) }
 {
@@ -72,11 +76,13 @@ pub fn lineage_of<P: PomSource>(
     pom: &PomId,
     raw: &Shared<RawModel>,
 ) -> Result<Shared<Joined>, BuildFault>
-    ensures says { (world : World) → P.fits_poms source.old world → HoldsAll world given.now store.old
+    ensures says { (world : World) → P.fits_poms source.old world
+        → HoldsAll world given.now store.old
         → asked world pom.now ≡ Ok raw.now → Says (lineage world given.now raw.now) result }
     ensures fit { (world : World) → P.fits_poms source.old world → P.fits_poms source.new world }
     ensures same { TellsOn P.tells_same source.old source.new }
-    ensures holds { (world : World) → P.fits_poms source.old world → HoldsAll world given.now store.old
+    ensures holds { (world : World) → P.fits_poms source.old world
+        → HoldsAll world given.now store.old
         → asked world pom.now ≡ Ok raw.now → HoldsAll world given.now store.new }
     ensures cause { HasCause (P.faults source.old) (P.faults source.new) (build_failed result) }
 {

@@ -112,7 +112,8 @@ pub(crate) fn ask_shelf<S: Shelf>(
     name: &FileName,
 ) -> Result<Option<Bytes>, DeviceFault>
     ensures tells { IfSome (S.told shelf.old) (λ told.
-        IfOk result (λ found. found ≡ option_map within_limit (file_at (files_now told) name.now))) }
+        IfOk result (λ found. found ≡ option_map within_limit
+        (file_at (files_now told) name.now))) }
     ensures same { S.told shelf.new ≡ S.told shelf.old }
     ensures counted { (tree remote : ℕ) → Counted failures.old.first failures.new.first
         (record { tree = tree; shelf = S.faults shelf.old; remote = remote })

@@ -3,7 +3,7 @@ ghost use Rattle.mvn_shared.specs.Cause.{HasRisen};
 ghost use Rattle.model_resolver.specs.Noting.{first_noted};
 
 /// A device that POMs are looked up in: the project's folder, the local repository, or a remote one.
-#[derive(Clone, Copy, PartialEq, Eq)]
+#[derive(Clone, Copy)]
 pub enum PomDevice {
     Tree,
     Shelf,

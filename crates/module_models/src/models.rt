@@ -28,12 +28,14 @@ fn model_of<P: PomSource>(
     given: &Given,
     pom: &PomId,
 ) -> Result<Shared<Model>, BuildFault>
-    ensures says { (world : World) → P.fits_poms source.old world → HoldsAll world given.now store.old
+    ensures says { (world : World) → P.fits_poms source.old world
+        → HoldsAll world given.now store.old
         → Says (effective world given.now pom.now) result }
     ensures lawful { IfOk result IsLawful }
     ensures fit { (world : World) → P.fits_poms source.old world → P.fits_poms source.new world }
     ensures same { TellsOn P.tells_same source.old source.new }
-    ensures holds { (world : World) → P.fits_poms source.old world → HoldsAll world given.now store.old
+    ensures holds { (world : World) → P.fits_poms source.old world
+        → HoldsAll world given.now store.old
         → HoldsAll world given.now store.new }
     ensures cause { HasCause (P.faults source.old) (P.faults source.new) (build_failed result) }
 {
@@ -52,12 +54,14 @@ fn model_at<P: PomSource>(
     given: &Given,
     pom: &ProjectPom,
 ) -> Result<Shared<Model>, BuildFault>
-    ensures says { (world : World) → P.fits_poms source.old world → HoldsAll world given.now store.old
+    ensures says { (world : World) → P.fits_poms source.old world
+        → HoldsAll world given.now store.old
         → Says (effective world given.now (ids.Path pom.now.path)) result }
     ensures lawful { IfOk result IsLawful }
     ensures fit { (world : World) → P.fits_poms source.old world → P.fits_poms source.new world }
     ensures same { TellsOn P.tells_same source.old source.new }
-    ensures holds { (world : World) → P.fits_poms source.old world → HoldsAll world given.now store.old
+    ensures holds { (world : World) → P.fits_poms source.old world
+        → HoldsAll world given.now store.old
         → HoldsAll world given.now store.new }
     ensures cause { HasCause (P.faults source.old) (P.faults source.new) (build_failed result) }
 {
@@ -78,12 +82,14 @@ pub fn models_of<P: PomSource>(
     given: &Given,
     poms: &[ProjectPom],
 ) -> Result<List<Shared<Model>>, BuildFault>
-    ensures says { (world : World) → P.fits_poms source.old world → HoldsAll world given.now store.old
+    ensures says { (world : World) → P.fits_poms source.old world
+        → HoldsAll world given.now store.old
         → Says (models_of world given.now poms.now) result }
     ensures paired { IfOk result (λ models. length models ≡ length poms.now) }
     ensures lawful { IfOk result (AllByRecursion IsLawful) }
     ensures same { TellsOn P.tells_same source.old source.new }
-    ensures holds { (world : World) → P.fits_poms source.old world → HoldsAll world given.now store.old
+    ensures holds { (world : World) → P.fits_poms source.old world
+        → HoldsAll world given.now store.old
         → HoldsAll world given.now store.new }
     ensures cause { HasCause (P.faults source.old) (P.faults source.new) (build_failed result) }
 {

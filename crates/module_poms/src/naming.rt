@@ -77,7 +77,8 @@ fn read_pom<P: PomSource>(
     path: &Text,
 ) -> Result<Option<ModulePom>, BuildFault>
     ensures says { (world : World) (given : givens.Given) → P.fits_poms source.old world
-        → Holds world given store.old → Says (taken_up read_pom path.now (world.by_path path.now)) result }
+        → Holds world given store.old
+        → Says (taken_up read_pom path.now (world.by_path path.now)) result }
     ensures fit { (world : World) → P.fits_poms source.old world → P.fits_poms source.new world }
     ensures same { TellsOn P.tells_same source.old source.new }
     ensures holds { (world : World) (given : givens.Given) → P.fits_poms source.old world

@@ -18,7 +18,7 @@ use std::alloc::Global;
 use std::marker::Model;
 
 /// How far each module is. Kept besides: of each module the places of its first upstreams that aren't built and that are lost, and marks
-/// on those that may begin and those that are to be skipped. Own.
+/// on those that may begin and those that are to be skipped. Project rule.
 #[derive(Drop)]
 pub struct Modules {
     upstream: Vec<List<u32>>,
@@ -115,7 +115,7 @@ fn close(open: &mut usize, value: Progress)
 }
 
 impl Modules {
-    /// All modules wait. Costs the lists of upstreams. Own.
+    /// All modules wait. Costs the lists of upstreams. Project rule.
     pub fn new(alloc: Global, outline: &Outline) -> Mem<Modules>
         requires { length outline.now.modules < 2 ^ 32 }
         ensures { IfOk result (λ it. it
@@ -146,14 +146,14 @@ impl Modules {
         })
     }
 
-    /// How far a module is. Constant time. Own.
+    /// How far a module is. Constant time. Project rule.
     pub fn progress(&self, number: u32) -> Progress
         ensures { result ≡ progress_of self.now.1 number }
     {
         progress_at(self.progress.as_slice(), number as usize)
     }
 
-    /// The first upstream of a module that isn't built. Constant time. Own.
+    /// The first upstream of a module that isn't built. Constant time. Project rule.
     pub fn first_unbuilt(&self, number: u32) -> Option<u32>
         ensures { (o : Outline) → upstreams o ≡ self.now.0
             → result ≡ first_not_built o self.now.1 number }
@@ -161,7 +161,7 @@ impl Modules {
         upstream_at(self.upstream.as_slice(), self.unbuilt.as_slice(), number)
     }
 
-    /// The first upstream of a module that is lost. Constant time. Own.
+    /// The first upstream of a module that is lost. Constant time. Project rule.
     pub fn first_lost(&self, number: u32) -> Option<u32>
         ensures { (o : Outline) → upstreams o ≡ self.now.0
             → result ≡ first_lost o self.now.1 number }
@@ -169,7 +169,7 @@ impl Modules {
         upstream_at(self.upstream.as_slice(), self.lost.as_slice(), number)
     }
 
-    /// How a module stands. Constant time. Own.
+    /// How a module stands. Constant time. Project rule.
     pub fn state(&self, number: u32) -> State
         ensures { (o : Outline) → upstreams o ≡ self.now.0 → result ≡ state_of o self.now.1 number }
     {
@@ -181,7 +181,7 @@ impl Modules {
         }
     }
 
-    /// The first module that may begin. Costs a look at words of bits, one for 4,096 modules. Own.
+    /// The first module that may begin. Costs a look at words of bits, one for 4,096 modules. Project rule.
     pub fn ready(&self) -> Option<u32>
         ensures { (o : Outline) → upstreams o ≡ self.now.0
             → result ≡ find (is_ready o self.now.1) (below (length o.modules)) }
@@ -189,7 +189,7 @@ impl Modules {
         first_of(&self.ready, self.upstream.len())
     }
 
-    /// The first module that is to be skipped. Costs a look at words of bits, one for 4,096 modules. Own.
+    /// The first module that is to be skipped. Costs a look at words of bits, one for 4,096 modules. Project rule.
     pub fn skippable(&self) -> Option<u32>
         ensures { (o : Outline) → upstreams o ≡ self.now.0
             → result ≡ find (is_skippable o self.now.1) (below (length o.modules)) }
@@ -197,7 +197,7 @@ impl Modules {
         first_of(&self.skippable, self.upstream.len())
     }
 
-    /// Whether all are over. Constant time. Own.
+    /// Whether all are over. Constant time. Project rule.
     pub fn is_complete(&self) -> bool
         ensures { result ≡ list_all is_over self.now.1 }
     {
@@ -205,7 +205,7 @@ impl Modules {
     }
 
     /// A module that isn't over goes on. Costs the modules that it is an upstream of, each once, and of their upstreams those that are
-    /// passed over, each once in a build. Own.
+    /// passed over, each once in a build. Project rule.
     pub fn set(&mut self, number: u32, value: Progress)
         requires low { number < length self.old.1 }
         requires open { is_over (progress_of self.old.1 number) ≡ false }

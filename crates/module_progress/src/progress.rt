@@ -14,7 +14,7 @@ pub enum Progress {
     Ended(Ending),
 }
 
-/// Whether a module hasn't begun, nor was skipped. Constant time. Own.
+/// Whether a module hasn't begun, nor was skipped. Constant time. Project rule.
 pub fn is_waiting(progress: Progress) -> bool
     ensures { result ≡ is_waiting progress }
 {
@@ -24,7 +24,7 @@ pub fn is_waiting(progress: Progress) -> bool
     }
 }
 
-/// Whether a module was skipped, or ended otherwise than built. Constant time. Own.
+/// Whether a module was skipped, or ended otherwise than built. Constant time. Project rule.
 pub fn is_lost(progress: Progress) -> bool
     ensures { result ≡ is_lost progress }
 {
@@ -36,7 +36,7 @@ pub fn is_lost(progress: Progress) -> bool
     }
 }
 
-/// Whether a module ended as built. Constant time. Own.
+/// Whether a module ended as built. Constant time. Project rule.
 pub fn is_built(progress: Progress) -> bool
     ensures { result ≡ is_done progress }
 {
@@ -46,7 +46,7 @@ pub fn is_built(progress: Progress) -> bool
     }
 }
 
-/// Whether a module ended or was skipped. Constant time. Own.
+/// Whether a module ended or was skipped. Constant time. Project rule.
 pub fn is_over(progress: Progress) -> bool
     ensures { result ≡ is_over progress }
 {
@@ -56,7 +56,7 @@ pub fn is_over(progress: Progress) -> bool
     }
 }
 
-/// How far a module is: it waits where there is none of this number. Constant time. Own.
+/// How far a module is: it waits where there is none of this number. Constant time. Project rule.
 pub fn progress_at(progress: &[Progress], number: usize) -> Progress
     ensures { result ≡ progress_of progress.now number }
 {

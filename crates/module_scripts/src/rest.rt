@@ -20,7 +20,7 @@ pub enum Rest<'a> {
 }
 
 impl<'a> Rest<'a> {
-    /// What is left from a place on: nothing where no module has this number. Constant time. Own.
+    /// What is left from a place on: nothing where no module has this number. Constant time. Project rule.
     pub fn of(outline: &'a Outline, number: u32, place: ScriptPlace) -> Rest<'a>
         ensures owner { module_left result ≡ slice_get outline.now.modules number }
         ensures script { script_left result ≡ script_at outline.now number place }
@@ -37,7 +37,7 @@ impl<'a> Rest<'a> {
         }
     }
 
-    /// What is left behind a deed, or none where it isn't due. Costs the own files behind the place. Own.
+    /// What is left behind a deed, or none where it isn't due. Costs the own files behind the place. Project rule.
     pub fn done(self, deed: Deed) -> Option<Rest<'a>>
         ensures script { option_map script_left result ≡ done (script_left self.entry) deed }
         ensures owner { (next : Rest) → result ≡ Some next
@@ -54,7 +54,7 @@ impl<'a> Rest<'a> {
         }
     }
 
-    /// The first place from here on that wants an event. Costs the files that are passed over. Own.
+    /// The first place from here on that wants an event. Costs the files that are passed over. Project rule.
     pub fn settled(self, there: &[bool], empty: bool) -> ScriptPlace
         ensures script { (o : Outline) (number : ℕ)
             → module_left self.entry ≡ slice_get o.modules number
@@ -68,7 +68,7 @@ impl<'a> Rest<'a> {
         }
     }
 
-    /// The number of the stage that is due, 7 where that is the end. Constant time. Own.
+    /// The number of the stage that is due, 7 where that is the end. Constant time. Project rule.
     pub fn stage(self) -> u32
         ensures { result ≡ stage_of (script_left self.entry) }
     {
@@ -78,7 +78,7 @@ impl<'a> Rest<'a> {
         }
     }
 
-    /// The file that is to be fetched next. Constant time. Own.
+    /// The file that is to be fetched next. Constant time. Project rule.
     pub fn wanted(self) -> Option<u32>
         ensures { result ≡ wanted (script_left self.entry) }
     {
@@ -88,7 +88,7 @@ impl<'a> Rest<'a> {
         }
     }
 
-    /// The file that is to be read next. Constant time. Own.
+    /// The file that is to be read next. Constant time. Project rule.
     pub fn to_read(self) -> Option<u32>
         ensures { result ≡ option_and_then read_by (head (script_left self.entry)) }
     {
@@ -98,7 +98,7 @@ impl<'a> Rest<'a> {
         }
     }
 
-    /// The file that is to be published next. Constant time. Own.
+    /// The file that is to be published next. Constant time. Project rule.
     pub fn to_publish(self) -> Option<u32>
         ensures { result ≡ option_and_then published_by (head (script_left self.entry)) }
     {
@@ -108,7 +108,7 @@ impl<'a> Rest<'a> {
         }
     }
 
-    /// Whether all files of the fetch list were there, and no goal is answered. Constant time. Own.
+    /// Whether all files of the fetch list were there, and no goal is answered. Constant time. Project rule.
     pub fn is_gathered(self) -> bool
         ensures { result ≡ is_gathered (goals_left self.entry) (script_left self.entry) }
     {
@@ -118,7 +118,7 @@ impl<'a> Rest<'a> {
         }
     }
 
-    /// Whether nothing is left. Constant time. Own.
+    /// Whether nothing is left. Constant time. Project rule.
     pub fn may_end(self) -> bool
         ensures { result ≡ may_end (script_left self.entry) }
     {
@@ -128,7 +128,7 @@ impl<'a> Rest<'a> {
         }
     }
 
-    /// Whether the installing is next, and an artifact is needed for it. Constant time. Own.
+    /// Whether the installing is next, and an artifact is needed for it. Constant time. Project rule.
     pub fn lacks_artifact(self) -> bool
         ensures { result ≡ (is_to_install (script_left self.entry) && needs_artifact_left
             self.entry) }

@@ -67,7 +67,8 @@ fn noted(
     failures: &mut Failures,
     sources: Result<List<List<SourceFile>>, SourcesFault>,
 ) -> Result<List<List<SourceFile>>, BuildFault>
-    ensures says { (files : Files) (modules : Items (Items (Items ℕ))) → GivesAll files modules sources
+    ensures says { (files : Files) (modules : Items (Items (Items ℕ)))
+        → GivesAll files modules sources
         → Says (allowed (sources_of_all files modules)) result }
     ensures each { (count : ℕ) → IfOk sources (λ list. length list ≡ count)
         → IfOk result (λ list. length list ≡ count) }

@@ -49,7 +49,8 @@ fn add_if_named(files: &mut Vec<MemFile>, publish: &Published, names: &[Text]) -
 
 // Adds the files of those publishes whose names are among these.
 fn add_named(files: &mut Vec<MemFile>, publishes: &[Published], names: &[Text]) -> Mem<()>
-    ensures { OnOk result (files.new.items ≡ files.old.items ++ files_named_in names.now publishes.now) }
+    ensures { OnOk result (files.new.items ≡ files.old.items
+        ++ files_named_in names.now publishes.now) }
 {
     for publish in publishes {
         add_if_named(files, publish, names)?;
@@ -110,7 +111,8 @@ pub(crate) fn image_files(
     newest: &[bool],
 ) -> Mem<List<MemFile>>
     ensures { IfOk result (λ files. files_named files
-        ≡ image_after (fold with_publish (files_named given.now) settled.now) later.now newest.now) }
+        ≡ image_after (fold with_publish (files_named given.now)
+        settled.now) later.now newest.now) }
 {
     let mut files = copied(given)?;
     add_all(&mut files, settled)?;

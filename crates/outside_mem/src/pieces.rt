@@ -19,7 +19,9 @@ pub struct Piece {
 // Adds bytes to a piece, in place.
 pub(crate) fn extend_at(pieces: &mut BTreeMap<u64, Piece>, number: u64, more: &[u8]) -> Mem<()>
     ensures ok { OnOk result ((q : ℕ) → get nat_cmp pieces.new q
-        ≡ (if is_at (nat_cmp number) q then option_map (with_bytes more.now) (get nat_cmp pieces.old number) else get nat_cmp pieces.old q)) }
+        ≡ (if is_at (nat_cmp number) q then option_map (with_bytes more.now)
+        (get nat_cmp pieces.old number)
+        else get nat_cmp pieces.old q)) }
     ensures sealed { (q : ℕ) →
         option_map (λ p. p.sealed) (get nat_cmp pieces.new q)
         ≡ option_map (λ p. p.sealed) (get nat_cmp pieces.old q) }
@@ -34,7 +36,8 @@ pub(crate) fn extend_at(pieces: &mut BTreeMap<u64, Piece>, number: u64, more: &[
 // Seals a piece, in place.
 pub(crate) fn seal_at(pieces: &mut BTreeMap<u64, Piece>, number: u64)
     ensures sealed { (q : ℕ) → get nat_cmp pieces.new q
-        ≡ (if is_at (nat_cmp number) q then option_map sealed_piece (get nat_cmp pieces.old number) else get nat_cmp pieces.old q) }
+        ≡ (if is_at (nat_cmp number) q then option_map sealed_piece (get nat_cmp pieces.old number)
+        else get nat_cmp pieces.old q) }
     ensures bytes { (q : ℕ) →
         option_map (λ p. p.bytes) (get nat_cmp pieces.new q)
         ≡ option_map (λ p. p.bytes) (get nat_cmp pieces.old q) }

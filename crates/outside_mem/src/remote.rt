@@ -9,7 +9,7 @@ use mvn_shared::{Bytes, FileMap, List, Mem, Text};
 use std::alloc::Global;
 
 /// A file of a repository, with its bytes.
-#[derive(Clone, Drop, PartialEq, Eq)]
+#[derive(Clone, Drop)]
 pub struct MemFile {
     pub name: FileName,
     pub bytes: Bytes,

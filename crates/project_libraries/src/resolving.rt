@@ -153,8 +153,16 @@ pub fn resolve_modules<T: Tree, S: Shelf, R: Remote>(
     ensures shelf { S.told shelf.new ≡ S.told shelf.old }
     ensures remote { R.files remote.new ≡ R.files remote.old }
     ensures counted { Counted failures.old.first failures.new.first
-        (record { tree = T.faults tree.old; shelf = S.faults shelf.old; remote = R.faults remote.old })
-        (record { tree = T.faults tree.new; shelf = S.faults shelf.new; remote = R.faults remote.new }) }
+        (record {
+          tree = T.faults tree.old;
+          shelf = S.faults shelf.old;
+          remote = R.faults remote.old;
+        })
+        (record {
+          tree = T.faults tree.new;
+          shelf = S.faults shelf.new;
+          remote = R.faults remote.new;
+        }) }
     ensures noted { IsCounted failures.old → IsCounted failures.new }
     ensures cause { HasCause failures.old.count failures.new.count (build_failed result) }
 {

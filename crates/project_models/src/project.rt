@@ -61,12 +61,14 @@ fn models_in<P: Whole>(
     given: &Given,
     poms: &[ProjectPom],
 ) -> Result<List<Shared<Model>>, BuildFault>
-    ensures says { (world : World) → P.fits_poms source.old world → HoldsAll world given.now store.old
+    ensures says { (world : World) → P.fits_poms source.old world
+        → HoldsAll world given.now store.old
         → Says (models_of world given.now poms.now) result }
     ensures paired { IfOk result (λ models. length models ≡ length poms.now) }
     ensures lawful { IfOk result (AllByRecursion IsLawful) }
     ensures same { P.tells_same source.old source.new }
-    ensures holds { (world : World) → P.fits_poms source.old world → HoldsAll world given.now store.old
+    ensures holds { (world : World) → P.fits_poms source.old world
+        → HoldsAll world given.now store.old
         → HoldsAll world given.now store.new }
     ensures cause { HasCause (P.faults source.old) (P.faults source.new) (build_failed result) }
 {
@@ -95,8 +97,16 @@ fn find_poms<T: Tree, S: Shelf, R: Remote>(
     ensures shelf { S.told shelf.new ≡ S.told shelf.old }
     ensures remote { R.files remote.new ≡ R.files remote.old }
     ensures counted { Counted failures.old.first failures.new.first
-        (record { tree = T.faults tree.old; shelf = S.faults shelf.old; remote = R.faults remote.old })
-        (record { tree = T.faults tree.new; shelf = S.faults shelf.new; remote = R.faults remote.new }) }
+        (record {
+          tree = T.faults tree.old;
+          shelf = S.faults shelf.old;
+          remote = R.faults remote.old;
+        })
+        (record {
+          tree = T.faults tree.new;
+          shelf = S.faults shelf.new;
+          remote = R.faults remote.new;
+        }) }
     ensures noted { IsCounted failures.old → IsCounted failures.new }
     ensures cause { HasCause failures.old.count failures.new.count (build_failed result) }
 {
@@ -141,8 +151,16 @@ fn find_models<T: Tree, S: Shelf, R: Remote>(
     ensures shelf { S.told shelf.new ≡ S.told shelf.old }
     ensures remote { R.files remote.new ≡ R.files remote.old }
     ensures counted { Counted failures.old.first failures.new.first
-        (record { tree = T.faults tree.old; shelf = S.faults shelf.old; remote = R.faults remote.old })
-        (record { tree = T.faults tree.new; shelf = S.faults shelf.new; remote = R.faults remote.new }) }
+        (record {
+          tree = T.faults tree.old;
+          shelf = S.faults shelf.old;
+          remote = R.faults remote.old;
+        })
+        (record {
+          tree = T.faults tree.new;
+          shelf = S.faults shelf.new;
+          remote = R.faults remote.new;
+        }) }
     ensures noted { IsCounted failures.old → IsCounted failures.new }
     ensures cause { HasCause failures.old.count failures.new.count (build_failed result) }
 {
@@ -230,13 +248,22 @@ fn over_store<T: Tree, S: Shelf, R: Remote>(
     ensures modules { IfOk result (λ found. AreModules found.poms found.models) }
     ensures holds { IfTold (T.files tree.old) (S.told shelf.old) (R.files remote.old)
         (λ files local there. HoldsAll (world_of poms files local there) given.now store
-        → IfOk result (λ found. HoldsAll (world_of found.poms files local there) given.now found.store)) }
+        → IfOk result (λ found. HoldsAll (world_of found.poms files local there)
+        given.now found.store)) }
     ensures tree { T.files tree.new ≡ T.files tree.old }
     ensures shelf { S.told shelf.new ≡ S.told shelf.old }
     ensures remote { R.files remote.new ≡ R.files remote.old }
     ensures counted { Counted failures.old.first failures.new.first
-        (record { tree = T.faults tree.old; shelf = S.faults shelf.old; remote = R.faults remote.old })
-        (record { tree = T.faults tree.new; shelf = S.faults shelf.new; remote = R.faults remote.new }) }
+        (record {
+          tree = T.faults tree.old;
+          shelf = S.faults shelf.old;
+          remote = R.faults remote.old;
+        })
+        (record {
+          tree = T.faults tree.new;
+          shelf = S.faults shelf.new;
+          remote = R.faults remote.new;
+        }) }
     ensures noted { IsCounted failures.old → IsCounted failures.new }
     ensures cause { HasCause failures.old.count failures.new.count (build_failed result) }
 {
@@ -269,13 +296,22 @@ fn with_poms<T: Tree, S: Shelf, R: Remote>(
     ensures holds { IfTold (T.files tree.old) (S.told shelf.old) (R.files remote.old)
         (λ files local there. Holds (world_of [] files local there) given.now store
         → project_poms (world_of [] files local there) given.now ≡ Ok poms
-        → IfOk result (λ found. HoldsAll (world_of found.poms files local there) given.now found.store)) }
+        → IfOk result (λ found. HoldsAll (world_of found.poms files local there)
+        given.now found.store)) }
     ensures tree { T.files tree.new ≡ T.files tree.old }
     ensures shelf { S.told shelf.new ≡ S.told shelf.old }
     ensures remote { R.files remote.new ≡ R.files remote.old }
     ensures counted { Counted failures.old.first failures.new.first
-        (record { tree = T.faults tree.old; shelf = S.faults shelf.old; remote = R.faults remote.old })
-        (record { tree = T.faults tree.new; shelf = S.faults shelf.new; remote = R.faults remote.new }) }
+        (record {
+          tree = T.faults tree.old;
+          shelf = S.faults shelf.old;
+          remote = R.faults remote.old;
+        })
+        (record {
+          tree = T.faults tree.new;
+          shelf = S.faults shelf.new;
+          remote = R.faults remote.new;
+        }) }
     ensures noted { IsCounted failures.old → IsCounted failures.new }
     ensures cause { HasCause failures.old.count failures.new.count (build_failed result) }
 {
@@ -310,8 +346,16 @@ pub fn project_models<T: Tree, S: Shelf, R: Remote>(
     ensures shelf { S.told shelf.new ≡ S.told shelf.old }
     ensures remote { R.files remote.new ≡ R.files remote.old }
     ensures counted { Counted failures.old.first failures.new.first
-        (record { tree = T.faults tree.old; shelf = S.faults shelf.old; remote = R.faults remote.old })
-        (record { tree = T.faults tree.new; shelf = S.faults shelf.new; remote = R.faults remote.new }) }
+        (record {
+          tree = T.faults tree.old;
+          shelf = S.faults shelf.old;
+          remote = R.faults remote.old;
+        })
+        (record {
+          tree = T.faults tree.new;
+          shelf = S.faults shelf.new;
+          remote = R.faults remote.new;
+        }) }
     ensures noted { IsCounted failures.old → IsCounted failures.new }
     ensures cause { HasCause failures.old.count failures.new.count (build_failed result) }
 {

@@ -35,11 +35,13 @@ pub fn looked_up_again()
 /// A law: planning again, over files that have grown by the build of a plan whose modules are known in their project, gives that plan, but that
 /// it says anew which of its files are there; and it gives nothing else. Does nothing. Guide to Working with Multiple Modules; project rule.
 pub fn plans_again()
-    ensures same { (tree start remote files : Files) (given : givens.Given) (line : lines.CommandLine)
+    ensures same { (tree start remote files : Files) (given : givens.Given)
+        (line : lines.CommandLine)
         (p : planned.Planned) → IsPlanned tree start remote given line p
         → IsApart tree start remote given p → IsGrown start remote (gavs_of p) files
         → IsPlanned tree files remote given line (planned_over files p) }
-    ensures one { (tree start remote files : Files) (given : givens.Given) (line : lines.CommandLine)
+    ensures one { (tree start remote files : Files) (given : givens.Given)
+        (line : lines.CommandLine)
         (p : planned.Planned) (said : Result planned.Planned faults.PlanFault)
         → IsPlanned tree start remote given line p → IsApart tree start remote given p
         → IsGrown start remote (gavs_of p) files

@@ -17,7 +17,8 @@ pub fn run_confluence()
         → Extends (answers_in g.plan run) said
         → states_after g.plan run ≡ (sequential g said).states }
     ensures outputs { (g : Given) (run : List RunEntry) (said : Answers) → IsWhole g run
-        → Extends (answers_in g.plan run) said → outputs_in g.plan run ≡ (sequential g said).outputs }
+        → Extends (answers_in g.plan run) said
+        → outputs_in g.plan run ≡ (sequential g said).outputs }
     ensures files { (g : Given) (run : List RunEntry) (said : Answers) → IsWhole g run
         → Extends (answers_in g.plan run) said
         → contents g.plan g.start run ≡ (sequential g said).files }

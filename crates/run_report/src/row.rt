@@ -1,4 +1,4 @@
-// What the report says of a module. Own.
+// What the report says of a module. Project rule.
 use build_core::Device;
 use mvn_base::{FileName, Gav};
 use mvn_shared::{Bytes, List, Text};

@@ -14,7 +14,7 @@ use mvn_shared::{List, Mem, Text};
 use std::alloc::Global;
 
 /// Why the sources can't be read.
-#[derive(Clone, Copy, PartialEq, Eq)]
+#[derive(Clone, Copy)]
 pub enum SourcesFault {
     /// The tree failed.
     Failed,

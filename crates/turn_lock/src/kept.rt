@@ -1,8 +1,8 @@
 // What a locked value tells.
 ghost use Rattle.std.specs.Prelude.{◌≡◌, length};
 
-/// Whose an entry of a log is: nobody's, or one worker's, which opens a module with it, goes on or closes it. Own.
-#[derive(Clone, Copy, PartialEq, Eq)]
+/// Whose an entry of a log is: nobody's, or one worker's, which opens a module with it, goes on or closes it. Project rule.
+#[derive(Clone, Copy)]
 pub enum Role {
     Nobody,
     /// The worker opens the module.
@@ -11,7 +11,7 @@ pub enum Role {
     Closes(u32),
 }
 
-/// A value that a turn lock keeps: a fixed part, a number of workers, and a log. Own.
+/// A value that a turn lock keeps: a fixed part, a number of workers, and a log. Project rule.
 pub trait Kept {
     type Fixed;
 

@@ -14,14 +14,14 @@ use std::thread;
 use std::thread::{Threads, join_mut};
 use std::time::{Clock, Duration};
 
-/// A number that a worker noted. Own.
-#[derive(Clone, Copy, PartialEq, Eq)]
+/// A number that a worker noted. Project rule.
+#[derive(Clone, Copy)]
 pub struct Note {
     pub worker: u32,
     pub number: u32,
 }
 
-/// What so many workers noted: a value to try the lock with, and to measure it. Own.
+/// What so many workers noted: a value to try the lock with, and to measure it. Project rule.
 #[derive(Drop)]
 pub struct Tally {
     pub workers: u32,
@@ -54,7 +54,7 @@ impl Kept for Tally {
 }
 
 impl Tally {
-    /// No notes yet. Takes room for 4,096. Own.
+    /// No notes yet. Takes room for 4,096. Project rule.
     pub fn empty(alloc: Global, workers: u32) -> Mem<Tally>
         ensures { IfOk result (λ tally. (tally.workers ≡ workers) × (tally.notes.items ≡ [])) }
     {
@@ -77,7 +77,7 @@ impl Tally {
         Ok(())
     }
 
-    /// How many numbers a worker noted in their order, from 0 on. One look at all notes. Own.
+    /// How many numbers a worker noted in their order, from 0 on. One look at all notes. Project rule.
     pub fn in_order(&self, worker: u32) -> u64
         ensures { result ≡ in_order worker self.now.notes.items }
     {
@@ -102,7 +102,7 @@ fn with_note(next: u64, note: Note, worker: u32) -> u64
     }
 }
 
-/// A lock over no notes of so many workers, and its first pass. Own.
+/// A lock over no notes of so many workers, and its first pass. Project rule.
 pub fn opened(alloc: Global, workers: u32) -> Mem<(TurnLock<Tally>, Pass<Tally>)>
     requires { 0 < workers }
     ensures rest { IfOk result (λ r. IsAtRest r.0 0 workers workers workers r.1) }
@@ -115,7 +115,7 @@ pub fn opened(alloc: Global, workers: u32) -> Mem<(TurnLock<Tally>, Pass<Tally>)
     }
 }
 
-/// A note of a pass's worker, in a turn of its own. May wait. Where memory is missing nothing is noted. Own.
+/// A note of a pass's worker, in a turn of its own. May wait. Where memory is missing nothing is noted. Project rule.
 #[inline]
 pub fn note_down<R: Wait>(
     rt: &R,
@@ -142,7 +142,7 @@ pub fn note_down<R: Wait>(
 }
 
 /// What each worker does: how many numbers it notes; whether they go in rounds of so many workers, each resting until all before it have noted (0:
-/// none rests); and how many milliseconds it sleeps before each note, without a turn and with one. Own.
+/// none rests); and how many milliseconds it sleeps before each note, without a turn and with one. Project rule.
 #[derive(Drop)]
 pub struct Task {
     pub count: u32,
@@ -313,7 +313,7 @@ fn fork<R: Threads + Wait + Clock + Sync>(
 
 /// What so many workers note, each its task's numbers in a thread of its own: whatever the threads do, of each worker's notes the first are just
 /// these numbers, in their order. May wait; where one has no memory, those that rest until it has noted wait for ever. A turn for each note, and more
-/// where they go in rounds. Own.
+/// where they go in rounds. Project rule.
 pub fn tallied<R: Threads + Wait + Clock + Sync>(
     rt: &R,
     alloc: Global,

@@ -2,7 +2,7 @@ use mvn_shared::List;
 
 /// What a pass knows: the fixed part and the number of workers, its number with its reach (the workers from its number on, below `reach`, for
 /// which it alone may add entries), its weight, the log that it has seen, logs that this begins with, the module that its worker has open there,
-/// and the log of the turn that it has out. A pass that was joined to another is spent and knows nothing. No value of it is made. Own.
+/// and the log of the turn that it has out. A pass that was joined to another is spent and knows nothing. No value of it is made. Project rule.
 pub struct View<F, E> {
     pub fixed: Option<F>,
     pub workers: u32,

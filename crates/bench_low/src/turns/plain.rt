@@ -44,7 +44,7 @@ fn crew<R: Threads + Wait + Sync>(
     two
 }
 
-/// How many notes so many workers leave under a plain mutex, each the numbers below `count` in a thread of its own. May wait. Own.
+/// How many notes so many workers leave under a plain mutex, each the numbers below `count` in a thread of its own. May wait. Project rule.
 pub fn noted<R: Threads + Wait + Sync>(
     rt: &R,
     alloc: Global,

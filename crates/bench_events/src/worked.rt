@@ -162,12 +162,18 @@ fn ask_for(core: &mut Core, events: &str) {
     }
 }
 
-// Where a build stands, and which of four files it has.
-fn push_standing(alloc: Global, shown: &mut String, core: &Core) -> Mem<()> {
+// Where a build stands.
+fn push_told(alloc: Global, shown: &mut String, core: &Core) -> Mem<()> {
     shown.push_str("stands")?;
     for place in 0..TOLD {
         push_number(alloc, shown, told_at(core, place))?;
     }
+    Ok(())
+}
+
+// Where a build stands, and which of four files it has.
+fn push_standing(alloc: Global, shown: &mut String, core: &Core) -> Mem<()> {
+    push_told(alloc, shown, core)?;
     for file in 0..4u32 {
         push_number(alloc, shown, core.has(file) as u32)?;
     }

@@ -132,10 +132,14 @@ fn put_root(alloc: Global, project: &mut Project, count: u32, turned: bool) -> M
     put_module(alloc, project, "pom.xml", "root", inside.as_str())
 }
 
-fn put_all(alloc: Global, project: &mut Project, draws: &mut Draws, count: u32) -> Mem<()> {
+fn put_libraries(alloc: Global, project: &mut Project, draws: &mut Draws) -> Mem<()> {
     for number in 0..LIBRARIES {
         put_drawn(alloc, project, draws, number)?;
     }
+    Ok(())
+}
+
+fn put_modules(alloc: Global, project: &mut Project, draws: &mut Draws, count: u32) -> Mem<()> {
     for number in 0..count {
         put_drawn_module(alloc, project, draws, number)?;
     }
@@ -149,6 +153,7 @@ pub fn random_project(alloc: Global, seed: u32, most: u32) -> Mem<Project> {
     let mut project = empty(alloc);
     let count = if most == 0 { 0 } else { 1 + draws.below(most) };
     put_root(alloc, &mut project, count, seed % 2 == 1)?;
-    put_all(alloc, &mut project, &mut draws, count)?;
+    put_libraries(alloc, &mut project, &mut draws)?;
+    put_modules(alloc, &mut project, &mut draws, count)?;
     Ok(project)
 }

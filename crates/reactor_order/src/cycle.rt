@@ -8,6 +8,18 @@ use crate::marks::Marks;
 use mvn_shared::Mem;
 use std::alloc::Global;
 
+// Each module's own number.
+fn themselves(alloc: Global, n: u32) -> Mem<Vec<u32>>
+    ensures long { IfOk result (λ list. length list.items ≡ n) }
+    ensures each { IfOk result (λ list. (k : ℕ) → k < n → get_or list.items k 0 ≡ k) }
+{
+    let mut list = Vec::with_capacity(alloc, n as usize)?;
+    for m in 0..n {
+        list.push(m)?;
+    }
+    Ok(list)
+}
+
 // Where one goes from each module: to its earliest upstream, other than itself, that is not placed, or to itself.
 fn nexts(alloc: Global, n: u32, edges: &[(u32, u32)], placed: &[bool]) -> Mem<Vec<u32>>
     requires edges { AreEdgesBelow n edges.now }
@@ -15,10 +27,7 @@ fn nexts(alloc: Global, n: u32, edges: &[(u32, u32)], placed: &[bool]) -> Mem<Ve
     ensures { (list : List ℕ) → ((m : ℕ) → has list m ≡ get_or placed.now m false) →
         IfOk result (λ nexts. Goes n edges.now list nexts.items) }
 {
-    let mut nexts = Vec::with_capacity(alloc, n as usize)?;
-    for m in 0..n {
-        nexts.push(m)?;
-    }
+    let mut nexts = themselves(alloc, n)?;
     for (m, upstream) in edges {
         let at = *m as usize;
         nexts[at] = next_of(*m, nexts[at], *upstream, placed[*upstream as usize]);

@@ -37,7 +37,10 @@ What Maven takes and this program doesn't, and what to do instead:
   clean           remove the folder .m2/repository of the project; there is no target
   site, deploy    nothing stands for them
   PLUGIN:GOAL     bind the goal to a phase in the POM
-  -o              leave it out: the remote repository is a folder, not a network
+  -o, -U, -nsu    leave them out: the remote repository is a folder, not a network
+  -q, -X, -e      leave them out: the report is all that is printed
+  -s FILE, -gs    leave them out: no settings are read
+  -N              write -pl .
   -f FILE         change to the folder of the POM
   -T 1C           write a number
   -pl !MODULE     name the modules that are wanted; none can be excluded

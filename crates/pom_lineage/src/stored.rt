@@ -216,7 +216,7 @@ fn from_parent<P: PomSource>(
 
 // What a POM builds on, by its parent.
 #[cycle(stored)]
-#[tactic(auto, using(pom_store::proofs::Kept::no_parent_kept))]
+#[tactic(auto, using(pom_store::proofs::Telling::untold, pom_store::proofs::Kept::no_parent_kept))]
 fn above<P: PomSource>(
     alloc: Global,
     store: &mut Store,

@@ -10,7 +10,9 @@ use real_devices::{Devices, RealGate, named_devices, standard_output};
 use std::alloc::Global;
 use std::sync::Wait;
 use std::thread::Threads;
-use surroundings::{asks_for_help, asks_for_version, words, write_help, write_version};
+use surroundings::{
+    asks_for_help, asks_for_version, machine, variables, words, write_help, write_version,
+};
 
 // The exit status behind a text of the program's own.
 fn status_of(written: Result<(), DeviceFault>) -> u8
@@ -70,23 +72,19 @@ where
     run_over(threads, alloc, words, machine, tree, shelf, hands, out)
 }
 
-// Builds the project in the current folder over these devices.
+// Builds the project in the current folder over these devices, for this machine.
 fn build_over<W: Threads + Wait + Sync, O: Sink>(
     threads: &W,
     alloc: Global,
     words: &[Bytes],
+    machine: Machine,
     devices: Devices<'_>,
     out: &mut O,
 ) -> u8
     requires { length devices.hands.items ≡ 16 }
     ensures { result ≤ 4 }
 {
-    let Devices {
-        tree,
-        shelf,
-        machine,
-        hands,
-    } = devices;
+    let Devices { tree, shelf, hands } = devices;
     let mut tree = tree;
     let mut hands = hands;
     run_goals(
@@ -103,8 +101,10 @@ fn build<W: Threads + Wait + Sync, O: Sink>(
 ) -> Mem<u8>
     ensures { IfOk result (λ status. status ≤ 4) }
 {
-    let devices = named_devices(rt)?;
-    Ok(build_over(threads, rt.alloc(), words, devices, out))
+    let variables = variables(rt, rt.alloc())?;
+    let machine = machine(rt.alloc(), &variables)?;
+    let devices = named_devices(rt, &variables)?;
+    Ok(build_over(threads, rt.alloc(), words, machine, devices, out))
 }
 
 // What the words ask for: the help, the version, or a build.

@@ -4,59 +4,44 @@ ghost use Rattle.real_devices.specs.Gates.{gate_program, named_program};
 
 use crate::hands::{RealHand, hands};
 use disk_reading::RealTree;
-use mvn_base::Machine;
 use mvn_shared::{Mem, Text};
 use outside_real::{RealShelf, RealSink};
 use std::collections::BTreeMap;
 use std::os::fd::AsFd;
 use std::process;
 use std::process::ChildStdin;
-use surroundings::{Places, machine, named_places, variables};
+use surroundings::{Places, named_places};
 
-/// The project in the current folder, the local repository, the hands, and what a project may ask of this machine.
+/// The project in the current folder, the local repository, and the hands.
 pub struct Devices<'a> {
     pub tree: RealTree<'a, HostRuntime>,
     pub shelf: RealShelf<'a, HostRuntime>,
-    pub machine: Machine,
     pub hands: Vec<RealHand<'a>>,
 }
 
-// The devices at these places, for this machine.
-fn devices_at<'a>(rt: &'a HostRuntime, places: Places, machine: Machine) -> Mem<Devices<'a>>
+// The devices at these places.
+fn devices_at<'a>(rt: &'a HostRuntime, places: &Places) -> Mem<Devices<'a>>
     ensures count { IfOk result (λ devices. length devices.hands.items ≡ 16) }
     ensures gates { IfOk result (λ devices. map (λ hand. gate_program hand.gate) devices.hands.items
-        ≡ replicate 16 (named_program places.program)) }
+        ≡ replicate 16 (named_program places.now.program)) }
 {
-    let hands = hands(rt, &places)?;
-    let Places {
-        project,
-        repository,
-        ..
-    } = places;
+    let folder = Text::from_str(rt.alloc(), ".")?;
+    let repository = places.repository.clone()?;
+    let hands = hands(rt, places)?;
     Ok(Devices {
-        tree: RealTree::new(rt, project),
+        tree: RealTree::new(rt, folder),
         shelf: RealShelf::new(rt, repository),
-        machine,
         hands,
     })
 }
 
-// The devices at the places that the variables name.
-fn devices_with<'a>(rt: &'a HostRuntime, variables: &BTreeMap<Text, Text>) -> Mem<Devices<'a>>
+/// The devices that these variables of the environment name, with 16 hands. Opens nothing. Costs a look at the variables. Project rule.
+pub fn named_devices<'a>(rt: &'a HostRuntime, variables: &BTreeMap<Text, Text>) -> Mem<Devices<'a>>
     ensures { IfOk result (λ devices. length devices.hands.items ≡ 16) }
 {
     let number = process::id(rt.process());
     let places = named_places(rt, rt.alloc(), number, variables)?;
-    let machine = machine(rt.alloc(), variables)?;
-    devices_at(rt, places, machine)
-}
-
-/// The devices that the environment names, with 16 hands. Opens nothing. Costs reading the environment.
-pub fn named_devices<'a>(rt: &'a HostRuntime) -> Mem<Devices<'a>>
-    ensures { IfOk result (λ devices. length devices.hands.items ≡ 16) }
-{
-    let variables = variables(rt, rt.alloc())?;
-    devices_with(rt, &variables)
+    devices_at(rt, &places)
 }
 
 /// Standard output, by a duplicate that is written without a signal where nobody reads: a closed pipe is then a fault. Nothing if there is

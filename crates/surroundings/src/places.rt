@@ -8,8 +8,6 @@ use std::rt::Clock;
 /// Folders and programs by name.
 #[derive(Drop)]
 pub struct Places {
-    /// The project: the current folder.
-    pub project: Text,
     /// The local repository.
     pub repository: Text,
     /// The folder that stands for a remote one.
@@ -27,13 +25,11 @@ pub fn named_places<R: Clock>(
     number: u32,
     variables: &BTreeMap<Text, Text>,
 ) -> Mem<Places> {
-    let project = Text::from_str(alloc, ".")?;
     let repository = variable_or(alloc, variables, "MVN_REPO", ".m2/repository")?;
     let remote = variable_or(alloc, variables, "MVN_REMOTE", ".m2/remote")?;
     let program = variable_or(alloc, variables, "MVN_GATE", "")?;
     let process = process_name(rt, alloc, number)?;
     Ok(Places {
-        project,
         repository,
         remote,
         program,

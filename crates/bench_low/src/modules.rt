@@ -21,21 +21,13 @@ fn print_list(rt: &HostRuntime, label: &str, list: &List<u32>) -> anyhow::Result
     Ok(())
 }
 
-// Adds so many soft edges of a module, to the modules behind it.
-fn push_soft(edges: &mut Vec<(u32, u32)>, m: u32, n: u32, count: u32) -> Result<(), AllocError>
-    requires { m < n }
-{
-    for k in 0..count {
-        edges.push((m, m.wrapping_add(k).wrapping_add(1) % n))?;
-    }
-    Ok(())
-}
-
 // So many soft edges of each module, to the modules behind it.
 fn soft_edges(alloc: Global, n: u32, count: u32) -> Result<Vec<(u32, u32)>, AllocError> {
     let mut edges = Vec::new(alloc);
     for m in 0..n {
-        push_soft(&mut edges, m, n, count)?;
+        for k in 0..count {
+            edges.push((m, m.wrapping_add(k).wrapping_add(1) % n))?;
+        }
     }
     Ok(edges)
 }

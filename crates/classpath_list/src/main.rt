@@ -93,22 +93,10 @@ fn print_files(
     Ok(())
 }
 
-fn print_winners(rt: &HostRuntime, winners: &[Resolved]) -> anyhow::Result<()> {
-    for winner in winners {
+fn print_resolved(rt: &HostRuntime, resolution: &Resolution) -> anyhow::Result<()> {
+    for winner in resolution.winners.as_slice() {
         print_winner(rt, winner)?;
     }
-    Ok(())
-}
-
-fn print_notes(rt: &HostRuntime, notes: &[Note]) -> anyhow::Result<()> {
-    for note in notes {
-        print_note(rt, note)?;
-    }
-    Ok(())
-}
-
-fn print_resolved(rt: &HostRuntime, resolution: &Resolution) -> anyhow::Result<()> {
-    print_winners(rt, resolution.winners.as_slice())?;
     print_path(rt, "compile", resolution, Kind::Compile)?;
     print_path(rt, "runtime", resolution, Kind::Runtime)?;
     print_path(rt, "test", resolution, Kind::Test)?;
@@ -116,7 +104,10 @@ fn print_resolved(rt: &HostRuntime, resolution: &Resolution) -> anyhow::Result<(
     if are_named(resolution.winners.as_slice()) {
         print_files(rt, resolution, &selected)?;
     }
-    print_notes(rt, resolution.notes.as_slice())
+    for note in resolution.notes.as_slice() {
+        print_note(rt, note)?;
+    }
+    Ok(())
 }
 
 fn print_fault(rt: &HostRuntime, fault: &MediationFault) -> anyhow::Result<()> {

@@ -62,6 +62,18 @@ another_user() {
   "${as_other[@]}" test -x "$mvn" || stop "no other user may enter $work: TMPDIR has to name a folder that all may enter"
 }
 
+# Makes two projects without modules in the current folder, `small` and `large`. The source of `large` has more bytes than two pipes hold.
+small_and_large() {
+  local project
+  mkdir -p small/src/main/resources large/src/main/resources
+  for project in small large; do
+    printf '%s' '<project><modelVersion>4.0.0</modelVersion><groupId>demo</groupId><artifactId>app</artifactId><version>1.0</version></project>' \
+      > "$project/pom.xml"
+  done
+  echo text > small/src/main/resources/text
+  head -c 1000000 /dev/zero | tr '\0' x > large/src/main/resources/text
+}
+
 # The last line of a script, and its status
 tell() {
   echo "$(basename "$0" .sh): $passed passed, $failed failed"

@@ -4,14 +4,8 @@
 . "$(dirname "$0")/cases.sh"
 find_program
 cd "$work" || exit 1
-mkdir -p bin small/src/main/resources large/src/main/resources
-for project in small large; do
-  printf '%s' '<project><modelVersion>4.0.0</modelVersion><groupId>demo</groupId><artifactId>app</artifactId><version>1.0</version></project>' \
-    > "$project/pom.xml"
-done
-echo text > small/src/main/resources/text
-# more than two pipes hold
-head -c 1000000 /dev/zero | tr '\0' x > large/src/main/resources/text
+mkdir bin
+small_and_large
 
 # the report where each goal is done, so that there is no jar
 ran=$'failed demo:app:1.0 no artifact\ntotal 1 built 0 failed 1 skipped 0\nstatus 1'

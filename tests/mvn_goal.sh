@@ -7,14 +7,7 @@ find_program
 mvn_goal=${MVN_GOAL:-$PWD/crates/mvn_goal/out/mvn_goal}
 [ -x "$mvn_goal" ] || stop "no $mvn_goal here: call (cd crates/mvn_goal && rt run) first"
 cd "$work" || exit 1
-mkdir -p small/src/main/resources large/src/main/resources
-for project in small large; do
-  printf '%s' '<project><modelVersion>4.0.0</modelVersion><groupId>demo</groupId><artifactId>app</artifactId><version>1.0</version></project>' \
-    > "$project/pom.xml"
-done
-echo text > small/src/main/resources/text
-# more than two pipes hold
-head -c 1000000 /dev/zero | tr '\0' x > large/src/main/resources/text
+small_and_large
 
 # The built-in goals as a child give the same files as in mvn itself: the jar is the digest of its goal's request, which has the outputs of
 # the goals before it.

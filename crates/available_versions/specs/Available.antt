@@ -5,6 +5,7 @@ use Rattle.std.specs.FinMap as map
 use Rattle.std.specs.Str.{bytes_eq}
 use Rattle.mvn_shared.specs.Files.{Files}
 use Rattle.mvn_base.specs.Names.{is_group, is_name}
+use Rattle.mvn_base.specs.Limits.{most_versions}
 use Rattle.mvn_outside.specs.Versions.{versions_of}
 use Rattle.model_types.specs.declared.model.Model.{Model}
 
@@ -17,7 +18,7 @@ each_once versions = map.keys (fold with_version map.empty versions)
 
 -- these, unless there are more than 4,096
 abbrev pub within_most : List (List ℕ) → Option (List (List ℕ))
-within_most versions = if nat_lt 4096 (length versions) then None else Some versions
+within_most versions = if nat_lt most_versions (length versions) then None else Some versions
 
 -- the version of a model, if it is of this artifact
 abbrev pub version_of : (group artifact : List ℕ) → Model → Option (List ℕ)

@@ -5,12 +5,14 @@ ghost use Rattle.mvn_outside.specs.Shelf.{files_now};
 ghost use Rattle.model_resolver.specs.Devices.{Counted, IsCounted};
 ghost use Rattle.library_lookup.specs.Faults.{lookup_failed};
 ghost use Rattle.available_versions.specs.Available.{available, each_once, joined, listed, version_of, with_version, within_most};
+ghost use Rattle.mvn_base.specs.Limits.{most_versions};
 
 use crate::listing::{local_versions, remote_versions};
 use library_lookup::LookupFault;
 use model_resolver::Failures;
 use model_types::Model;
-use mvn_outside::{MOST_VERSIONS, Remote, Shelf};
+use mvn_base::MOST_VERSIONS;
+use mvn_outside::{Remote, Shelf};
 use mvn_shared::{Bytes, FileMap, List, Mem, Shared, Text};
 use std::alloc::Global;
 
@@ -91,7 +93,7 @@ fn each_once(
 // Versions, unless there are too many.
 fn within_most(all: List<Text>) -> Versions
     ensures is { result ≡ within_most all }
-    ensures few { IfSome result (λ list. length list ≤ 4096) }
+    ensures few { IfSome result (λ list. length list ≤ most_versions) }
 {
     if MOST_VERSIONS < all.len() {
         None
@@ -103,7 +105,7 @@ fn within_most(all: List<Text>) -> Versions
 // All versions, unless a repository has too many, or all together are too many.
 fn joined(alloc: Global, own: List<Text>, local: Versions, remote: Versions) -> Mem<Versions>
     ensures is { IfOk result (λ all. all ≡ joined own local remote) }
-    ensures few { IfOk result (λ all. IfSome all (λ list. length list ≤ 4096)) }
+    ensures few { IfOk result (λ all. IfSome all (λ list. length list ≤ most_versions)) }
 {
     let Some(local) = local else {
         return Ok(None);
@@ -127,7 +129,7 @@ fn with_remote<R: Remote>(
 ) -> Result<Versions, LookupFault>
     ensures tells { IfSome (R.files remote.old) (λ files. IfOk result (λ all.
         all ≡ joined own local (within_most (listed files group.now artifact.now)))) }
-    ensures few { IfOk result (λ all. IfSome all (λ list. length list ≤ 4096)) }
+    ensures few { IfOk result (λ all. IfSome all (λ list. length list ≤ most_versions)) }
     ensures same { R.files remote.new ≡ R.files remote.old }
     ensures counted { (tree shelf : ℕ) → Counted failures.old.first failures.new.first
         (record { tree = tree; shelf = shelf; remote = R.faults remote.old })
@@ -156,7 +158,7 @@ pub fn available<S: Shelf, R: Remote>(
     ensures tells { IfSome (S.told shelf.old) (λ told. IfSome (R.files remote.old) (λ files.
         IfOk result (λ all.
         all ≡ available (files_now told) files own.now group.now artifact.now))) }
-    ensures few { IfOk result (λ all. IfSome all (λ list. length list ≤ 4096)) }
+    ensures few { IfOk result (λ all. IfSome all (λ list. length list ≤ most_versions)) }
     ensures shelf { S.told shelf.new ≡ S.told shelf.old }
     ensures remote { R.files remote.new ≡ R.files remote.old }
     ensures counted { (tree : ℕ) → Counted failures.old.first failures.new.first

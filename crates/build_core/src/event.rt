@@ -25,7 +25,7 @@ pub enum Event {
 }
 
 /// What a goal of a module answered, as it is kept.
-#[derive(Clone, Drop)]
+#[derive(Drop)]
 pub struct Answered {
     pub module: u32,
     pub goal: u32,

@@ -66,7 +66,7 @@ pub enum Origin {
 }
 
 /// An entry of a module's classpaths.
-#[derive(Clone, Drop)]
+#[derive(Drop)]
 pub struct Entry {
     pub name: FileName,
     /// Whether it is on the classpath of the main sources.

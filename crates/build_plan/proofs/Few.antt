@@ -10,7 +10,7 @@ use Rattle.mvn_base.specs.declared.gav.Gav.{Gav}
 use Rattle.mvn_base.specs.declared.phase.Phase.{Phase}
 use Rattle.cli_words.specs.declared.command_line.CommandLine.{CommandLine}
 use Rattle.plan_files.specs.Numbers.{ascending, fetch_locks, locks_of, number_of, numbers_of, plan_files, plan_names, with_text, with_texts}
-use Rattle.plan_parts.specs.Plans.{IsNumbered, all_events, events_of, module_of, plan_modules, plan_with}
+use Rattle.plan_parts.specs.Plans.{IsNumbered, all_events, events_of, module_of, most_events, plan_modules, plan_with}
 use Rattle.plan_files.specs.Uses.{gavs}
 use Rattle.plan_files.specs.declared.selected.Planned.{Planned}
 use Rattle.plan_files.specs.declared.selected.SelectedModule.{SelectedModule}
@@ -72,11 +72,11 @@ numbered_few phase workers modules p numbered = subst (λ (q : Planned). length 
 -- so a plan has few events, and few names
 pub few_events : (line : CommandLine) (p : Planned) → IsPlan line p → p.plan.events < 2 ^ 32
 few_events line p is =
-    let most : p.plan.events ≤ 4194304 = is.few in
+    let most : p.plan.events ≤ most_events = is.few in
     omega (arith, most)
 
 pub few_names : (line : CommandLine) (p : Planned) → IsPlan line p → length p.plan.names < 2 ^ 32
 few_names line p is =
     let names : length p.plan.names ≤ p.plan.events = numbered_few line.phase line.workers is.modules p is.numbered in
-    let most : p.plan.events ≤ 4194304 = is.few in
+    let most : p.plan.events ≤ most_events = is.few in
     omega (arith, names, most)

@@ -30,7 +30,7 @@ use Rattle.reactor_modules.specs.declared.modules.ReactorModules.{ReactorModules
 use Rattle.reactor_modules.specs.declared.modules.ReactorFault.{ReactorFault}
 use Rattle.reactor_modules.specs.declared.modules.ReactorFault.TheVariants as reactor
 use Rattle.module_sources.specs.Modules.{module_sources}
-use Rattle.plan_parts.specs.Plans.{IsNumbered, numbered, present_in}
+use Rattle.plan_parts.specs.Plans.{IsNumbered, most_events, numbered, present_in}
 use Rattle.plan_files.specs.declared.selected.Planned.{Planned}
 use Rattle.plan_files.specs.declared.selected.SelectedModule.{SelectedModule}
 use Rattle.plan_law.specs.Ready.{AreOrdered}
@@ -133,7 +133,7 @@ pub record IsPlan (line : CommandLine) (p : Planned) : Type 0 where
   pub ordered : AreOrdered line.workers modules
   pub numbered : IsNumbered line.phase line.workers modules p
   pub sound : IsSoundPlan p.plan
-  pub few : p.plan.events ≤ 4194304
+  pub few : p.plan.events ≤ most_events
 
 -- a plan says of each of its files whether the local repository has it, wherever that tells
 abbrev pub KnowsFiles : Option ShelfTold → Planned → Type 0

@@ -9,6 +9,7 @@ use Rattle.mvn_base.specs.declared.phase.Phase.{Phase}
 use Rattle.mvn_base.specs.declared.phase.Phase.TheVariants.{Deploy}
 use Rattle.cli_words.specs.declared.command_line.Word.{Word}
 use Rattle.mvn_base.specs.declared.machine.Choice.{Choice}
+use Rattle.mvn_base.specs.Limits.{most_modules}
 use Rattle.cli_words.specs.declared.command_line.CommandLine.{CommandLine}
 use Rattle.cli_words.specs.declared.fault.WordKind.TheVariants.{UnknownWord, UnknownPhase, MissingValue, BadNumber, Repeated, TwoPhases, NoPhase, BadSelector, TooManyWorkers, DeployPhase, NotUtf8}
 use Rattle.cli_words.specs.declared.fault.WordKind.{WordKind}
@@ -120,7 +121,7 @@ with_generated at value line = by (number value)
   where
     by : Option ℕ → Result Line WordFault
     by None = fault at BadNumber
-    by (Some n) = if nat_lt 1024 n then fault at BadNumber else Ok (record line { generated = Some n })
+    by (Some n) = if nat_lt (1 + most_modules) n then fault at BadNumber else Ok (record line { generated = Some n })
 
 unfoldable pub with_value : ℕ → Wanted → List ℕ → Line → Result Line WordFault
 with_value at Workers value line = with_workers at value line

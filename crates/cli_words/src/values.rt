@@ -9,7 +9,7 @@ use crate::fault::{WordError, WordKind, fault};
 use crate::line::{Count, Line};
 use crate::spelling::Wanted;
 use crate::value::{is_bad_selector, items, name_of, number, trimmed, value_of};
-use mvn_base::{Choice, Pair};
+use mvn_base::{Choice, MOST_MODULES, Pair};
 use mvn_shared::{List, Mem, Text};
 use std::alloc::Global;
 
@@ -45,7 +45,7 @@ impl Line {
         ensures { Answers (with_generated at value.now self) result }
     {
         match number(value.as_bytes()) {
-            Some(poms) if poms <= 1024 => {
+            Some(poms) if poms <= 1 + MOST_MODULES => {
                 self.generated = Some(poms);
                 Ok(self)
             }

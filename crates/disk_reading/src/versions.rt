@@ -1,7 +1,7 @@
 // The versions of an artifact in a repository on a disk.
 ghost use Rattle.std.specs.Prelude.{◌≡◌, ◌≤◌, true, length, IfOk};
 ghost use Rattle.mvn_base.specs.Names.{is_group, is_name};
-ghost use Rattle.mvn_outside.specs.Versions.{most_versions};
+ghost use Rattle.mvn_base.specs.Limits.{most_versions};
 
 use crate::fault::fault_of;
 use crate::look::{entries_of, is_file, is_folder};

@@ -8,7 +8,7 @@ use mvn_base::{MAVEN_PLUGINS, Phase};
 
 /// What a goal does by default: the phase that its executions are bound to, the slot of its output, and the classpath
 /// that it is given.
-#[derive(Clone, Copy, PartialEq, Eq)]
+#[derive(Clone, Copy)]
 pub struct GoalRule {
     /// None where an execution must name its phase.
     pub phase: Option<Phase>,

@@ -120,7 +120,8 @@ impl Others {
     fn next(self, alloc: Global, keys: &HashSet<Key>, plugin: Shared<Plugin>) -> Mem<Others>
         ensures { (parent done : Items plugins.Plugin) → HasKeys parent keys.now →
             Stands parent done self.before self.last.items
-            → IfOk result (λ others. Stands parent (done ++ plugin ∷ []) others.before others.last.items) }
+            → IfOk result (λ others.
+                Stands parent (done ++ plugin ∷ []) others.before others.last.items) }
     {
         let key = plugin.key(alloc)?;
         if keys.contains(&key) {

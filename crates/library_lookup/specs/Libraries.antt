@@ -56,10 +56,14 @@ required libraries key (Err place) = Err (EmptyRange, key_text key)
 unfoldable pub picked : Libraries → Edge → Result (List ℕ) Reason
 picked libraries e = required libraries e.key (requirement e.requirement)
 
+-- artifacts of one dependency graph
+abbrev pub most_winners : ℕ
+most_winners = 16384
+
 -- the version of the winner at a place, where there is room for it
 unfoldable pub chosen : Libraries → ℕ → Edge → Result (List ℕ) Reason
 chosen libraries place e =
-    if nat_lt place 16384 then picked libraries e else Err (GraphTooLarge, codes "keys")
+    if nat_lt place most_winners then picked libraries e else Err (GraphTooLarge, codes "keys")
 
 -- the coordinate of a version, and what its POM declares
 abbrev pub gav_of : Key → List ℕ → Gav

@@ -3,6 +3,7 @@ ghost use Rattle.mvn_shared.specs.Cause.{HasCause};
 ghost use Rattle.library_lookup.specs.Faults.{Says, is_faulty, lookup_failed};
 ghost use Rattle.library_lookup.specs.Libraries.{Libraries};
 ghost use Rattle.library_lookup.specs.Telling.{TellsOn};
+ghost use Rattle.mvn_base.specs.Limits.{most_versions};
 
 use crate::fault::MediationFault;
 use crate::library::Library;
@@ -57,7 +58,7 @@ pub trait Lookup {
     fn versions(&mut self, group: &Text, artifact: &Text) -> Result<Option<List<Text>>, LookupFault>
         ensures tells { (libraries : Libraries) → fits self.old libraries
             → IfOk result (λ list. list ≡ libraries.versions group.now artifact.now) }
-        ensures few { IfOk result (λ list. IfSome list (λ all. length all ≤ 4096)) }
+        ensures few { IfOk result (λ list. IfSome list (λ all. length all ≤ most_versions)) }
         ensures same { (libraries : Libraries) → fits self.old libraries → fits self.new libraries }
         ensures alike { tells_same self.old self.new }
         ensures cause { HasCause (faults self.old) (faults self.new) (lookup_failed result) };
@@ -89,7 +90,7 @@ pub fn ask_versions<L: Lookup>(
 ) -> Result<Option<List<Text>>, MediationFault>
     ensures tells { (libraries : Libraries) → L.fits lookup.old libraries
         → Says (Ok (libraries.versions group.now artifact.now)) result }
-    ensures few { IfOk result (λ list. IfSome list (λ all. length all ≤ 4096)) }
+    ensures few { IfOk result (λ list. IfSome list (λ all. length all ≤ most_versions)) }
     ensures same { (libraries : Libraries) → L.fits lookup.old libraries
         → L.fits lookup.new libraries }
     ensures alike { TellsOn L.tells_same lookup.old lookup.new }

@@ -11,4 +11,4 @@ pub use fault::MediationFault;
 pub use jars::{Jars, jar_with, jars_of};
 pub use known::{Known, Lookup, LookupFault, ask_model, ask_versions};
 pub use library::Library;
-pub use pick::chosen;
+pub use pick::{MOST_WINNERS, chosen};

@@ -4,7 +4,8 @@ ghost use Rattle.mvn_base.specs.declared.rule.Rule.TheVariants.{EmptyRange, Grap
 ghost use Rattle.mvn_shared.specs.Cause.{HasCause};
 ghost use Rattle.library_lookup.specs.Faults.{Says, is_faulty};
 ghost use Rattle.library_lookup.specs.Telling.{TellsOn};
-ghost use Rattle.library_lookup.specs.Libraries.{Libraries, among, chosen, found, highest, picked};
+ghost use Rattle.library_lookup.specs.Libraries.{Libraries, among, chosen, found, highest, most_winners, picked};
+ghost use Rattle.mvn_base.specs.Limits.{most_versions};
 
 use crate::fault::MediationFault;
 use crate::known::{Lookup, ask_versions};
@@ -15,7 +16,7 @@ use std::alloc::Global;
 use version_order::{Requirement, RequirementError, Version};
 
 /// The greatest number of winners of one project. Project rule.
-const MOST_WINNERS: usize = 16_384;
+pub const MOST_WINNERS: usize = 16_384;
 
 // The versions of texts.
 fn parsed(alloc: Global, texts: &[Text]) -> Mem<Vec<Version>>
@@ -31,7 +32,7 @@ fn parsed(alloc: Global, texts: &[Text]) -> Mem<Vec<Version>>
 // The greatest admitted version, the first among equals.
 #[tactic(auto, using(crate::proofs::Greatest::highest_there, crate::proofs::Greatest::highest_missing))]
 fn highest(alloc: Global, requirement: &Requirement, texts: &[Text]) -> Mem<Option<Text>>
-    requires { length texts.now ≤ 4096 }
+    requires { length texts.now ≤ most_versions }
     ensures { IfOk result (λ best. best ≡ highest requirement.now texts.now) }
 {
     let versions = parsed(alloc, texts)?;
@@ -105,7 +106,7 @@ fn among(
     requirement: &Requirement,
     list: Option<List<Text>>,
 ) -> Result<Text, MediationFault>
-    requires { IfSome list (λ all. length all ≤ 4096) }
+    requires { IfSome list (λ all. length all ≤ most_versions) }
     ensures says { Says (among key.now requirement.now list) result }
     ensures blameless { is_faulty result ≡ false }
 {
@@ -173,7 +174,7 @@ pub fn chosen<L: Lookup>(
         → L.fits lookup.new libraries }
     ensures alike { TellsOn L.tells_same lookup.old lookup.new }
     ensures cause { HasCause (L.faults lookup.old) (L.faults lookup.new) (is_faulty result) }
-    ensures room { OnOk result (place < 16384) }
+    ensures room { OnOk result (place < most_winners) }
 {
     if place < MOST_WINNERS {
         picked(alloc, lookup, edge)

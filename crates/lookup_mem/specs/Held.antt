@@ -9,6 +9,7 @@ use Rattle.library_lookup.specs.Libraries.{Libraries}
 use Rattle.library_lookup.specs.declared.known.Known.{Known}
 use Rattle.library_lookup.specs.declared.known.Known.TheVariants as known
 use Rattle.lookup_mem.specs.declared.libraries.MemLibraries.{MemLibraries}
+use Rattle.mvn_base.specs.Limits.{most_versions}
 
 -- the model of a coordinate's POM, and the versions under a name
 abbrev pub models_in : MemLibraries → Gav → Option Model
@@ -31,7 +32,7 @@ known_of (Some m) = known.Model m
 
 -- an artifact's versions, unless there are more than 4,096
 abbrev pub short : List (List ℕ) → Option (List (List ℕ))
-short list = if nat_lt 4096 (length list) then None else Some list
+short list = if nat_lt most_versions (length list) then None else Some list
 
 abbrev pub told_of : Option (List (List ℕ)) → Option (List (List ℕ))
 told_of None = Some []

@@ -1,9 +1,10 @@
 ghost use Rattle.std.specs.Prelude.{◌≡◌, ◌≤◌, ◌∷◌, ◌++◌, length, IfOk, IfSome};
 ghost use Rattle.std.specs.Option.{option_copied};
 ghost use Rattle.lookup_mem.specs.Held.{known_of, short, told_of};
+ghost use Rattle.mvn_base.specs.Limits.{most_versions};
 
 use library_lookup::{Known, Library};
-use mvn_outside::MOST_VERSIONS;
+use mvn_base::MOST_VERSIONS;
 use mvn_shared::{List, Mem, Text};
 use std::alloc::Global;
 
@@ -30,7 +31,7 @@ pub fn known(found: Option<&Library>) -> Mem<Known>
 // A copy of a list, unless it is too long.
 fn short(list: &List<Text>) -> Mem<Option<List<Text>>>
     ensures same { IfOk result (λ copy. copy ≡ short list.now) }
-    ensures few { IfOk result (λ copy. IfSome copy (λ all. length all ≤ 4096)) }
+    ensures few { IfOk result (λ copy. IfSome copy (λ all. length all ≤ most_versions)) }
 {
     if MOST_VERSIONS < list.len() {
         return Ok(None);
@@ -41,7 +42,7 @@ fn short(list: &List<Text>) -> Mem<Option<List<Text>>>
 // What is told of an artifact's versions.
 pub fn told(alloc: Global, found: Option<&List<Text>>) -> Mem<Option<List<Text>>>
     ensures same { IfOk result (λ copy. copy ≡ told_of (option_copied found.entry)) }
-    ensures few { IfOk result (λ copy. IfSome copy (λ all. length all ≤ 4096)) }
+    ensures few { IfOk result (λ copy. IfSome copy (λ all. length all ≤ most_versions)) }
 {
     match found {
         Some(list) => short(list),

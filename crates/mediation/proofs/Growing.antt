@@ -9,7 +9,7 @@ use Rattle.library_lookup.specs.declared.fault.MediationFault.{MediationFault}
 use Rattle.library_lookup.specs.declared.fault.MediationFault.TheVariants.{Refused, Lookup, Memory}
 use Rattle.mediation.specs.declared.winner.Winner.{Winner}
 use Rattle.library_lookup.specs.Faults.{Reason, Says}
-use Rattle.library_lookup.specs.Libraries.{Libraries, chosen, gav_of, picked}
+use Rattle.library_lookup.specs.Libraries.{Libraries, chosen, gav_of, most_winners, picked}
 use Rattle.mediation.specs.Rows.{Adds, Grows, IsPicked, Leads, first_reason, paths_of, reason, reason_at, row_of, won_by}
 use Rattle.winner_law.specs.Winners.{Path, firsts, is_won, winner_of}
 use Rattle.mediation.proofs.Paths.{above_is, has_path, length_paths, path_more}
@@ -111,7 +111,7 @@ module _ (libraries : Libraries) where
 
   picks : (place : ℕ) (e : Edge) (version : List ℕ) → chosen libraries place e ≡ Ok version → picked libraries e ≡ Ok version
   unfolding chosen
-  picks place e version is = by (nat_lt place 16384) (GraphTooLarge, codes "keys") is
+  picks place e version is = by (nat_lt place most_winners) (GraphTooLarge, codes "keys") is
     where
       never : (r : Reason) → ◌≡◌ {A = Result (List ℕ) Reason} (Err r) (Ok version) → ⊥
       never r e = cc

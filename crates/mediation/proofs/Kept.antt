@@ -9,6 +9,7 @@ use Rattle.keyed_lists.specs.Keyed.{same_key}
 use Rattle.mvn_base.specs.declared.key.Key.{Key}
 use Rattle.mediation.specs.declared.winner.Winner.{Winner}
 use Rattle.mediation.specs.Rows.{place_of, row_of}
+use Rattle.library_lookup.specs.Libraries.{most_winners}
 
 -- where a test has a first place, what it finds stands there
 found_there : (p : Winner → Bool) (rows : List Winner) (b : Bool) → IfSome (cond b (Some (position_or_len p rows)) None) (λ i. slice_get rows i ≡ find p rows)
@@ -38,8 +39,8 @@ put_rows rows after w none is =
     is ∙ ap (λ b. if b then rows else rows ++ w ∷ []) (none_any (λ r. same_key w.edge.key r.edge.key) rows none)
 
 -- and there are no more than there may be
-pub put_few : (rows after : List Winner) (w : Winner) → row_of rows w.edge.key ≡ None → length rows < 16384 → after ≡ insert_key (λ a b. same_key a.edge.key b.edge.key) rows w → length after ≤ 16384
+pub put_few : (rows after : List Winner) (w : Winner) → row_of rows w.edge.key ≡ None → length rows < most_winners → after ≡ insert_key (λ a b. same_key a.edge.key b.edge.key) rows w → length after ≤ most_winners
 put_few rows after w none room is = few (length after) (ap length (put_rows rows after w none is) ∙ length-append rows (w ∷ []))
   where
-    few : (n : ℕ) → n ≡ length rows + length (w ∷ []) → n ≤ 16384
+    few : (n : ℕ) → n ≡ length rows + length (w ∷ []) → n ≤ most_winners
     few n is = omega (arith, room)

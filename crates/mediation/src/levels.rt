@@ -8,14 +8,14 @@ ghost use Rattle.collector.specs.Edges.{direct_edges, transitive_edges};
 ghost use Rattle.collector.specs.declared.edge.Edge as edge_rows;
 ghost use Rattle.mediation.specs.declared.winner.Winner as rows;
 ghost use Rattle.library_lookup.specs.Telling.{TellsOn};
-ghost use Rattle.library_lookup.specs.Libraries.{Libraries, declarations, gav_of, graph_of};
+ghost use Rattle.library_lookup.specs.Libraries.{Libraries, declarations, gav_of, graph_of, most_winners};
 ghost use Rattle.mediation.specs.Rows.{Adds, ArePlaced, IsPicked, IsPrefix, Leads, Resolves, edges_below, paths_of, place_of, row_of, won_by};
 ghost use Rattle.mediation.specs.Found.{ResolvesGraph, left_in};
 ghost use Rattle.winner_law.specs.Winners.{Path, longer};
 
 use crate::winner::{Winner, Winners};
 use collector::{Edge, Exclusions, direct_edges};
-use library_lookup::{Known, Lookup, MediationFault, ask_model, chosen};
+use library_lookup::{Known, Lookup, MOST_WINNERS, MediationFault, ask_model, chosen};
 use managed_deps::ManagedSet;
 use model_types::Dependency;
 use mvn_base::{Gav, Key};
@@ -48,7 +48,7 @@ fn push_winner(
     known: Known,
 ) -> Mem<()>
     requires new { row_of winners.old edge.now.key ≡ None }
-    requires room { length winners.old < 16384 }
+    requires room { length winners.old < most_winners }
     ensures more { OnOk result (winners.new ≡ winners.old ++ record {
       edge = edge.now;
       version = version;
@@ -76,7 +76,7 @@ fn add_winner<L: Lookup>(
     above: Option<usize>,
 ) -> Result<(), MediationFault>
     requires new { row_of winners.old edge.now.key ≡ None }
-    requires room { length winners.old < 16384 }
+    requires room { length winners.old < most_winners }
     ensures adds { (libraries : Libraries) → L.fits lookup.old libraries
         → OnOk result (winners.new ≡ winners.old ++ won_by libraries edge.now above version ∷ []) }
     ensures keeps { OnOk result (IsPrefix winners.old winners.new) }
@@ -321,12 +321,12 @@ fn add_level<L: Lookup>(
 
 // The room to begin with for the winners of a project, by the number of its declarations: a guess, and no more than there may be.
 fn room_for(declared: usize) -> usize
-    ensures { result ≡ (if nat_lt declared 1024 then 16 * declared else 16384) }
+    ensures { result ≡ (if nat_lt declared 1024 then 16 * declared else most_winners) }
 {
     if declared < 1024 {
         16 * declared
     } else {
-        16_384
+        MOST_WINNERS
     }
 }
 

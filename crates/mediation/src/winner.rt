@@ -1,6 +1,7 @@
 ghost use Rattle.std.specs.Prelude.{◌≡◌, ◌<◌, ◌≤◌, [], ◌∷◌, ◌++◌, None, Some, length, slice_get, IfOk, IfSome, OnOk};
 ghost use Rattle.std.specs.Option.{option_copied};
 ghost use Rattle.mediation.specs.Rows.{place_of, row_of};
+ghost use Rattle.library_lookup.specs.Libraries.{most_winners};
 
 use crate::row::{Row, Sought};
 use collector::Edge;
@@ -35,6 +36,7 @@ impl Model for Winners {
     ghost use Rattle.std.specs.Prelude.{◌≤◌, length};
     ghost use Rattle.std.specs.Coded.{codes};
     ghost use Rattle.mvn_base.specs.contracts.setting.Setting as settings;
+    ghost use Rattle.library_lookup.specs.Libraries.{most_winners};
     ghost use Rattle.mediation.specs.declared.winner.Winner as winners;
 
     ghost Value = { logic.List winners.Winner };
@@ -43,7 +45,7 @@ impl Model for Winners {
 
     ghost view = { λ w. w.index.keys };
 
-    ghost invariant = { λ w. length w.index.keys ≤ 16384 };
+    ghost invariant = { λ w. length w.index.keys ≤ most_winners };
 }
 
 impl Winners {
@@ -58,7 +60,7 @@ impl Winners {
     // One winner more, of a key that has none.
     pub(crate) fn push(&mut self, winner: Winner) -> Mem<()>
         requires new { row_of self.old winner.edge.key ≡ None }
-        requires room { length self.old < 16384 }
+        requires room { length self.old < most_winners }
         ensures more { OnOk result (self.new ≡ self.old ++ winner ∷ []) }
         ensures placed { OnOk result (place_of self.new winner.edge.key ≡ Some (length self.old)) }
     {
@@ -98,7 +100,7 @@ impl Winners {
     /// The number of winners.
     pub fn len(&self) -> usize
         ensures value { result ≡ length self.now }
-        ensures few { length self.now ≤ 16384 }
+        ensures few { length self.now ≤ most_winners }
     {
         self.index.len()
     }

@@ -1,6 +1,6 @@
 -- Where a POM is found: by its path in the project, and by its coordinates in the project first, then in the local repository, then
 -- in the remote one. Maven Model Builder, "Model resolving"; Maven's repository layout. The limit is a project rule.
-use Rattle.std.specs.Prelude.{◌≡◌, ℕ, Bool, ◌&&◌, nat_lt, List, [], codes, find, length, Option, None, option_map, replicate, if◌then◌else◌}
+use Rattle.std.specs.Prelude.{◌≡◌, ◌+◌, ℕ, Bool, ◌&&◌, nat_lt, List, [], codes, find, length, Option, None, option_map, replicate, if◌then◌else◌}
 use Rattle.std.specs.Option.{option_or}
 use Rattle.std.specs.Str.{bytes_eq}
 use Rattle.mvn_shared.specs.Files.{Files, file_at, is_there}
@@ -16,7 +16,7 @@ use Rattle.model_resolver.specs.declared.resolver.ProjectPom.{ProjectPom}
 
 -- what stands for a text that is too long for a POM: as many spaces as no POM has
 unfoldable pub oversized : List ℕ
-oversized = replicate 1048577 32
+oversized = replicate (1 + pom_limit) 32
 
 -- a POM's text, as far as one may be
 abbrev pub within_limit : List ℕ → List ℕ

@@ -7,7 +7,7 @@ ghost use Rattle.model_resolver.specs.Finding.{found_in_project, is_valid, overs
 
 use crate::poms::ProjectPoms;
 use crate::resolver::ProjectPom;
-use mvn_base::{Gav, PomId, valid_group, valid_name, valid_version};
+use mvn_base::{Gav, POM_LIMIT, PomId, valid_group, valid_name, valid_version};
 use mvn_shared::{Bytes, Mem, Text};
 use pom_source::Found;
 use std::alloc::Global;
@@ -24,7 +24,7 @@ fn spaces(alloc: Global, count: usize) -> Mem<Bytes>
 pub(crate) fn oversized(alloc: Global) -> Mem<Bytes>
     ensures { IfOk result (λ bytes. bytes ≡ oversized) }
 {
-    spaces(alloc, 1_048_577)
+    spaces(alloc, 1 + POM_LIMIT as usize)
 }
 
 /// Whether the names of a coordinate are valid.

@@ -6,7 +6,7 @@ use Rattle.mvn_base.specs.declared.machine.Pair.{Pair}
 use Rattle.mvn_base.specs.declared.rule.Rule.TheVariants.{TooLarge}
 use Rattle.expressions.specs.declared.part.Part.TheVariants.{Plain}
 use Rattle.expressions.specs.Parts.{cut, found, parts, parts_within, split}
-use Rattle.model_values.specs.Values.{◌>>=◌, Filled, filled_from, stands, value}
+use Rattle.model_values.specs.Values.{◌>>=◌, Filled, filled_from, longest, stands, value}
 use Rattle.model_values.specs.Texts.{first_name, name_of, text_of}
 use Rattle.model_values.proofs.Lists.{name_there}
 
@@ -44,10 +44,10 @@ one_piece text none = by (length text)
 
 module _ (text : List ℕ) (is : stands text ≡ true) where
   plain : parts text ≡ Plain text ∷ []
-  plain = one_piece text (uncut text (not_so (list_any (λ c. c == 36) text) (both_first (not (list_any (λ c. c == 36) text)) (not (nat_lt 65536 (length text))) is)))
+  plain = one_piece text (uncut text (not_so (list_any (λ c. c == 36) text) (both_first (not (list_any (λ c. c == 36) text)) (not (nat_lt longest (length text))) is)))
 
-  short : nat_lt 65536 (length text) ≡ false
-  short = not_so (nat_lt 65536 (length text)) (both_second (not (list_any (λ c. c == 36) text)) (not (nat_lt 65536 (length text))) is)
+  short : nat_lt longest (length text) ≡ false
+  short = not_so (nat_lt longest (length text)) (both_second (not (list_any (λ c. c == 36) text)) (not (nat_lt longest (length text))) is)
 
   -- and filled with any values it is itself
   pub text_stands : (known : List Pair) (place : List ℕ) → text_of known place text ≡ Ok text

@@ -20,9 +20,13 @@ abbrev pub ◌>>=◌ : {A B : Type 0} → Filled A → (A → Filled B) → Fill
 Ok x >>= f = f x
 Err e >>= f = Err e
 
+-- bytes of a text in which expressions are filled
+abbrev pub longest : ℕ
+longest = 65536
+
 -- a text that is no longer than a filled one may be
 abbrev pub limited : List ℕ → List ℕ → Filled (List ℕ)
-limited place text = if nat_lt 65536 (length text) then Err (TooLarge, place) else Ok text
+limited place text = if nat_lt longest (length text) then Err (TooLarge, place) else Ok text
 
 abbrev pub part_value : (List ℕ → Filled (List ℕ)) → Part → Filled (List ℕ)
 part_value value (Plain text) = Ok text
@@ -43,7 +47,7 @@ filled place value text = filled_from place value [] (parts text)
 
 -- a text that stands as it is written: no `$` is in it, and it isn't too long
 abbrev pub stands : List ℕ → Bool
-stands text = not (list_any (λ c. c == 36) text) && not (nat_lt 65536 (length text))
+stands text = not (list_any (λ c. c == 36) text) && not (nat_lt longest (length text))
 
 -- a name that is met again on its own way
 abbrev pub again : List ℕ → Filled (List ℕ)

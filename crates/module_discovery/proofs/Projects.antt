@@ -3,6 +3,7 @@ use Rattle.std.proofs.Common.{◌≡◌, ◌≤◌, ◌+◌, ◌⊎◌, inl, inr
 use Rattle.std.proofs.lemmas.List.{append_assoc, append-nil, length-append}
 use Rattle.mvn_base.specs.declared.refusal.PomId.TheVariants as ids
 use Rattle.mvn_base.specs.declared.rule.Rule.TheVariants.{DuplicateProject}
+use Rattle.mvn_base.specs.Limits.{most_modules}
 use Rattle.pom_paths.specs.Paths.{joined}
 use Rattle.pom_source.specs.Answers.{Built, ◌>>=◌}
 use Rattle.pom_source.specs.Chains.{bound, ok_is}
@@ -214,11 +215,11 @@ module _ (world : World) (given : Given) where
 
   pub is_project : (poms : List ModulePom) → discovered world given ≡ Ok poms → IsProject world given poms
   is_project poms e =
-      let b = bound (begun world given) (λ (p : Progress). collected world given 1023 p.found p.waiting) poms e in
+      let b = bound (begun world given) (λ (p : Progress). collected world given most_modules p.found p.waiting) poms e in
       let r = bound (root world) (with_pom world given [] []) b.0 b.1 in
       let own = bound (listed_by world given r.0) (λ modules. Ok (record { found = r.0 ∷ []; waiting = modules ++ [] })) b.0 r.2 in
       let at = root_is r.0 r.1 in
-      let whole : collected world given 1023 (r.0 ∷ []) own.0 ≡ Ok poms = subst (λ w. collected world given 1023 (r.0 ∷ []) w ≡ Ok poms) (append-nil own.0) (subst (λ (p : Progress). collected world given 1023 p.found p.waiting ≡ Ok poms) (sym (ok_is _ b.0 own.2)) b.2) in
-      let m = more_are 1023 (r.0 ∷ []) own.0 poms (one_more [] r.0 no_pom refl) whole in
-      let long : length (r.0 ∷ m.more) ≤ 1024 = omega (arith, m.few) in
-      record { root = r.0; own = own.0; rest = m.more; begins = m.is; at = at.0; is_read = at.1; lists = own.1; are_listed = m.are; apart = m.apart; few = subst (λ x. length x ≤ 1024) (sym m.is) long }
+      let whole : collected world given most_modules (r.0 ∷ []) own.0 ≡ Ok poms = subst (λ w. collected world given most_modules (r.0 ∷ []) w ≡ Ok poms) (append-nil own.0) (subst (λ (p : Progress). collected world given most_modules p.found p.waiting ≡ Ok poms) (sym (ok_is _ b.0 own.2)) b.2) in
+      let m = more_are most_modules (r.0 ∷ []) own.0 poms (one_more [] r.0 no_pom refl) whole in
+      let long : length (r.0 ∷ m.more) ≤ 1 + most_modules = omega (arith, m.few) in
+      record { root = r.0; own = own.0; rest = m.more; begins = m.is; at = at.0; is_read = at.1; lists = own.1; are_listed = m.are; apart = m.apart; few = subst (λ x. length x ≤ 1 + most_modules) (sym m.is) long }

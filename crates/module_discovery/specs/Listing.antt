@@ -1,6 +1,7 @@
 -- A project as its POMs list one another. Guide to Working with Multiple Modules.
-use Rattle.std.specs.Prelude.{◌≡◌, ◌≤◌, ◌⊎◌, ℕ, false, List, [], ◌∷◌, ◌++◌, length, None, Some, Ok}
+use Rattle.std.specs.Prelude.{◌≡◌, ◌≤◌, ◌+◌, ◌⊎◌, ℕ, false, List, [], ◌∷◌, ◌++◌, length, None, Some, Ok}
 use Rattle.mvn_base.specs.declared.refusal.PomId.TheVariants as ids
+use Rattle.mvn_base.specs.Limits.{most_modules}
 use Rattle.pom_paths.specs.Paths.{joined}
 use Rattle.pom_source.specs.Worlds.{World}
 use Rattle.pom_source.specs.declared.found.Given.{Given}
@@ -48,4 +49,4 @@ module _ (world : World) where
       pub lists : listed_by world given root ≡ Ok own
       pub are_listed : AreListed own rest
       pub apart : AreApart poms
-      pub few : length poms ≤ 1024
+      pub few : length poms ≤ 1 + most_modules

@@ -1,5 +1,6 @@
 ghost use Rattle.std.specs.Prelude.{◌≡◌, ◌≤◌, ◌+◌, ◌∷◌, ◌++◌, [], length, Ok, Some, IfOk};
 ghost use Rattle.mvn_shared.specs.Cause.{HasCause};
+ghost use Rattle.mvn_base.specs.Limits.{most_modules};
 ghost use Rattle.profile_activation.specs.Judging.{TellsOn};
 ghost use Rattle.pom_source.specs.Answers.{Says, build_failed};
 ghost use Rattle.pom_source.specs.Worlds.{World};
@@ -9,13 +10,11 @@ ghost use Rattle.pom_store.specs.Stores.{Holds, KeepsLines, KeepsRead};
 ghost use Rattle.module_poms.specs.Discovery.{begun, collected, discovered, with_module, with_none, with_pom};
 
 use module_poms::{FoundPoms, Listed, ModulePom, Progress, Waiting, listed_by, named, root};
+use mvn_base::MOST_MODULES;
 use mvn_shared::{List, Mem};
 use pom_source::{BuildFault, Given, PomSource};
 use pom_store::Store;
 use std::alloc::Global;
-
-/// The modules that may come besides the root. Project rule.
-const MOST_BESIDES: u32 = 1_023;
 
 // One POM more, whose modules come before those that wait.
 fn put(found: FoundPoms, waiting: Waiting, pom: ModulePom, modules: List<Listed>) -> Mem<Progress>
@@ -146,9 +145,9 @@ fn collected<P: PomSource>(
     progress: Progress,
 ) -> Result<List<ModulePom>, BuildFault>
     ensures says { (world : World) → P.fits_poms source.old world → Holds world given.now store.old
-        → Says (collected world given.now 1023 progress.found progress.waiting) result }
+        → Says (collected world given.now most_modules progress.found progress.waiting) result }
     ensures any { IfOk result (λ list. length progress.found ≤ length list) }
-    ensures few { IfOk result (λ list. length list ≤ length progress.found + 1023) }
+    ensures few { IfOk result (λ list. length list ≤ length progress.found + most_modules) }
     ensures fit { (world : World) → P.fits_poms source.old world → P.fits_poms source.new world }
     ensures same { TellsOn P.tells_same source.old source.new }
     ensures holds { (world : World) → P.fits_poms source.old world → Holds world given.now store.old
@@ -158,7 +157,7 @@ fn collected<P: PomSource>(
     ensures cause { HasCause (P.faults source.old) (P.faults source.new) (build_failed result) }
 {
     let mut progress = progress;
-    for _ in 0..MOST_BESIDES {
+    for _ in 0..MOST_MODULES {
         let Progress { found, waiting } = progress;
         let Some((listed, waiting)) = waiting.next() else {
             return Ok(found.into_list());
@@ -219,7 +218,7 @@ pub fn discover<P: PomSource>(
     ensures says { (world : World) → P.fits_poms source.old world → Holds world given.now store.old
         → Says (discovered world given.now) result }
     ensures any { IfOk result (λ list. 1 ≤ length list) }
-    ensures few { IfOk result (λ list. length list ≤ 1024) }
+    ensures few { IfOk result (λ list. length list ≤ 1 + most_modules) }
     ensures fit { (world : World) → P.fits_poms source.old world → P.fits_poms source.new world }
     ensures same { TellsOn P.tells_same source.old source.new }
     ensures holds { (world : World) → P.fits_poms source.old world → Holds world given.now store.old

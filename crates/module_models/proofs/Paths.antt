@@ -6,6 +6,7 @@ use Rattle.std.specs.List.{AllByRecursion}
 use Rattle.std.specs.Option.{option_or}
 use Rattle.std.specs.Str.{bytes_eq}
 use Rattle.mvn_shared.specs.Files.{Files}
+use Rattle.mvn_base.specs.Limits.{most_modules}
 use Rattle.pom_source.specs.Chains.{bound, goes_on, ok_is}
 use Rattle.pom_source.specs.Worlds.{World}
 use Rattle.pom_source.specs.declared.found.Given.{Given}
@@ -86,7 +87,7 @@ as_many found poms own = ap length own ∙ length-map found with_own_text
 pub some_poms : (found : List ModulePom) (poms : List ProjectPom) → poms ≡ map with_own_text found → 1 ≤ length found → 1 ≤ length poms
 some_poms found poms own any = let many = as_many found poms own in omega (arith, many, any)
 
-pub few_poms : (found : List ModulePom) (poms : List ProjectPom) → poms ≡ map with_own_text found → length found ≤ 1024 → length poms ≤ 1024
+pub few_poms : (found : List ModulePom) (poms : List ProjectPom) → poms ≡ map with_own_text found → length found ≤ 1 + most_modules → length poms ≤ 1 + most_modules
 few_poms found poms own few = let many = as_many found poms own in omega (arith, many, few)
 
 -- and a world in which they are found by their coordinates has the same POMs at their paths

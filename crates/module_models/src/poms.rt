@@ -1,6 +1,7 @@
 // The POMs of a project, with their coordinates and their texts.
-ghost use Rattle.std.specs.Prelude.{◌≡◌, ◌≤◌, length, map, IfOk};
+ghost use Rattle.std.specs.Prelude.{◌≡◌, ◌≤◌, ◌+◌, length, map, IfOk};
 ghost use Rattle.mvn_shared.specs.Cause.{HasCause};
+ghost use Rattle.mvn_base.specs.Limits.{most_modules};
 ghost use Rattle.profile_activation.specs.Judging.{TellsOn};
 ghost use Rattle.pom_source.specs.Answers.{Says, build_failed};
 ghost use Rattle.pom_source.specs.Worlds.{World};
@@ -49,7 +50,7 @@ pub fn project_poms<P: PomSource>(
     ensures says { (world : World) → P.fits_poms source.old world → Holds world given.now store.old
         → Says (project_poms world given.now) result }
     ensures any { IfOk result (λ poms. 1 ≤ length poms) }
-    ensures few { IfOk result (λ poms. length poms ≤ 1024) }
+    ensures few { IfOk result (λ poms. length poms ≤ 1 + most_modules) }
     ensures same { TellsOn P.tells_same source.old source.new }
     ensures holds { (world : World) → P.fits_poms source.old world → Holds world given.now store.old
         → Holds world given.now store.new }

@@ -6,6 +6,7 @@ use Rattle.mvn_base.specs.Names.{has_expression}
 use Rattle.mvn_base.specs.declared.refusal.PomId.TheVariants as ids
 use Rattle.mvn_base.specs.declared.rule.Rule.{Rule}
 use Rattle.mvn_base.specs.declared.rule.Rule.TheVariants.{AggregatorPackaging, DuplicateProject, ModuleNotFound, TooLarge, Unresolved}
+use Rattle.mvn_base.specs.Limits.{most_modules}
 use Rattle.model_types.specs.declared.model.RawModel.{RawModel}
 use Rattle.pom_paths.specs.Paths.{joined}
 use Rattle.profile_activation.specs.Activation.{folder_of}
@@ -123,4 +124,4 @@ module _ (world : World) where
 
     -- all POMs of the project
     abbrev pub discovered : Built (List ModulePom)
-    discovered = begun >>= (λ p. collected 1023 p.found p.waiting)
+    discovered = begun >>= (λ p. collected most_modules p.found p.waiting)

@@ -20,3 +20,11 @@ most_output = 67108864
 -- bytes of a module's sources together
 abbrev pub most_sources : ℕ
 most_sources = 268435456
+
+-- versions of an artifact that a listing gives
+abbrev pub most_versions : ℕ
+most_versions = 4096
+
+-- POMs of a project besides its root's
+abbrev pub most_modules : ℕ
+most_modules = 1023

@@ -6,7 +6,7 @@ use std::alloc::{AllocError, Global};
 use std::fmt;
 
 /// A coordinate: group, artifact and version. POM Reference, "Maven Coordinates".
-#[derive(Debug, Drop, PartialEq, Eq, PartialOrd, Ord, Hash)]
+#[derive(Debug, Drop, PartialEq, Eq, Hash)]
 pub struct Gav {
     pub group: Text,
     pub artifact: Text,

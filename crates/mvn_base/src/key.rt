@@ -7,7 +7,7 @@ use std::alloc::Global;
 
 /// What tells one dependency of a POM from another: group, artifact, type and classifier. POM Reference, "Dependency
 /// Management".
-#[derive(Clone, Drop, PartialEq, Eq, PartialOrd, Ord, Hash)]
+#[derive(Clone, Drop, PartialEq, Eq, Hash)]
 pub struct Key {
     pub group: Text,
     pub artifact: Text,

@@ -14,3 +14,9 @@ pub const MOST_OUTPUT: u64 = 67_108_864;
 
 /// The greatest number of bytes of a module's sources together. Project rule.
 pub const MOST_SOURCES: u64 = 268_435_456;
+
+/// The greatest number of versions of an artifact that a listing gives. Project rule.
+pub const MOST_VERSIONS: usize = 4096;
+
+/// The greatest number of POMs of a project besides its root's. Project rule.
+pub const MOST_MODULES: u32 = 1_023;

@@ -5,7 +5,7 @@ use mvn_shared::{Mem, Text};
 use std::alloc::Global;
 
 /// What a dependency's type says of its file. POM Reference, "Dependencies".
-#[derive(Clone, Drop, PartialEq, Eq)]
+#[derive(Drop)]
 pub struct TypeRule {
     /// The extension of the file's name.
     pub extension: Text,

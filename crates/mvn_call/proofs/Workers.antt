@@ -7,6 +7,7 @@ use Rattle.std.proofs.lemmas.Bool.Decides.{nat_tests}
 use Rattle.mvn_base.specs.Phase.{phase_of}
 use Rattle.mvn_base.specs.declared.phase.Phase.{Phase}
 use Rattle.mvn_base.specs.declared.phase.Phase.TheVariants.{Validate, Initialize, GenerateSources, ProcessSources, GenerateResources, ProcessResources, Compile, ProcessClasses, GenerateTestSources, ProcessTestSources, GenerateTestResources, ProcessTestResources, TestCompile, ProcessTestClasses, Test, PreparePackage, Package, PreIntegrationTest, IntegrationTest, PostIntegrationTest, Verify, Install, Deploy}
+use Rattle.mvn_base.specs.Limits.{most_modules}
 use Rattle.cli_words.specs.declared.command_line.CommandLine.{CommandLine}
 use Rattle.cli_words.specs.declared.fault.WordFault.{WordFault}
 use Rattle.cli_words.specs.declared.fault.WordKind.TheVariants.{BadNumber, DeployPhase, MissingValue, NoPhase, NotUtf8, Repeated, TooManyWorkers, TwoPhases, UnknownPhase, UnknownWord}
@@ -86,7 +87,7 @@ keeps_generated : (at : ℕ) (value : List ℕ) (line : Line) (o : Option ℕ) �
 keeps_generated at value line None e ok =
     let is : with_generated at value line ≡ fault at BadNumber = rw e refl in subst Keeps (sym is) tt
 keeps_generated at value line (Some n) e ok =
-    let is : with_generated at value line ≡ (if nat_lt 1024 n then fault at BadNumber else Ok (record line { generated = Some n })) = rw e refl in subst Keeps (sym is) (keeps_if (nat_lt 1024 n) _ _ tt ok)
+    let is : with_generated at value line ≡ (if nat_lt (1 + most_modules) n then fault at BadNumber else Ok (record line { generated = Some n })) = rw e refl in subst Keeps (sym is) (keeps_if (nat_lt (1 + most_modules) n) _ _ tt ok)
 
 keeps_value : (at : ℕ) (wanted : Wanted) (value : List ℕ) (line : Line) → AtLeastOne line → Keeps (with_value at wanted value line)
 unfolding with_value

@@ -4,16 +4,13 @@ use Rattle.std.specs.List.{filter_map}
 use Rattle.std.specs.FinMap as map
 use Rattle.mvn_shared.specs.Files.{Files}
 use Rattle.mvn_base.specs.FileName.{version_in}
+use Rattle.mvn_base.specs.Limits.{most_versions}
 use Rattle.mvn_outside.specs.declared.fault.ListFault.{ListFault}
 use Rattle.mvn_outside.specs.declared.fault.ListFault.TheVariants as list
 
 -- the valid versions whose POMs are there, in the order of the POMs' names
 abbrev pub versions_of : Files → List ℕ → List ℕ → List (List ℕ)
 versions_of files group artifact = filter_map (version_in group artifact) (map.keys files)
-
--- how many versions a listing may have
-abbrev pub most_versions : ℕ
-most_versions = 4096
 
 -- a listing of these: all of them, or too many exactly where there are more
 abbrev pub ListsAll : List (List ℕ) → Result (List (List ℕ)) ListFault → Type 0

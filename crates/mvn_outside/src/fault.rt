@@ -4,14 +4,14 @@ use std::fmt;
 
 /// Why a device gave no answer: it failed, or memory ran out. A device is any object outside: the project's folder, the
 /// repository, a staging area, the output, and what runs the goals.
-#[derive(Clone, Copy, Debug, PartialEq, Eq)]
+#[derive(Clone, Copy, Debug)]
 pub enum DeviceFault {
     Failed,
     Memory,
 }
 
 /// Why a file wasn't read: the device failed, the file has more bytes than the caller takes, or memory ran out.
-#[derive(Clone, Copy, Debug, PartialEq, Eq)]
+#[derive(Clone, Copy, Debug)]
 pub enum ReadFault {
     Failed,
     TooLarge,
@@ -19,7 +19,7 @@ pub enum ReadFault {
 }
 
 /// Why names weren't listed: the device failed, there are more than the caller takes, or memory ran out.
-#[derive(Clone, Copy, Debug, PartialEq, Eq)]
+#[derive(Clone, Copy, Debug)]
 pub enum ListFault {
     Failed,
     TooMany,

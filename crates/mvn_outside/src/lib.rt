@@ -21,4 +21,4 @@ pub use remote::Remote;
 pub use shelf::{Published, Shelf, ShelfTold};
 pub use sink::{Sink, write_all};
 pub use tree::Tree;
-pub use versions::{MOST_VERSIONS, list_versions};
+pub use versions::list_versions;

@@ -14,7 +14,7 @@ use mvn_base::FileName;
 use mvn_shared::{Bytes, FileMap, List, Text};
 
 /// A publish: a name, and the bytes that it was given.
-#[derive(Clone, Drop, PartialEq, Eq)]
+#[derive(Drop)]
 pub struct Published {
     pub name: FileName,
     pub bytes: Bytes,

@@ -7,12 +7,9 @@ ghost use Rattle.mvn_base.specs.FileName.{version_in};
 ghost use Rattle.mvn_base.specs.Names.{is_group, is_name};
 
 use crate::fault::ListFault;
-use mvn_base::version_in;
+use mvn_base::{MOST_VERSIONS, version_in};
 use mvn_shared::{List, Mem, Text};
 use std::alloc::Global;
-
-/// The greatest number of versions of an artifact that a listing gives. Project rule.
-pub const MOST_VERSIONS: usize = 4096;
 
 // The versions whose POMs have these names, in their order.
 fn versions_among(alloc: Global, names: &[Text], group: &Text, artifact: &Text) -> Mem<Vec<Text>>

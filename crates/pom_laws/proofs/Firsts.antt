@@ -5,7 +5,7 @@ use Rattle.std.proofs.lemmas.Bool.{false≢true}
 use Rattle.std.proofs.lemmas.Slice.Eq.{bytes_eq-Decides}
 use Rattle.mvn_base.specs.declared.rule.Rule.TheVariants.{TooLarge, RootNotProject, RepeatedElement, MissingField, CombineAttribute}
 use Rattle.pom_text.specs.declared.node.Node.{Node}
-use Rattle.pom_table.specs.Faults.{among, at_path, begun, child_fault, combines, count_read, ended, fault_within, first_fault, has_name, is_alone, is_missing, is_repeated, missing, or, read_child, root_fault, under, version_fault}
+use Rattle.pom_table.specs.Faults.{among, at_path, begun, child_fault, combines, count_read, ended, fault_within, first_fault, has_name, is_alone, is_missing, is_repeated, missing, most_items, or, read_child, root_fault, under, version_fault}
 use Rattle.pom_table.specs.Table.{Row, kind_number, table}
 use Rattle.pom_laws.specs.Breaks.{Breaks, IsWrong, Kind, Told, first_kind, of_text, on_element, IsWrongAbove, element_at, read_before, step_to, no_root, other_root, in_project}
 use Rattle.pom_laws.proofs.Least.{Fault, IsLeast, IsSeen, Sees, alone, element_seen, further, joined, least_at, root_first, seen, text_seen}
@@ -32,7 +32,7 @@ begun_least nodes kind node i e =
     let combining = combining_decides e in
     let full = full_decides e (read_before nodes kind node i) in
     let path = step_to nodes kind node i e.0.1 e.1 in
-    least_at (IsBegun nodes kind node i e) _ _ (one_of (not (is_repeated e.0.1) && has_name nodes e.1.name (take i node.children)) (kind_number e.0.0 == 21 && combines e.1) (is_repeated e.0.1 && read_before nodes kind node i == 1024) (at_path RepeatedElement e.1.name) (at_path CombineAttribute path) (at_path TooLarge []))
+    least_at (IsBegun nodes kind node i e) _ _ (one_of (not (is_repeated e.0.1) && has_name nodes e.1.name (take i node.children)) (kind_number e.0.0 == 21 && combines e.1) (is_repeated e.0.1 && read_before nodes kind node i == most_items) (at_path RepeatedElement e.1.name) (at_path CombineAttribute path) (at_path TooLarge []))
     (joined (IsAgain nodes node i e) (IsLater nodes kind node i e) (IsBegun nodes kind node i e) (begun_split nodes kind node i e) _ _
     (alone (IsAgain nodes node i e) _ (i ∷ []) 0 (on_element RepeatedElement e.1.name) (at_path RepeatedElement e.1.name) (element_seen RepeatedElement e.1.name)
     (λ t. let w = again.0 t in record { place = refl; turn = refl; tells = refl; once = w.0; stands = w.1 }) (λ q l g w. (again.1 (w.once, w.stands), w.place, w.turn)))

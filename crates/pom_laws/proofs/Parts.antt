@@ -5,7 +5,7 @@ use Rattle.std.specs.Ordering.{nat_cmp}
 use Rattle.mvn_base.specs.declared.rule.Rule.TheVariants.{TooLarge, RepeatedElement, ModelVersion, MissingField, CombineAttribute}
 use Rattle.pom_text.specs.declared.node.Node.{Node}
 use Rattle.pom_table.specs.Elements.{text_or}
-use Rattle.pom_table.specs.Faults.{as_read, is_repeated, read_child}
+use Rattle.pom_table.specs.Faults.{as_read, is_repeated, most_items, read_child}
 use Rattle.pom_table.specs.Table.{Row, found, kind_number, table}
 use Rattle.pom_laws.specs.Breaks.{Breaks, Combines, Kind, Times, Told, configuration_number, of_text, on_element, outward, project_number, IsNotAfter, Lacks, StandsBefore, element_at, read_before, step_to, again, combines, too_many, inside, version, lacks}
 use Rattle.pom_laws.proofs.Least.{IsSplit, begins_before, head_before, in_order}
@@ -36,7 +36,7 @@ pub record IsTooMany (nodes : List Node) (kind : Kind) (node : Node) (i : ℕ) (
   pub turn : k ≡ 2
   pub tells : f ≡ on_element TooLarge []
   pub listed : is_repeated e.0.1 ≡ true
-  pub full : read_before nodes kind node i ≡ 1024
+  pub full : read_before nodes kind node i ≡ most_items
 
 abbrev pub IsLater : List Node → Kind → Node → ℕ → Read → List ℕ → ℕ → Told → Type 0
 IsLater nodes kind node i e p k f = IsCombining nodes kind node i e p k f ⊎ IsTooMany nodes kind node i e p k f

@@ -8,7 +8,7 @@ use Rattle.std.proofs.lemmas.Bool.Decides.{Decides-and, Decides-eqb, Decides-lik
 use Rattle.std.proofs.lemmas.Slice.Eq.{bytes_eq-Decides}
 use Rattle.pom_text.specs.declared.node.Node.{Node}
 use Rattle.pom_table.specs.Elements.{if_named, named, text_of}
-use Rattle.pom_table.specs.Faults.{combines, has_name, is_alone, is_combine, is_missing, is_repeated, is_required, model_version}
+use Rattle.pom_table.specs.Faults.{combines, has_name, is_alone, is_combine, is_missing, is_repeated, is_required, model_version, most_items}
 use Rattle.pom_table.specs.Table.{Row, kind_number}
 use Rattle.pom_laws.specs.Breaks.{Combines, Kind, Lacks, StandsBefore}
 use Rattle.pom_laws.proofs.Parts.{Read}
@@ -123,8 +123,8 @@ again_decides nodes node i e = Decides-and _ _ (not_itself (is_repeated e.0.1)) 
 pub combining_decides : (e : Read) → Decides (kind_number e.0.0 == 21 && combines e.1) ((kind_number e.0.0 ≡ 21) × Combines e.1)
 combining_decides e = Decides-and _ _ (Decides-eqb (kind_number e.0.0) 21) (combines_decides e.1)
 
-pub full_decides : (e : Read) (read : ℕ) → Decides (is_repeated e.0.1 && read == 1024) ((is_repeated e.0.1 ≡ true) × (read ≡ 1024))
-full_decides e read = Decides-and _ _ (itself (is_repeated e.0.1)) (Decides-eqb read 1024)
+pub full_decides : (e : Read) (read : ℕ) → Decides (is_repeated e.0.1 && read == most_items) ((is_repeated e.0.1 ≡ true) × (read ≡ most_items))
+full_decides e read = Decides-and _ _ (itself (is_repeated e.0.1)) (Decides-eqb read most_items)
 
 -- and where one ends
 pub version_decides : (nodes : List Node) (kind : Kind) (node : Node)

@@ -11,7 +11,7 @@ use Rattle.mvn_base.specs.declared.rule.Rule.{Rule}
 use Rattle.mvn_base.specs.declared.rule.Rule.TheVariants.{TooLarge, RootNotProject, RepeatedElement, ModelVersion, MissingField, CombineAttribute}
 use Rattle.pom_text.specs.declared.node.Node.{Node}
 use Rattle.pom_table.specs.Elements.{text_of, text_or}
-use Rattle.pom_table.specs.Faults.{count_read, is_alone, is_repeated, is_required, read_child, step}
+use Rattle.pom_table.specs.Faults.{count_read, is_alone, is_repeated, is_required, most_items, read_child, step}
 use Rattle.pom_table.specs.Table.{Row, kind_number, table}
 
 -- what a function takes. The types of the table's columns have no name outside their crate
@@ -85,7 +85,7 @@ pub data Breaks (nodes : List Node) : Kind → Node → (place : List ℕ) → (
   combines : (kind : Kind) (node : Node) (i : ℕ) (e : (Kind × Times) × Node) → element_at nodes kind node i ≡ Some e
       → kind_number e.0.0 ≡ configuration_number → Combines e.1 → Breaks nodes kind node (i ∷ []) 1 (on_element CombineAttribute (step_to nodes kind node i e.0.1 e.1))
   too_many : (kind : Kind) (node : Node) (i : ℕ) (e : (Kind × Times) × Node) → element_at nodes kind node i ≡ Some e
-      → is_repeated e.0.1 ≡ true → read_before nodes kind node i ≡ 1024 → Breaks nodes kind node (i ∷ []) 2 (on_element TooLarge [])
+      → is_repeated e.0.1 ≡ true → read_before nodes kind node i ≡ most_items → Breaks nodes kind node (i ∷ []) 2 (on_element TooLarge [])
   inside : (kind : Kind) (node : Node) (i : ℕ) (e : (Kind × Times) × Node) (place : List ℕ) (turn : ℕ) (told : Told) → element_at nodes kind node i ≡ Some e
       → Breaks nodes e.0.0 e.1 place turn told → Breaks nodes kind node (i ∷ place) turn (outward (step_to nodes kind node i e.0.1 e.1) told)
   version : (kind : Kind) (node : Node) → kind_number kind ≡ project_number → (text_or nodes (codes "modelVersion") [] (Some node) ≡ codes "4.0.0" → ⊥)

@@ -64,12 +64,16 @@ combines node = list_any is_combine node.attributes
 abbrev pub is_kind : Kind → Kind → Bool
 is_kind one other = kind_number one == kind_number other
 
+-- items of one list
+abbrev pub most_items : ℕ
+most_items = 1024
+
 -- what is refused where an element begins, behind some, so many of which are read
 unfoldable pub begun : List Node → List ℕ → ℕ → Kind × Times → Node → Option Fault
 begun nodes before read r node =
     if not (is_repeated r.1) && has_name nodes node.name before then Some (at_path RepeatedElement node.name)
     else if is_kind r.0 kinds.Configuration && combines node then Some (at_path CombineAttribute (step r.1 read node.name))
-    else if is_repeated r.1 && read == 1024 then Some (at_path TooLarge [])
+    else if is_repeated r.1 && read == most_items then Some (at_path TooLarge [])
     else None
 
 -- the first of two that is there

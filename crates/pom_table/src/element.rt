@@ -169,7 +169,8 @@ pub fn text_in_or(
     default: &str,
     like: Option<&Text>,
 ) -> Mem<Text>
-    ensures { IfOk result (λ text. text ≡ unwrap_or (text_in (option_copied found.entry)) default.now) }
+    ensures { IfOk result (λ text.
+        text ≡ unwrap_or (text_in (option_copied found.entry)) default.now) }
 {
     match filled_in(found) {
         Some(text) => copied(alloc, text),

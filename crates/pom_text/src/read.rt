@@ -1,6 +1,7 @@
 ghost use Rattle.std.specs.Prelude.{◌≡◌, ◌≤◌, ◌<◌, ◌+◌, ◌*◌, ◌++◌, ℕ, List, length};
 ghost use Rattle.std.specs.Str.{chars};
 ghost use Rattle.mvn_base.specs.declared.rule.Rule as rules;
+ghost use Rattle.mvn_base.specs.Limits.{pom_limit};
 ghost use Rattle.pom_text.specs.declared.node.Node as nodes;
 ghost use Rattle.pom_text.specs.declared.fault.TextFault.TheVariants.{Refused};
 ghost use Rattle.pom_text.specs.Answers.{Agrees, answer, decoded_answer, encoding_answer, reading_answer, text_answer};
@@ -109,7 +110,7 @@ fn read_encoded(
     bytes: &[u8],
 ) -> Result<PomText, TextFault>
     requires mark { mark < 4 }
-    requires bytes { length bytes.now < 1048577 }
+    requires bytes { length bytes.now ≤ pom_limit }
     ensures { Agrees (decoded_answer mark encoding (decoded encoding bytes.now)) result }
 {
     match encoding.decode(alloc, bytes)? {
@@ -121,7 +122,7 @@ fn read_encoded(
 // Reads bytes behind a mark.
 fn read_marked(alloc: Global, mark: usize, bytes: &[u8]) -> Result<PomText, TextFault>
     requires mark { mark < 4 }
-    requires bytes { length bytes.now < 1048577 }
+    requires bytes { length bytes.now ≤ pom_limit }
     ensures { Agrees (encoding_answer mark bytes.now (chosen (named_encoding bytes.now))) result }
 {
     match encoding_of(bytes) {

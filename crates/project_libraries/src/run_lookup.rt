@@ -6,6 +6,7 @@ ghost use Rattle.model_resolver.specs.Resolving.{TellsSame};
 ghost use Rattle.library_lookup.specs.Faults.{lookup_failed};
 ghost use Rattle.library_lookup.specs.Telling.{TellsOn};
 ghost use Rattle.available_versions.specs.Available.{available};
+ghost use Rattle.mvn_base.specs.Limits.{most_versions};
 
 use crate::known::known_at;
 use available_versions::{Versions, available};
@@ -29,7 +30,7 @@ fn versions_in<'t, 's, 'r, 'p, T: Tree, S: Shelf, R: Remote>(
     ensures tells { IfSome (S.told source.old.shelf.now) (λ told.
         IfSome (R.files source.old.remote.now) (λ files. IfOk result (λ all.
         all ≡ available (files_now told) files own.now group.now artifact.now))) }
-    ensures few { IfOk result (λ all. IfSome all (λ list. length list ≤ 4096)) }
+    ensures few { IfOk result (λ all. IfSome all (λ list. length list ≤ most_versions)) }
     ensures same { TellsSame T.files T.faults S.told S.faults R.files R.faults
         source.old source.new }
     ensures cause { HasCause source.old.failures.count source.new.failures.count

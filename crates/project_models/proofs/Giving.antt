@@ -3,6 +3,7 @@ use Rattle.std.proofs.Common.{◌≡◌, ◌≤◌, List, [], length, zip, Optio
 use Rattle.std.specs.List.{AllByRecursion}
 use Rattle.mvn_base.specs.declared.refusal.PomId.TheVariants as ids
 use Rattle.mvn_base.specs.declared.rule.Rule.TheVariants.{DuplicateProject}
+use Rattle.mvn_base.specs.Limits.{most_modules}
 use Rattle.model_types.specs.declared.model.Model.{Model}
 use Rattle.pom_source.specs.Answers.{Built, Fails, Says, ◌>>=◌}
 use Rattle.pom_source.specs.Refusals.{text_refused}
@@ -20,7 +21,7 @@ use Rattle.project_models.specs.declared.project.ProjectModels.{ProjectModels}
 use Rattle.project_models.proofs.Apart.{models_apart}
 
 -- what holds of the modules of any project
-pub are_modules : (poms list : List ProjectPom) (models : List Model) → length models ≡ length poms → 1 ≤ length poms → length poms ≤ 1024 → AllByRecursion IsLawful models
+pub are_modules : (poms list : List ProjectPom) (models : List Model) → length models ≡ length poms → 1 ≤ length poms → length poms ≤ 1 + most_modules → AllByRecursion IsLawful models
     → list ≡ poms → first_double [] (zip list models) ≡ None → AreModules poms models
 are_modules poms list models paired any few lawful same none =
     record { paired = paired; any = any; few = few; lawful = lawful; apart = models_apart poms models paired (ap (λ l. first_double [] (zip l models)) (sym same) ∙ none) }

@@ -2,7 +2,7 @@
 -- Reference, "Maven Coordinates". The order of refusals is a project rule.
 --
 -- 1: the POMs of the project. 2: the effective model of each, in the same order. 3: no two of the same coordinates.
-use Rattle.std.specs.Prelude.{◌≡◌, ◌≤◌, ℕ, List, [], ◌∷◌, ◌++◌, find, length, map, zip, Option, None, Some, option_map, Result, Ok, Err}
+use Rattle.std.specs.Prelude.{◌≡◌, ◌≤◌, ◌+◌, ℕ, List, [], ◌∷◌, ◌++◌, find, length, map, zip, Option, None, Some, option_map, Result, Ok, Err}
 use Rattle.std.specs.List.{AllByRecursion, IsDistinct}
 use Rattle.std.specs.Option.{option_or}
 use Rattle.mvn_shared.specs.Files.{Files}
@@ -15,6 +15,7 @@ use Rattle.pom_source.specs.Refusals.{text_refused}
 use Rattle.pom_source.specs.declared.fault.BuildFault.{BuildFault}
 use Rattle.pom_source.specs.declared.found.Given.{Given}
 use Rattle.mvn_base.specs.Gav.{gav_eq}
+use Rattle.mvn_base.specs.Limits.{most_modules}
 use Rattle.import_store.specs.Lawful.{IsLawful}
 use Rattle.model_resolver.specs.Finding.{world_of}
 use Rattle.model_resolver.specs.declared.resolver.ProjectPom.{ProjectPom}
@@ -67,6 +68,6 @@ Gives said (Err fault) = Fails said fault
 pub record AreModules (poms : List ProjectPom) (models : List Model) : Type 0 where
   pub paired : length models ≡ length poms
   pub any : 1 ≤ length poms
-  pub few : length poms ≤ 1024
+  pub few : length poms ≤ 1 + most_modules
   pub lawful : AllByRecursion IsLawful models
   pub apart : IsDistinct gav_eq (map (λ (m : Model). m.gav) models)

@@ -1,7 +1,8 @@
 // From a project's devices to its modules.
-ghost use Rattle.std.specs.Prelude.{◌≡◌, ◌≤◌, [], None, Ok, false, length, zip, IfErr, IfOk};
+ghost use Rattle.std.specs.Prelude.{◌≡◌, ◌≤◌, ◌+◌, [], None, Ok, false, length, zip, IfErr, IfOk};
 ghost use Rattle.std.specs.List.{AllByRecursion};
 ghost use Rattle.mvn_shared.specs.Cause.{HasCause};
+ghost use Rattle.mvn_base.specs.Limits.{most_modules};
 ghost use Rattle.import_store.specs.Kept.{HoldsAll};
 ghost use Rattle.import_store.specs.Lawful.{IsLawful};
 ghost use Rattle.model_resolver.specs.Devices.{Counted, IsCounted};
@@ -44,7 +45,7 @@ fn poms_in<P: Whole>(
     ensures says { (world : World) → P.fits_poms source.old world → Holds world given.now store.old
         → Says (project_poms world given.now) result }
     ensures any { IfOk result (λ poms. 1 ≤ length poms) }
-    ensures few { IfOk result (λ poms. length poms ≤ 1024) }
+    ensures few { IfOk result (λ poms. length poms ≤ 1 + most_modules) }
     ensures same { P.tells_same source.old source.new }
     ensures holds { (world : World) → P.fits_poms source.old world → Holds world given.now store.old
         → Holds world given.now store.new }
@@ -89,7 +90,7 @@ fn find_poms<T: Tree, S: Shelf, R: Remote>(
         (λ files local there. Holds (world_of [] files local there) given.now store.old
         → Says (project_poms (world_of [] files local there) given.now) result) }
     ensures any { IfOk result (λ poms. 1 ≤ length poms) }
-    ensures few { IfOk result (λ poms. length poms ≤ 1024) }
+    ensures few { IfOk result (λ poms. length poms ≤ 1 + most_modules) }
     ensures holds { IfTold (T.files tree.old) (S.told shelf.old) (R.files remote.old)
         (λ files local there. Holds (world_of [] files local there) given.now store.old
         → Holds (world_of [] files local there) given.now store.new) }
@@ -210,7 +211,7 @@ fn single(
 ) -> Result<ProjectModels, BuildFault>
     requires paired { length models ≡ length poms }
     requires any { 1 ≤ length poms }
-    requires few { length poms ≤ 1024 }
+    requires few { length poms ≤ 1 + most_modules }
     requires lawful { AllByRecursion IsLawful models }
     ensures says { Gives (single poms models) result }
     ensures modules { IfOk result (λ found. AreModules found.poms found.models) }
@@ -241,7 +242,7 @@ fn over_store<T: Tree, S: Shelf, R: Remote>(
     poms: List<ProjectPom>,
 ) -> Result<ProjectModels, BuildFault>
     requires any { 1 ≤ length poms }
-    requires few { length poms ≤ 1024 }
+    requires few { length poms ≤ 1 + most_modules }
     ensures says { IfTold (T.files tree.old) (S.told shelf.old) (R.files remote.old)
         (λ files local there. HoldsAll (world_of poms files local there) given.now store
         → Gives (modules_of files local there given.now poms) result) }
@@ -287,7 +288,7 @@ fn with_poms<T: Tree, S: Shelf, R: Remote>(
     poms: List<ProjectPom>,
 ) -> Result<ProjectModels, BuildFault>
     requires any { 1 ≤ length poms }
-    requires few { length poms ≤ 1024 }
+    requires few { length poms ≤ 1 + most_modules }
     ensures says { IfTold (T.files tree.old) (S.told shelf.old) (R.files remote.old)
         (λ files local there. Holds (world_of [] files local there) given.now store
         → project_poms (world_of [] files local there) given.now ≡ Ok poms

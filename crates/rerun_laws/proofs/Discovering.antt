@@ -1,6 +1,7 @@
 -- The POMs of a project are the same, wherever coordinates lead: the search looks at paths alone.
 use Rattle.std.proofs.Common.{◌≡◌, ℕ, zero, suc, Bool, List, [], ◌∷◌, ◌++◌, map, Option, Some, None, Ok, Err, refl, ap, ◌∙◌}
 use Rattle.mvn_base.specs.declared.gav.Gav.{Gav}
+use Rattle.mvn_base.specs.Limits.{most_modules}
 use Rattle.pom_source.specs.Answers.{Built, ◌>>=◌}
 use Rattle.pom_source.specs.Worlds.{World}
 use Rattle.pom_source.specs.declared.found.Found.{Found}
@@ -57,7 +58,7 @@ module _ (by_path : List ℕ → Option (List ℕ)) (there : List ℕ → Bool) 
 
     -- so all POMs
     discovered_same : discovered one given ≡ discovered two given
-    discovered_same = then_same (begun one given) (λ p. collected one given 1023 p.found p.waiting) (λ p. collected two given 1023 p.found p.waiting) (λ p. collected_same 1023 p.found p.waiting)
+    discovered_same = then_same (begun one given) (λ p. collected one given most_modules p.found p.waiting) (λ p. collected two given most_modules p.found p.waiting) (λ p. collected_same most_modules p.found p.waiting)
 
     pub poms_same : project_poms one given ≡ project_poms two given
     poms_same = first_same (discovered one given) (discovered two given) (λ found. Ok (map (found_pom one) found)) discovered_same

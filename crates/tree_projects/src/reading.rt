@@ -6,7 +6,7 @@ use std::alloc::Global;
 
 // As many bytes as no POM has.
 fn too_many(alloc: Global) -> Mem<Bytes> {
-    Ok(Bytes::of(vec![in alloc; b' '; 1_048_577]?))
+    Ok(Bytes::of(vec![in alloc; b' '; 1 + POM_LIMIT as usize]?))
 }
 
 /// The bytes of a file; of one that is too large for a POM so many that it is refused for it.

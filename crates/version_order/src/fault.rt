@@ -5,7 +5,7 @@ use std::error::Error;
 use std::fmt;
 
 /// Why a text is no requirement.
-#[derive(Clone, Copy, Debug, PartialEq, Eq)]
+#[derive(Clone, Copy, Debug)]
 pub enum RequirementError {
     /// The first byte with which no requirement goes on, or the closing bracket of bounds that cross.
     BadRange { place: u64 },

@@ -13,7 +13,7 @@ pub struct Bound {
 }
 
 /// What lies between two versions, or to one side of one; without bounds all versions.
-#[derive(Clone, Drop)]
+#[derive(Drop)]
 pub struct Interval {
     pub lower: Option<Bound>,
     pub upper: Option<Bound>,

@@ -13,7 +13,7 @@ use std::alloc::Global;
 
 /// What a dependency states of its version: one that it would like, or intervals of which one has to have it. POM
 /// Reference, "Dependency Version Requirement Specification".
-#[derive(Clone, Drop)]
+#[derive(Drop)]
 pub enum Requirement {
     Soft(Text),
     Hard(List<Interval>),

@@ -2,7 +2,7 @@ use Rattle.std.proofs.Common.{◌≡◌, ◌-◌, List, ◌++◌, flat_map, map,
 use Rattle.model_types.specs.declared.dependency.Dependency.{Dependency}
 use Rattle.collector.specs.Edges.{direct_edges}
 use Rattle.mediation.specs.Rows.{ArePlaced, edges_below}
-use Rattle.library_lookup.specs.Libraries.{Libraries, graph_of}
+use Rattle.library_lookup.specs.Libraries.{Libraries, graph_of, most_winners}
 use Rattle.mediation.proofs.Lengths.{IsUpTo}
 use Rattle.library_lookup.specs.Telling.{TellsOn}
 use Rattle.mediation.proofs.levels.add_levels.Given as goal
@@ -20,4 +20,4 @@ invariant-loop-from g l = record {
 }
 
 abbrev pub decreases-loop-from : goal.decreases-loop-from
-decreases-loop-from g l = 16384 - l.from
+decreases-loop-from g l = most_winners - l.from

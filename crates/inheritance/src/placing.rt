@@ -121,7 +121,7 @@ impl Others {
         ensures { (parent done : Items plugins.Plugin) → HasKeys parent keys.now →
             Stands parent done self.before self.last.items
             → IfOk result (λ others.
-                Stands parent (done ++ plugin ∷ []) others.before others.last.items) }
+            Stands parent (done ++ plugin ∷ []) others.before others.last.items) }
     {
         let key = plugin.key(alloc)?;
         if keys.contains(&key) {

@@ -18,7 +18,9 @@ pub use fault::ModelError;
 pub use file_name::{FileName, artifact_folder, file_of, version_in};
 pub use gav::{Gav, lock_name};
 pub use key::{Key, key_text};
-pub use limits::{MAVEN_PLUGINS, MOST_FILES, MOST_MODULES, MOST_OUTPUT, MOST_SOURCES, MOST_VERSIONS, POM_LIMIT};
+pub use limits::{
+    MAVEN_PLUGINS, MOST_FILES, MOST_MODULES, MOST_OUTPUT, MOST_SOURCES, MOST_VERSIONS, POM_LIMIT,
+};
 pub use machine::{Choice, Machine, Pair};
 pub use mvn_shared::{Bytes, FileMap, List, Mem, OutOfMemory, Text, TextError};
 pub use names::{valid_group, valid_name, valid_version};

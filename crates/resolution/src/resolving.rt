@@ -99,7 +99,7 @@ fn resolved(
         (managed : logic.List (names.Key × dependencies.Dependency))
         (direct : logic.List dependencies.Dependency)
         → AreDeclared managed direct graph.now.winners
-            graph.now.own graph.now.below graph.now.places
+        graph.now.own graph.now.below graph.now.places
         → IsWhole libraries (graph_of libraries managed direct) graph.now.winners
         → Mediates libraries managed direct result }
     ensures blameless { is_faulty result ≡ false }

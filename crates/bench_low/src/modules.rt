@@ -1,4 +1,6 @@
 // In which order modules are built.
+ghost use Rattle.std.specs.Prelude.{◌<◌};
+
 use mvn_shared::List;
 use reactor_order::{OrderError, edges_below, keep, order};
 use std::alloc::{AllocError, Global};
@@ -21,13 +23,21 @@ fn print_list(rt: &HostRuntime, label: &str, list: &List<u32>) -> anyhow::Result
     Ok(())
 }
 
-// So many soft edges of each module, to the modules behind it.
+// So many soft edges of one module, to the modules behind it.
+fn push_soft(edges: &mut Vec<(u32, u32)>, n: u32, module: u32, count: u32) -> Result<(), AllocError>
+    requires { 0 < n }
+{
+    for k in 0..count {
+        edges.push((module, module.wrapping_add(k).wrapping_add(1) % n))?;
+    }
+    Ok(())
+}
+
+// So many soft edges of each module.
 fn soft_edges(alloc: Global, n: u32, count: u32) -> Result<Vec<(u32, u32)>, AllocError> {
     let mut edges = Vec::new(alloc);
-    for m in 0..n {
-        for k in 0..count {
-            edges.push((m, m.wrapping_add(k).wrapping_add(1) % n))?;
-        }
+    for module in 0..n {
+        push_soft(&mut edges, n, module, count)?;
     }
     Ok(edges)
 }

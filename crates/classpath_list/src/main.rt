@@ -93,21 +93,31 @@ fn print_files(
     Ok(())
 }
 
-fn print_resolved(rt: &HostRuntime, resolution: &Resolution) -> anyhow::Result<()> {
-    for winner in resolution.winners.as_slice() {
+fn print_winners(rt: &HostRuntime, winners: &[Shared<Resolved>]) -> anyhow::Result<()> {
+    for winner in winners {
         print_winner(rt, winner)?;
     }
+    Ok(())
+}
+
+fn print_notes(rt: &HostRuntime, notes: &[Note]) -> anyhow::Result<()> {
+    for note in notes {
+        print_note(rt, note)?;
+    }
+    Ok(())
+}
+
+fn print_resolved(rt: &HostRuntime, resolution: &Resolution) -> anyhow::Result<()> {
+    let winners: &[Shared<Resolved>] = resolution.winners.as_slice();
+    print_winners(rt, winners)?;
     print_path(rt, "compile", resolution, Kind::Compile)?;
     print_path(rt, "runtime", resolution, Kind::Runtime)?;
     print_path(rt, "test", resolution, Kind::Test)?;
     let selected = HashSet::new(rt.alloc());
-    if are_named(resolution.winners.as_slice()) {
+    if are_named(winners) {
         print_files(rt, resolution, &selected)?;
     }
-    for note in resolution.notes.as_slice() {
-        print_note(rt, note)?;
-    }
-    Ok(())
+    print_notes(rt, resolution.notes.as_slice())
 }
 
 fn print_fault(rt: &HostRuntime, fault: &MediationFault) -> anyhow::Result<()> {

@@ -136,6 +136,40 @@ where
     }
 }
 
+// The same, after which what is given is dropped.
+fn build_once<W: Threads + Wait + Sync, T: Tree, R: Remote + Send, S: Shelf + Send, G: Gate + Send>(
+    rt: &W,
+    alloc: Global,
+    given: Given,
+    line: &CommandLine,
+    tree: &mut T,
+    shelf: S,
+    hands: &mut [Hand<R, S::Area, G>],
+) -> Call<S>
+where
+    S::Area: Send,
+    requires given { given ≡ given_of given.machine line.now }
+    requires workers { (1 ≤ line.now.workers) × (line.now.workers ≤ length hands.old) }
+    requires hands { length hands.old ≤ 16 }
+    ensures calls { Calls (Ok line.now)
+        (record {
+          tree = T.files tree.old;
+          faults = T.faults tree.old;
+          machine = given.machine;
+          outside = outside_by S.told S.faults (state_by R.files R.faults S.Area.contents
+              S.Area.faults S.Area.pieces G.answers G.faults) shelf hands.old;
+        })
+        (record {
+          faults = T.faults tree.new;
+          outside = outside_by S.told S.faults (state_by R.files R.faults S.Area.contents
+              S.Area.faults S.Area.pieces G.answers G.faults) result.shelf hands.new;
+        })
+        result.trace result.answers result.outcome }
+    ensures hands { OthersStay (Ok line.now) hands.old hands.new }
+{
+    build_given(rt, alloc, &given, line, tree, shelf, hands)
+}
+
 // What a call of this line answers.
 fn build_line<W: Threads + Wait + Sync, T: Tree, R: Remote + Send, S: Shelf + Send, G: Gate + Send>(
     rt: &W,
@@ -167,7 +201,7 @@ where
     ensures hands { OthersStay (Ok line.now) hands.old hands.new }
 {
     match given_of(machine, line) {
-        Ok(given) => build_given(rt, alloc, &given, line, tree, shelf, hands),
+        Ok(given) => build_once(rt, alloc, given, line, tree, shelf, hands),
         Err(error) => nothing(alloc, shelf, Err(error)),
     }
 }

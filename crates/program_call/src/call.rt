@@ -6,7 +6,8 @@ use mvn_base::Machine;
 use mvn_outside::{DeviceFault, Gate, Hand, Remote, Shelf, Sink, Tree};
 use mvn_shared::{Bytes, Mem};
 use mvn_top::{FAULT, NO_MEMORY};
-use real_devices::{Devices, RealGate, named_devices, standard_output};
+use outside_real::RealShelf;
+use real_devices::{Devices, RealGate, RealHand, named_devices, standard_output};
 use std::alloc::Global;
 use std::sync::Wait;
 use std::thread::Threads;
@@ -72,6 +73,23 @@ where
     run_over(threads, alloc, words, machine, tree, shelf, hands, out)
 }
 
+// Runs the words over any project, with the system's files as the repository and the remote.
+fn run_hands<'a, W: Threads + Wait + Sync, T: Tree, O: Sink>(
+    threads: &W,
+    alloc: Global,
+    words: &[Bytes],
+    machine: Machine,
+    tree: &mut T,
+    shelf: RealShelf<'a, HostRuntime>,
+    hands: &mut [RealHand<'a>],
+    out: &mut O,
+) -> u8
+    requires { length hands.old ≡ 16 }
+    ensures { result ≤ 4 }
+{
+    run_goals(threads, alloc, words, machine, tree, shelf, hands, out)
+}
+
 // Builds the project in the current folder over these devices, for this machine.
 fn build_over<W: Threads + Wait + Sync, O: Sink>(
     threads: &W,
@@ -87,7 +105,7 @@ fn build_over<W: Threads + Wait + Sync, O: Sink>(
     let Devices { tree, shelf, hands } = devices;
     let mut tree = tree;
     let mut hands = hands;
-    run_goals(
+    run_hands(
         threads, alloc, words, machine, &mut tree, shelf, &mut hands, out,
     )
 }

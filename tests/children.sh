@@ -41,8 +41,11 @@ child 'a child that writes without end' small "$(failed 'child gave no answer')"
 child 'a child that writes much before it reads' large "$(failed 'child gave no answer')" 'head -c 1000000 /dev/zero; cat > /dev/null'
 child 'an answer before the request is read' large "$ran" "echo '$done_line'; cat > /dev/null"
 child 'a child that writes without end and reads nothing' large "$(failed 'child gave no answer')" 'exec yes'
-child 'a child that ends without reading' large "$fault" "echo '$done_line'"
-child 'a child that closes its input' large "$fault" "exec < /dev/null; sleep 1; echo '$done_line'"
+for size in small large; do
+  child "a child that reads nothing, $size" $size "$ran" "echo '$done_line'"
+  child "a child that ends at once, $size" $size "$(failed 'child ended with 3')" 'exit 3'
+  child "a child that closes its input, $size" $size "$ran" "exec < /dev/null; sleep 0.1; echo '$done_line'"
+done
 child 'a child that closes its output' small "$(failed 'child gave no answer')" 'exec > /dev/null; cat > /dev/null'
 child 'standard error is not read' small "$ran" "cat > /dev/null; head -c 1000000 /dev/zero >&2; echo '$done_line'"
 

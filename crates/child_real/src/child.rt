@@ -101,7 +101,8 @@ impl RealChild {
         Err(DeviceFault::Failed)
     }
 
-    /// Gives the child a part of the bytes, at least one where there is one. An input that was closed takes none.
+    /// Gives the child a part of the bytes, at least one where there is one. A child that has ended, or has closed its input, takes all
+    /// of them. An input that was closed here takes none.
     pub(crate) fn write(&mut self, bytes: &[u8]) -> Result<usize, DeviceFault>
         ensures within { IfOk result (λ count. count ≤ length bytes.now) }
         ensures progress { IfOk result (λ count. 0 < length bytes.now → 0 < count) }

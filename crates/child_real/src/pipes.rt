@@ -65,7 +65,8 @@ pub(crate) fn read_some<F: Read>(file: &mut F, into: &mut [u8]) -> Result<usize,
     Err(Failed)
 }
 
-/// Writes to a stream as many bytes as it takes at once, at least one where there is one.
+/// Writes to a stream as many bytes as it takes at once, at least one where there is one. What nobody will read any more
+/// counts as taken.
 pub(crate) fn write_some<F: Write>(file: &mut F, bytes: &[u8]) -> Result<usize, DeviceFault>
     ensures within { IfOk result (λ count. count ≤ length bytes.now) }
     ensures progress { IfOk result (λ count. 0 < length bytes.now → 0 < count) }
@@ -79,8 +80,10 @@ pub(crate) fn write_some<F: Write>(file: &mut F, bytes: &[u8]) -> Result<usize, 
                 }
                 return Err(DeviceFault::Failed);
             }
-            Err(e) => if e.kind() != ErrorKind::Interrupted {
-                return Err(fault_of(&e));
+            Err(e) => match e.kind() {
+                ErrorKind::Interrupted => {}
+                ErrorKind::BrokenPipe => return Ok(bytes.len()),
+                _ => return Err(fault_of(&e)),
             },
         }
     }

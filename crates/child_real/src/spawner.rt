@@ -12,7 +12,7 @@ use std::process::{Processes, SystemProcess};
 
 /// Children of the system, which run one program without arguments. Their standard error is that of this program. It
 /// tells which are there, and nothing of their bytes. A child whose output is too long for any answer before it has taken
-/// all of its input is given no more. Project rule.
+/// all of its input is given no more, and so is one that has ended or closed its input. Project rule.
 #[derive(Drop)]
 pub struct RealSpawner<'a, R: Processes<Started = SystemProcess> + AllocGlobal> {
     rt: &'a R,

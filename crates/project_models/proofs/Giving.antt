@@ -1,5 +1,5 @@
 -- What a call gives, by what its parts give.
-use Rattle.std.proofs.Common.{◌≡◌, ◌≤◌, List, [], length, zip, Option, None, Some, Result, Ok, Err, IfErr, IfOk, sym, ap, subst, ◌∙◌}
+use Rattle.std.proofs.Common.{◌≡◌, ◌≤◌, ◌+◌, List, [], length, zip, Option, None, Some, Result, Ok, Err, IfErr, IfOk, sym, ap, subst, ◌∙◌}
 use Rattle.std.specs.List.{AllByRecursion}
 use Rattle.mvn_base.specs.declared.refusal.PomId.TheVariants as ids
 use Rattle.mvn_base.specs.declared.rule.Rule.TheVariants.{DuplicateProject}

@@ -2,7 +2,7 @@
 # the end, and functions that take and print the time of a run. A script says by a function `once` what one run is, and by `prepare`
 # what is done before it and isn't timed.
 set -eu
-[ -z "${EFFECTIVE_MODEL-}" ] || EFFECTIVE_MODEL=$(realpath -m -- "$EFFECTIVE_MODEL")
+[ -z "${PRINT_MODELS-}" ] || PRINT_MODELS=$(realpath -m -- "$PRINT_MODELS")
 . "$(dirname "$0")/../tests/program.sh"
 work=$(mktemp -d)
 trap 'rm -rf "$work"' EXIT
@@ -17,18 +17,19 @@ want() {
 # The same with mvn: the program that MVN names, or bin/mvn
 want_mvn() {
   find_program
+  [ -z "$unproved" ] || stop "$mvn is UNPROVED, and many times slower: its times say nothing of a proved one"
   program=$mvn
   cd "$work"
 }
 
-# The same with effective_model: the program that EFFECTIVE_MODEL names, or the built one
-want_effective_model() {
-  if [ -n "${EFFECTIVE_MODEL-}" ]; then
-    program=$EFFECTIVE_MODEL
+# The same with print_models: the program that PRINT_MODELS names, or the built one
+want_print_models() {
+  if [ -n "${PRINT_MODELS-}" ]; then
+    program=$PRINT_MODELS
     [ -x "$program" ] || stop "there is no program $program"
     cd "$work"
   else
-    want crates/effective_model/out/effective_model '(cd crates/effective_model && rt run)'
+    want crates/print_models/out/print_models '(cd crates/print_models && rt run)'
   fi
 }
 

@@ -1,10 +1,10 @@
 #!/usr/bin/env bash
-# How the time of effective models grows with the number of modules, in runs of the program `effective_model`, the one that EFFECTIVE_MODEL
+# How the time of effective models grows with the number of modules, in runs of the program `print_models`, the one that PRINT_MODELS
 # names or the built one: modules of ten dependencies each, over one parent that manages 200 dependencies and 40 plugins. A run reads the
 # POMs and builds each model, on one processor. A ratio that is that of the numbers is a constant time a module, which is printed too. The
 # empty case is a project of the parent alone. usage: bench/effective.sh [NUMBER OF MODULES ..]
 . "$(dirname "$0")/common.sh"
-want_effective_model
+want_print_models
 once() { "$program" < in > out; }
 
 # NUMBER: ends the script where not each of as many modules and their parent has a model, so that no refusal passes as speed

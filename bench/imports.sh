@@ -1,11 +1,11 @@
 #!/usr/bin/env bash
-# How the time of imports grows, in runs of the program `effective_model`, the one that EFFECTIVE_MODEL names or the built one. `levels`:
+# How the time of imports grows, in runs of the program `print_models`, the one that PRINT_MODELS names or the built one. `levels`:
 # POMs at so many levels, two at each, of which each imports both of the next level. Each is built once, so twice the levels take twice
 # the time and what more entries cost; built anew for each importer they would take twice the time with each level. `imports`: one POM that
 # imports so many others. A run reads the POMs of a repository and builds the model of one module. The empty case is a module without
 # imports. usage: bench/imports.sh
 . "$(dirname "$0")/common.sh"
-want_effective_model
+want_print_models
 once() { "$program" < in > out; }
 
 # ends the script where the module has no model, so that no refusal passes as speed

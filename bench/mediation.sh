@@ -1,10 +1,10 @@
 #!/usr/bin/env bash
-# How the time of finding winners grows with the dependency graph, as ratios in one run of the built program `classpath_list`, and for a chain
+# How the time of finding winners grows with the dependency graph, as ratios in one run of the built program `bench_graphs`, and for a chain
 # whose libraries each exclude something the most memory. The graph is read as text, which is part of it; a ratio of the sizes is what
 # near linear costs.
 . "$(dirname "$0")/common.sh"
 memory=$PWD/bench/memory.py
-want crates/classpath_list/out/classpath_list '(cd crates/classpath_list && rt run)'
+want crates/bench_graphs/out/bench_graphs '(cd crates/bench_graphs && rt run)'
 once() { "$program" < in > out; }
 
 # WINNERS: each library needs the next one

@@ -37,6 +37,15 @@ want() {
   fi
 }
 
+# CASE..: names these as left out where the program is UNPROVED, since each takes a minute or more by such a program; else the status is 1
+too_slow() {
+  [ -n "$unproved" ] || return 1
+  printf 'too slow  %s: left out, since the program is UNPROVED\n' "$@"
+}
+
+# BYTES: so many, or a twentieth where the program is UNPROVED, which takes so much longer for each
+bytes() { echo $(($1 / (${#unproved} == 0 ? 1 : 20))); }
+
 # PROCESS, CONDITION: waits until the condition, in words of `[`, holds, or this child has ended. It starts no process meanwhile, so whoever
 # called it goes on at once.
 until_or_ended() {

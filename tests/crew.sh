@@ -115,14 +115,16 @@ if cmp -s ../first ../next; then pass 'the shop by 16 in one thread'; else fail 
 build() { "$mvn" "$@"; }
 
 # 300 modules in groups of 25 over 40 libraries that are fetched; one module needs a file that is nowhere, and two fail in their tests
-mkdir "$work/many"
-cd "$work/many" || exit 1
-"$here/bench/reactor_project.py" 300 40
-mv .m2/repository .m2/remote
-sed -i 's|</dependencies>|<dependency><groupId>ext</groupId><artifactId>gone</artifactId><version>1</version></dependency></dependencies>|' m240/pom.xml
-for module in 70 190; do
-  mkdir -p "m$module/src/test/java"
-  echo "no luck with $module" > "m$module/src/test/java/fail-test"
-done
-alike '300 modules' 'total 300 built 272 failed 3 skipped 25'
+if ! too_slow '300 modules by 1' '300 modules by 4' '300 modules by 16'; then
+  mkdir "$work/many"
+  cd "$work/many" || exit 1
+  "$here/bench/reactor_project.py" 300 40
+  mv .m2/repository .m2/remote
+  sed -i 's|</dependencies>|<dependency><groupId>ext</groupId><artifactId>gone</artifactId><version>1</version></dependency></dependencies>|' m240/pom.xml
+  for module in 70 190; do
+    mkdir -p "m$module/src/test/java"
+    echo "no luck with $module" > "m$module/src/test/java/fail-test"
+  done
+  alike '300 modules' 'total 300 built 272 failed 3 skipped 25'
+fi
 tell

@@ -1,13 +1,21 @@
 #!/usr/bin/env python3
-"""Looks whether each wrong body still fits the sources: crates/*/must-fail/*.edit and crates/*/tried/*.edit.
+"""Looks whether each wrong body still fits the sources, so that it can be tried: crates/*/must-fail/*.edit and crates/*/tried/*.edit; and
+whether there are no more of them than may be.
 
-An edit names a file of its crate, and then pairs of lines, `old: ` and `new: `; another file may follow. Each old text has to stand in
-its file once, after the pairs before it have been put in. Prints the edits that don't fit, and a last line of counts; the status is 0 if all fit.
+An edit names a file of its crate, in src/, and then pairs of lines, `old: ` and `new: `; another file may follow. Each old text has to stand in
+its file once, after the pairs before it have been put in. It needs no built program.
 """
+import collections
 import pathlib
 import sys
 
+sys.dont_write_bytecode = True
+
+import cases
+
 CRATES = pathlib.Path(__file__).resolve().parent.parent / "crates"
+MOST_GATED = 30  # in must-fail/ of all crates: each costs a check of every CI run
+MOST_TRIED = 12  # in tried/ of a crate: whoever changes it tries them by hand
 
 
 def why_not(edit):
@@ -18,6 +26,8 @@ def why_not(edit):
         word, _, rest = line.partition(" ")
         if word == "file:" and old is None:
             file = edit.parent.parent / rest.strip()
+            if not rest.startswith("src/"):
+                return f"{rest} is no file of src/"
             if not file.is_file():
                 return f"there is no {file.relative_to(CRATES)}"
             texts.setdefault(file, file.read_text(encoding="utf-8"))
@@ -35,12 +45,15 @@ def why_not(edit):
 
 
 def main():
-    edits = sorted(CRATES.glob("*/must-fail/*.edit")) + sorted(CRATES.glob("*/tried/*.edit"))
-    refused = [(edit, why) for edit in edits if (why := why_not(edit))]
-    for edit, why in refused:
-        print(f"{edit.relative_to(CRATES)}: {why}")
-    print(f"{len(edits) - len(refused)} of {len(edits)} wrong bodies fit the sources")
-    return 1 if refused or not edits else 0
+    gated, tried = (sorted(CRATES.glob(f"*/{folder}/*.edit")) for folder in ("must-fail", "tried"))
+    for folder, edits in ("must-fail", gated), ("tried", tried):
+        cases.holds(f"each of {len(edits)} wrong bodies in {folder}/ fits the sources",
+             [f"{edit.relative_to(CRATES)}: {why}" for edit in edits if (why := why_not(edit))])
+    cases.holds(f"1 to {MOST_GATED} wrong bodies stand in must-fail/", [] if 1 <= len(gated) <= MOST_GATED else [f"{len(gated)} do"])
+    counts = collections.Counter(edit.parent.parent.name for edit in tried)
+    cases.holds(f"at most {MOST_TRIED} wrong bodies of a crate stand in tried/",
+         [f"{crate} has {count}" for crate, count in counts.items() if count > MOST_TRIED])
+    return cases.tell()
 
 
 if __name__ == "__main__":

@@ -1,11 +1,11 @@
 #!/usr/bin/env bash
 # Effective models of the small projects of tests/effective_rows, each worked out by hand from the POM Reference and Maven's guides:
-# compares what the program `effective_model` prints with what is written there. The program is the one that EFFECTIVE_MODEL names, or
-# crates/effective_model/out/effective_model. It needs python3. The words of the command line name the rows to try; without one all are.
-[ -z "${EFFECTIVE_MODEL-}" ] || EFFECTIVE_MODEL=$(realpath -m -- "$EFFECTIVE_MODEL")
+# compares what the program `print_models` prints with what is written there. The program is the one that PRINT_MODELS names, or
+# crates/print_models/out/print_models. It needs python3. The words of the command line name the rows to try; without one all are.
+[ -z "${PRINT_MODELS-}" ] || PRINT_MODELS=$(realpath -m -- "$PRINT_MODELS")
 . "$(dirname "$0")/cases.sh"
-program=${EFFECTIVE_MODEL:-$PWD/crates/effective_model/out/effective_model}
-[ -x "$program" ] || stop "no $program here: call (cd crates/effective_model && rt run) first"
+program=${PRINT_MODELS:-$PWD/crates/print_models/out/print_models}
+[ -x "$program" ] || stop "no $program here: call (cd crates/print_models && rt run) first"
 [ $# != 0 ] || set -- tests/effective_rows/*.txt
 
 for row in "$@"; do

@@ -182,7 +182,7 @@ truncate -s $((268435456 + 1 - $(wc -c < src/main/java/demo/App.java))) src/test
 want 'sources over the limit' 2 $'refused pom.xml rule 1 TooLarge at sources\n' install
 want 'sources over the limit, whatever the phase' 2 $'refused pom.xml rule 1 TooLarge at sources\n' validate
 truncate -s -1 src/test/resources/big
-want 'sources at the limit' 0 "$report" install
+too_slow 'sources at the limit' || want 'sources at the limit' 0 "$report" install
 rm -r src/test
 
 # a folder in the place of the jar: the name stays as it was

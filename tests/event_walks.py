@@ -1,8 +1,14 @@
 #!/usr/bin/env python3
-"""Prints what the program `bench_events` has to print for its walks through small builds: which events the definition of the event core
+"""Works out what the program `bench_events` has to print for its walks through small builds: which events the definition of the event core
 allows at each step, and why it forbids the others. It is plain and slow: at each question it works out from the list of events so far
-where the build stands. usage: event_walks.py FIRST LAST, the numbers of the walks"""
+where the build stands. Compares this with the stored run of that program, which the CI run holds it to, or prints the walks of the numbers
+FIRST to LAST. It needs no built program. usage: event_walks.py [FIRST LAST]"""
+import pathlib
 import sys
+
+sys.dont_write_bytecode = True
+
+import cases
 
 SHARED, EXCLUSIVE = 'Shared', 'Exclusive'
 MASK = 0xFFFFFFFF
@@ -394,6 +400,31 @@ def walk(seed):
     return total, len(events)
 
 
+def line_of(seed):
+    return 'walk %d: %d %d' % ((seed,) + walk(seed))
+
+
+def check():
+    """Compares the 1,200 walks of the stored run."""
+    file = pathlib.Path(__file__).parent.parent / 'crates/bench_events/stdout'
+    stored = [line for line in file.read_text().splitlines() if line.startswith('walk')]
+    walked = [line_of(seed) for seed in range(1, 1201)]
+    case = '1200 walks are answered as by the definition'
+    if stored == walked:
+        cases.passes(case)
+    else:
+        others = [pair for pair in zip(stored, walked) if pair[0] != pair[1]]
+        cases.fails(case, 'stored is %s, and wanted %s' % others[0] if others else '%d walks are stored' % len(stored))
+    return cases.tell()
+
+
+def main(words):
+    if not words:
+        return check()
+    for seed in range(int(words[0]), int(words[1]) + 1):
+        print(line_of(seed))
+    return 0
+
+
 if __name__ == '__main__':
-    for seed in range(int(sys.argv[1]), int(sys.argv[2]) + 1):
-        print('walk %d: %d %d' % ((seed,) + walk(seed)))
+    sys.exit(main(sys.argv[1:]))

@@ -3,7 +3,7 @@
 
 usage: graphs.py COUNT SEED INPUT WANTED [refused|modules]
 
-Writes the input of the program `classpath_list` and the answer that it has to give. Nothing here is a queue: a path is a
+Writes the input of the program `bench_graphs` and the answer that it has to give. Nothing here is a queue: a path is a
 list of declarations from the project on, what it leads to is found from the whole path, and the winner of a key is the
 least of its counting paths by length and then by positions. A scope is the widest of all walks. The first winner, by
 length and positions, is refused for which some counting declaration states a range that doesn't admit its version.

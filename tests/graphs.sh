@@ -1,11 +1,11 @@
 #!/usr/bin/env bash
 # Shows that winners, their scopes and conflicts of ranges are found as their definitions say, on random small dependency graphs with
 # exclusions, scopes, management, ranges, missing POMs and circles. Compares with what the plain, slow graphs.py tells over all paths
-# and walks: the stored output of the program classpath_list, which the CI run holds that program to, on 60 graphs; and what the built
+# and walks: the stored output of the program bench_graphs, which the CI run holds that program to, on 60 graphs; and what the built
 # program tells on 3,000 others, and on 1,000 more, each followed by two projects over the same libraries. It needs python3.
 . "$(dirname "$0")/cases.sh"
-stored=crates/classpath_list
-program=$stored/out/classpath_list
+stored=crates/bench_graphs
+program=$stored/out/bench_graphs
 
 # COUNT SEED [WORD]: writes so many graphs and their answers
 graphs() { python3 tests/graphs.py "$1" "$2" "$work/given" "$work/wanted" "${@:3}" || stop "tests/graphs.py ended with status $?"; }

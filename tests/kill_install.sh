@@ -5,10 +5,10 @@
 # takes, and half soon after a certain file is published, so that whatever the machine does most are killed while they run. After each kill every
 # POM and every jar is absent, or has all its old bytes or all its new ones, and the next run says what an undisturbed one says, and leaves its
 # files and no piece. Then the same over pieces of an earlier run, where each install is killed when a certain piece is gone.
-# usage: kill_install.sh [KILLS], 40 if absent. The program is the one that MVN names, or bin/mvn.
+# usage: kill_install.sh [KILLS], 40 if absent, and 10 if the program is UNPROVED. The program is the one that MVN names, or bin/mvn.
 . "$(dirname "$0")/cases.sh"
 find_program
-kills=${1-40}
+kills=${1-$([ -z "$unproved" ] && echo 40 || echo 10)}
 [[ $kills =~ ^[1-9][0-9]*$ ]] || stop "usage: kill_install.sh [KILLS]"
 cd "$work" || exit 1
 export MVN_REPO=$work/repository MVN_REMOTE=$work/remote
@@ -32,7 +32,7 @@ module() {
 pom demo root "<packaging>pom</packaging><modules>$(printf '<module>%s</module>' "${modules[@]}")</modules>" > pom.xml
 for library in y z; do
   mkdir -p "$MVN_REMOTE/x/$library/1"
-  head -c 1500000 /dev/urandom > "$MVN_REMOTE/x/$library/1/$library-1.jar"
+  head -c "$(bytes 1500000)" /dev/urandom > "$MVN_REMOTE/x/$library/1/$library-1.jar"
 done
 for library in y z gone; do
   mkdir -p "$MVN_REMOTE/x/$library/1"
@@ -53,7 +53,7 @@ echo 'no luck' > broken/src/test/java/fail-test
 write_sources() {
   local module
   for module in "${modules[@]}"; do
-    head -c 300000 /dev/zero | tr '\0' "${1:0:1}" > "$module/src/main/java/App.java"
+    head -c "$(bytes 300000)" /dev/zero | tr '\0' "${1:0:1}" > "$module/src/main/java/App.java"
   done
 }
 

@@ -1,12 +1,17 @@
 #!/usr/bin/env python3
 """The definitions of the order of versions, of the order of modules, of the edges that are kept and of the locks of names, as plain and
-slow programs. Compares what they answer with the stored runs of `text_rows` and `order_rows`, row by row. With the word `print` it prints
-the generated rows with their answers, a tab between: versions of three bytes beside all of four, graphs, and calls of locks."""
+slow programs. Compares what they answer with the stored runs of `text_rows` and `order_rows`, row by row; the CI run holds these programs to
+their stored runs. With the word `print` it prints the generated rows with their answers, a tab between: versions of three bytes beside all of
+four, graphs, and calls of locks. It needs no built program."""
 
 import functools
 import itertools
 import pathlib
 import sys
+
+sys.dont_write_bytecode = True
+
+import cases
 
 LETTERS = "01a.-"
 
@@ -226,20 +231,24 @@ def stored(program):
 
 
 def check():
-    """Compares the stored rows that the plain programs can answer; the number of those that they answer otherwise."""
+    """Compares the stored rows that the plain programs can answer."""
     asked = wrong = 0
     for row, answer in itertools.chain(stored("text_rows"), stored("order_rows")):
         kind, _, rest = row.partition(" ")
         if kind in ANSWERS:
             asked += 1
             wrong += ANSWERS[kind](rest) != answer
-    print(f"plain rows: {asked} rows, {wrong} of them answered otherwise")
-    return wrong
+    case = f"{asked} stored rows are answered as by the definitions"
+    if asked and not wrong:
+        cases.passes(case)
+    else:
+        cases.fails(case, f"{wrong} of them are answered otherwise")
 
 
 def main():
     if sys.argv[1:] != ["print"]:
-        return 1 if check() else 0
+        check()
+        return cases.tell()
     seen = set()
     for rows in (among_short(), graphs(), kept(), locks()):
         for row, answer in rows:

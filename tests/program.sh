@@ -57,14 +57,22 @@ sources_sum() {
   } | sha256sum | cut -d' ' -f1
 }
 
-# Leaves in `mvn` the path of the program to run: the one that MVN names, or else bin/mvn, which has to be of the sources as they are
+# PROGRAM: whether ./build --try made it. Such a program has a symbol of this name, wherever it is copied to.
+is_unproved() { LC_ALL=C grep -qaF mvn_is_UNPROVED -- "$1"; }
+
+# Leaves in `mvn` the path of the program to run: the one that MVN names, or else bin/mvn, which has to be of the sources as they are. Leaves
+# a word in `unproved`, and tells so, where ./build --try made it.
+unproved=
 find_program() {
   mvn=${MVN-}
   if [ -n "$mvn" ]; then
     [ -f "$mvn" ] && [ -x "$mvn" ] || stop "there is no program $mvn"
-    return
+  else
+    mvn=$PWD/bin/mvn
+    [ -x "$mvn" ] || stop "no bin/mvn here: call ./build first, or ./build --try after an edit"
+    [ "$(cat bin/mvn.sources 2> /dev/null)" = "$(sources_sum)" ] \
+      || stop "bin/mvn is not of the sources as they are: call ./build first, or ./build --try after an edit"
   fi
-  mvn=$PWD/bin/mvn
-  [ -x "$mvn" ] || stop "no bin/mvn here: call ./build first"
-  [ "$(cat bin/mvn.sources 2> /dev/null)" = "$(sources_sum)" ] || stop "bin/mvn is not of the sources as they are: call ./build first"
+  ! is_unproved "$mvn" || unproved=UNPROVED
+  [ -z "$unproved" ] || echo "$mvn is UNPROVED: ./build --try made it, without proofs" >&2
 }

@@ -4,11 +4,12 @@
     tests/public_tests.py           prints the functions that nothing calls, and a line of counts; fails where there is one
     tests/public_tests.py --all     prints a line for each function: crate, function, and the files that call it
 
-A function counts as called where a file of a test crate (`*_tests`, and its `merged_plugins`), of rows (`*_rows`, programs and libraries,
-and those that these alone stand on, as `row_models` and `*_builds`) or of a measurement (`bench_*` and its `bare_builds`, `classpath_list`
-and its `graph_lines`, whose stored runs are compared too) names it: a function by its own name, one of a type without `self` as `Type::name`, a method as `.name(` in a file that names
-the crate. Where no such file does, the code that names it is listed behind the word `through`. Names are read and no types: a method with
-a common name may be found by a call of another type's.
+A function counts as called where a file names it that belongs to a test crate (`*_tests`), to rows (programs and libraries, `*_rows`, and
+libraries on which these stand, as `row_models`, `test_builds` and `build_row_tables`), to a measurement (`bench_*`, and the libraries
+`bare_builds` and `graph_lines`), or to the program `print_models` and its library `tree_projects`: the outputs of all these are compared.
+A function is named by its own name, one of a type without `self` as `Type::name`, a method as `.name(` in a file that names the crate.
+Where no such file does, the code that names it is listed after the word `through`. Names are read and no types: a method with a common
+name may be found by a call of another type's.
 
 A law is a function without a value whose body does nothing: a call would show nothing, so laws are counted apart.
 """
@@ -19,7 +20,7 @@ import sys
 
 TOP = os.path.join(os.path.dirname(os.path.abspath(__file__)), "..", "crates")
 CALLERS = re.compile(r"(_tests|_rows|_builds)$|^bench_|"
-                     r"^(row_(models|plans|projects)|shown_models|merged_plugins|graph_lines|classpath_list|waiting_hands|build_images|board_site|board_turns)$")
+                     r"^(row_(models|projects)|test_projects|build_row_tables|graph_lines|board_play|print_models|tree_projects)$")
 HEAD = re.compile(r"^(?:pub )?(impl|trait|struct|enum|mod)\b(.*)$")
 
 

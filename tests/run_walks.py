@@ -2,12 +2,13 @@
 """Tries the law that a build's end doesn't depend on who does what when: generates builds with runs of one to three workers, judges each
 entry by the tables of run_law.py, and compares what the runs come to with the build by one thread. In the first part no run has a fault, in
 the second some have. The builds grow with their number; the first of all is FIRST. Prints a line of counts; where something disagrees it
-prints the comparison, the plan, the world and the run, and ends with status 1. usage: run_walks.py [FIRST]"""
+prints the comparison, the plan, the world and the run. It needs no built program. usage: run_walks.py [FIRST]"""
 import sys
 import zlib
 
 sys.dont_write_bytecode = True
 
+import cases
 import event_walks
 from run_law import (
     BUILT, EXCLUSIVE, LIMIT, NOWHERE, POM, SHARED, Goal, Module, Moment, Plan, PlannedEntry, World, all_slots, covers, due_of, endings, fits,
@@ -557,12 +558,12 @@ def main(words):
         counts = compare(int(words[0]) if words else 1, 5000, 1500)
         check_counts(counts)
     except Disagree as found:
-        print('DISAGREE: ' + found.args[0])
         for part in found.args[1:]:
             print('  ' + '\n  '.join(shown(part)))
-        return 1
-    print(told(counts))
-    return 0
+        cases.fails('generated runs end as the build by one thread', found.args[0])
+    else:
+        cases.passes(told(counts))
+    return cases.tell()
 
 
 if __name__ == '__main__':

@@ -21,7 +21,7 @@ need() { echo "<dependencies><dependency><groupId>$1</groupId><artifactId>$2</ar
 
 library=x/y/1/y-1
 mkdir -p "$MVN_REMOTE/x/y/1"
-head -c 3000000 /dev/urandom > "$MVN_REMOTE/$library.jar"
+head -c "$(bytes 3000000)" /dev/urandom > "$MVN_REMOTE/$library.jar"
 pom x y '' > "$MVN_REMOTE/$library.pom"
 report=$(printf 'built demo:%s:1\n' root "${modules[@]}"; echo 'total 4 built 4 failed 0 skipped 0')
 
@@ -35,7 +35,7 @@ for side in old new; do
   pom demo root "$text<packaging>pom</packaging><modules>$(printf '<module>%s</module>' "${modules[@]}")</modules>" > "$side/pom.xml"
   for module in "${modules[@]}"; do
     mkdir -p "$side/$module/src/main/java"
-    head -c 700000 /dev/zero | tr '\0' "${side:0:1}" > "$side/$module/src/main/java/App.java"
+    head -c "$(bytes 700000)" /dev/zero | tr '\0' "${side:0:1}" > "$side/$module/src/main/java/App.java"
     pom demo "$module" "$text$([ "$module" = app ] && need demo base || need x y)" > "$side/$module/pom.xml"
   done
   rm -rf "$MVN_REPO"

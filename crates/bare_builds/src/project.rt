@@ -55,7 +55,7 @@ fn put_modules(
     Ok(())
 }
 
-/// The POMs of so many modules and their root, behind the files that are there.
+/// The POMs of so many modules and their root, after the files that are there.
 pub(crate) fn put_poms(alloc: Global, files: &mut List<SourceFile>, count: u32) -> Mem<()> {
     let mut modules = String::new(alloc);
     put_modules(alloc, files, &mut modules, count)?;

@@ -1,6 +1,8 @@
-//! Builds a project of modules that have nothing but their POM, by several workers over objects in memory. Each line of standard input is a
-//! number of modules, a number of workers, from 1 to 16, and how many times the project is built; it is planned once. Prints how many events
-//! all builds had together.
+//! The program `bench_crew` builds a project of modules that have nothing but their POM, by several workers over objects in memory, and
+//! counts the events.
+//!
+//! Each line of standard input is a number of modules, a number of workers, from 1 to 16, and how many times the project is built; it is
+//! planned once. Prints how many events all builds had together.
 #![tactic(auto)]
 
 use bare_builds::events_of;

@@ -1,7 +1,9 @@
-//! Tells how many elements a POM on standard input has, or by which rule it is none and from which byte on. Where the word
-//! `model` stands behind the program's name it reads the model too, and tells how many profiles that states, or its refusal:
-//! so what a model costs is the difference of two runs, the other with the word `text`. A number behind the word says how
-//! many times all of it is read in one process, where each reading is let go before the next.
+//! The program `bench_elements` reads a POM from standard input, and tells how many elements it has, or by which rule it is none and from
+//! which byte on.
+//!
+//! Where the word `model` stands after the program's name it reads the model too, and tells how many profiles that states, or its
+//! refusal: so what a model costs is the difference of two runs, the other with the word `text`. A number after the word says how many
+//! times all of it is read in one process, where each reading is let go before the next.
 #![tactic(auto)]
 
 use model_types::RawModel;
@@ -25,7 +27,7 @@ fn model_text(alloc: Global, model: &Result<RawModel, ModelError>) -> Mem<String
     }
 }
 
-// The same of a POM of these elements.
+// How many profiles the model of a POM of these elements states, or its refusal.
 fn told_model(alloc: Global, text: &PomText) -> Mem<String> {
     let pom = PomId::Path(Text::from_str(alloc, "pom.xml")?);
     let model = read_model(alloc, text, &pom);
@@ -55,7 +57,7 @@ fn read_times(alloc: Global, bytes: &[u8], has_model: bool, times: u32) -> Mem<(
     Ok(())
 }
 
-// The word of this number behind the program's name; an empty one where there is none.
+// The word of this number after the program's name; an empty one where there is none.
 fn word(rt: &HostRuntime, number: usize) -> Mem<String> {
     let mut room = [0u8; 64];
     let len = rt.arg(number, &mut room).unwrap_or(0);

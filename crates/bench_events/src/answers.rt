@@ -1,9 +1,8 @@
 // All events that a small build may be asked for, and a number for each answer.
 ghost use Rattle.std.specs.Prelude.{◌<◌};
 
-use build_core::{Device, Ending, Event, State};
+use build_core::{Device, Ending, Event, Mode, State};
 use event_core::{Core, NotEnabled};
-use name_locks::Mode;
 
 /// How many events a worker may be asked for with one number: see `event_at`.
 pub(crate) const KINDS: u32 = 17;

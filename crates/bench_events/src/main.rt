@@ -1,11 +1,18 @@
-//! Walks through builds, and tells of each what the event core answers. Each line of standard input is a word and a number: `walk`, a build of
-//! at most three modules that is made from the number, of which at each moment every event is asked for and one that may come is taken;
-//! prints a sum over all answers, and the number of events. `long`, so many events of a build of modules that have nothing but their POM;
-//! prints how many were taken. `front`, a build of so many modules, each with the four before it as upstreams, of which the first that may
-//! begin is built, again and again; prints how many were built. Or a line is a word and events of a build that was worked out by hand, each
-//! a kind, a worker and a number with dots between: `worked` prints what is answered to each, 0 where it is taken; `stands` where the build
-//! then stands: the first module that may begin, the first that is to be skipped, whether all are over, how three modules stand, and which
-//! of four files there are.
+//! The program `bench_events` walks through builds, and tells of each what the event core answers.
+//!
+//! A line of standard input is a word and a number:
+//!
+//! - `walk`: a build of at most three modules that is made from the number, of which at each moment every event is asked for and one that
+//!   may come is taken; prints a sum over all answers, and the number of events
+//! - `long`: so many events of a build of modules that have nothing but their POM; prints how many were taken
+//! - `front`: a build of so many modules, each with the four before it as upstreams, of which the first that may begin is built, again
+//!   and again; prints how many were built
+//!
+//! Or a line is a word and events of a build that was worked out by hand, each a kind, a worker and a number with dots between:
+//!
+//! - `worked`: prints what is answered to each, 0 where it is taken
+//! - `stands`: where the build then stands; prints the first module that may begin, the first that is to be skipped, whether all are
+//!   over, how three modules stand, and which of four files there are
 #![tactic(auto)]
 
 mod answers;

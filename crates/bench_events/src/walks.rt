@@ -1,11 +1,10 @@
 // Walks through builds.
 use crate::answers::{KINDS, TOLD, answer_at, event_at, told_at};
-use build_core::{Ending, Event};
+use build_core::{Ending, Event, Mode};
 use build_outlines::{Draws, linked, small, wide};
 use event_core::Core;
-use module_scripts::Outline;
 use mvn_shared::{Mem, OutOfMemory};
-use name_locks::Mode;
+use scripts::Outline;
 use std::alloc::Global;
 
 // The workers and the numbers that are asked for: one more than there are, at least.
@@ -52,7 +51,7 @@ fn asked(core: &Core) -> (u32, u32, u32) {
     (readings(core, sum), enabled, calm)
 }
 
-// Takes the event, of the first so many kinds, that comes behind so many others that may come.
+// Takes the event, of the first so many kinds, that comes after so many others that may come.
 fn take(core: &mut Core, kinds: u32, skipped: u32) {
     let mut left = skipped;
     for place in 0..KINDS * WORKERS * NUMBERS {
@@ -117,7 +116,7 @@ fn count(core: &mut Core, taken: u32, event: Event) -> u32 {
     }
 }
 
-// The events of a module that has nothing but its POM, behind as many that were taken; how many were taken.
+// The events of a module that has nothing but its POM, after as many that were taken; how many were taken.
 fn one_module(core: &mut Core, taken: u32, module: u32) -> u32 {
     let (worker, name) = (0, 0);
     let mode = Mode::Exclusive;

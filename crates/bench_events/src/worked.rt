@@ -5,8 +5,8 @@ use crate::walks::begun;
 use build_core::Event;
 use build_outlines::{bare, of_nothing, push_absent};
 use event_core::Core;
-use module_scripts::{ModuleOutline, Outline};
 use mvn_shared::{List, Mem};
+use scripts::{ModuleOutline, Outline};
 use std::alloc::Global;
 
 // The kinds of events by their numbers: see `event_at`.
@@ -180,7 +180,7 @@ fn push_standing(alloc: Global, shown: &mut String, core: &Core) -> Mem<()> {
     Ok(())
 }
 
-/// Where the build stands behind events.
+/// Where the build stands after events.
 pub(crate) fn push_stands(alloc: Global, shown: &mut String, events: &str) -> Mem<()> {
     let mut core = core(alloc)?;
     ask_for(&mut core, events);

@@ -1,23 +1,26 @@
-//! Programs of `bench/` over the lowest libraries. A line `measure KIND` of standard input begins a part, which goes up to the next such line
-//! or to the end.
+//! The program `bench_low` measures the lowest libraries: which versions a requirement admits, in which order modules are built, and what
+//! workers note under a turn lock.
+//!
+//! A line `measure KIND` of standard input begins a part, which goes up to the next such line or to the end.
 //!
 //! - `measure versions`: which versions a requirement admits. The requirement is the first line, a version each further one. Prints the
 //!   admitted ones in ascending order, and the highest, at the end of the part
-//! - `measure modules`: in which order modules are built. The first line is their number, each further one an edge: a module and an upstream
-//!   of it, with a space between. A line `soft K` gives each module K soft edges, to the modules that come behind it, the first again behind
-//!   the last. Prints the order, or the cycle, on one line, at the end of the part
-//! - `measure turns`: what workers note under a turn lock, each worker in a thread of its own. Each line is a number of workers, from 1 to
-//!   16, a number of notes for each, and a way or none; prints how many notes there are, and how many of them stand in their worker's order.
-//!   The ways: `rounds`, each rests until all before it in its round have noted; `idle`, the same, and each sleeps for 100 ms before it notes;
-//!   `held`, each sleeps for 100 ms in a turn of its own before it notes; `turns`, as with none, and their order isn't looked at (it prints 0);
-//!   `mutex`, the same under a plain mutex in place of the lock. With `idle` and `held` it prints too whether the process used less than half
-//!   of one processor while it ran (`parked`), so that threads that wait do nothing, or not (`busy`). The sleeps follow one another, so there
-//!   is a hundredth of that to do: a host that takes the processors away for most of the time doesn't make it half of one
+//! - `measure modules`: in which order modules are built. The first line is their number, each further one an edge: a module and an
+//!   upstream of it, with a space between. A line `soft K` gives each module K soft edges, to the modules that come after it, the first
+//!   again after the last. Prints the order, or the cycle, on one line, at the end of the part
+//! - `measure turns`: what workers note under a turn lock, each worker in a thread of its own. Each line is a number of workers, from 1
+//!   to 16, a number of notes for each, and a way or none; prints how many notes there are, and how many of them stand in their worker's
+//!   order. The ways: `rounds`, each rests until all before it in its round have noted; `idle`, the same, and each sleeps for 100 ms
+//!   before it notes; `held`, each sleeps for 100 ms in a turn of its own before it notes; `turns`, as with none, and their order isn't
+//!   looked at (it prints 0); `mutex`, the same under a plain mutex in place of the lock. With `idle` and `held` it prints too whether
+//!   the process used less than half of one processor while it ran (`parked`), so that threads that wait do nothing, or not (`busy`). The
+//!   sleeps follow one another, so there is a hundredth of that to do: a host that takes the processors away for most of the time doesn't
+//!   make it half of one
 #![tactic(auto)]
 
 mod modules;
 mod turns;
-mod versions;
+mod version_times;
 
 use mvn_shared::Mem;
 use std::alloc::Global;
@@ -92,7 +95,7 @@ fn push_line(lines: &mut String, line: &str) -> Mem<()> {
 // The end of a part.
 fn end(rt: &HostRuntime, part: &Part) -> anyhow::Result<()> {
     match part.kind {
-        Kind::Versions => versions::print(rt, part.lines.as_str()),
+        Kind::Versions => version_times::print(rt, part.lines.as_str()),
         Kind::Modules => modules::print(rt, part.lines.as_str()),
         _ => Ok(()),
     }
@@ -113,7 +116,7 @@ fn keep(part: &mut Part, line: &str) -> Mem<()> {
     }
 }
 
-// One line more: the first of a part, or a further one.
+// Takes one line more: the first of a part, or a further one.
 fn take(rt: &HostRuntime, part: &mut Part, line: &str) -> anyhow::Result<()> {
     if line.starts_with("measure ") {
         return begin(rt, part, kind_of(line));
@@ -121,7 +124,7 @@ fn take(rt: &HostRuntime, part: &mut Part, line: &str) -> anyhow::Result<()> {
     Ok(keep(part, line)?)
 }
 
-// The same, and what was told of the line.
+// Prints what was told of a line, and takes the line.
 fn take_told(
     rt: &HostRuntime,
     part: &mut Part,

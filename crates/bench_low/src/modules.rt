@@ -23,7 +23,7 @@ fn print_list(rt: &HostRuntime, label: &str, list: &List<u32>) -> anyhow::Result
     Ok(())
 }
 
-// So many soft edges of one module, to the modules behind it.
+// So many soft edges of one module, to the modules after it.
 fn push_soft(edges: &mut Vec<(u32, u32)>, n: u32, module: u32, count: u32) -> Result<(), AllocError>
     requires { 0 < n }
 {

@@ -1,6 +1,11 @@
-//! Joins and fills models of a size. Each line of standard input is a word and a number: `inherit`, a POM of so many dependencies over
-//! one of as many, half of them shared; `inject`, with a profile of as many; `chain`, so many properties, each of which names the one
-//! before it; `long`, so many that name one of 65,536 bytes. Prints the dependencies that come out, or the bytes.
+//! The program `bench_models` joins models and fills in their expressions, each of the size that a line asks for.
+//!
+//! A line of standard input is a word and a number; the program prints the dependencies that come out, or the bytes:
+//!
+//! - `inherit`: a POM of so many dependencies over one of as many, of which the two share half
+//! - `inject`: a POM of so many dependencies with a profile of half of them
+//! - `chain`: so many properties, each of which names the next one; the last is one byte
+//! - `long`: so many properties, of which the first has 65,536 bytes and each other names it
 #![tactic(auto)]
 
 mod models;

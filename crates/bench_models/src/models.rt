@@ -1,11 +1,13 @@
+//! Models of a size, and what comes out where they are joined or filled.
+
 use inheritance::inherit;
-use interpolate::fill;
+use interpolation::fill;
 use model_types::{
     Build, BuildBase, Coordinates, Dependency, ModelBase, Outputs, Profile, RawModel, Sources,
 };
 use mvn_base::{Machine, Pair, PomId};
 use mvn_shared::{List, Mem, Shared, Text};
-use profile_injection::inject;
+use profiles::inject;
 use std::alloc::Global;
 
 fn text(alloc: Global, text: &str) -> Mem<Text> {

@@ -15,16 +15,16 @@ use Rattle.build_core.specs.Slots.{GoalsEnd, all_answered, goal_failed, kept_of,
 use Rattle.event_core.specs.Enabled.{Enabled}
 use Rattle.event_core.specs.Runs.{answers_in, goals_in, module_by}
 use Rattle.event_core.specs.Standing.{course_of, module_of, standing_of}
-use Rattle.module_scripts.specs.declared.deed.Deed.TheVariants as deed
+use Rattle.scripts.specs.declared.deed.Deed.TheVariants as deed
 use Rattle.event_core.specs.declared.entry.Carried.TheVariants as carried
 use Rattle.event_core.specs.declared.entry.RunEntry.{RunEntry}
-use Rattle.module_scripts.specs.declared.outline.Outline.{Outline}
+use Rattle.scripts.specs.declared.outline.Outline.{Outline}
 use Rattle.event_core.proofs.Weights.{nothing_is}
-use Rattle.goal_answers.specs.Tables.{goal_counts}
+use Rattle.board.specs.Tables.{goal_counts}
 use Rattle.run_law.proofs.Complete.{at_work}
 use Rattle.run_law.proofs.Kept.{answers_more, outputs_are, outs_at}
 use Rattle.run_law.specs.Given.{outputs_after}
-use Rattle.goal_answers.specs.Walks.{goals_of, stand_of}
+use Rattle.board.specs.Walks.{goals_of, stand_of}
 use Rattle.board.specs.Builds.{AreCaused, Build, IsCalm, answer_kept, kept_so}
 use Rattle.board.specs.Keeping.{IsBoard, Room, answer_count, log_by, publish_count}
 use Rattle.board.specs.Logs.{publishes_in, published_since, told_after}

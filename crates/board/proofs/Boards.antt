@@ -13,8 +13,8 @@ use Rattle.event_core.specs.Runs.{IsQuiet, answers_in, is_quiet_event}
 use Rattle.event_core.specs.Standing.{standing_of}
 use Rattle.event_core.specs.declared.entry.Carried.TheVariants as carried
 use Rattle.event_core.specs.declared.entry.RunEntry.{RunEntry}
-use Rattle.module_scripts.specs.declared.outline.Outline.{Outline}
-use Rattle.module_scripts.proofs.Climbs.{both}
+use Rattle.scripts.specs.declared.outline.Outline.{Outline}
+use Rattle.scripts.proofs.Climbs.{both}
 use Rattle.board.specs.Builds.{AreBusy, AreCaused, IsCalm}
 use Rattle.board.specs.Keeping.{IsBoard, Room, is_plain, log_by, publish_count}
 use Rattle.board.specs.Logs.{is_shelf_end, marked, published_since, shelf_endings, told_after}

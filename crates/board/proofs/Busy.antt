@@ -5,15 +5,15 @@ use Rattle.std.proofs.lemmas.List.{get_or-set_other, get_or-set_same}
 use Rattle.build_core.specs.declared.ending.Ending.{Ending}
 use Rattle.build_core.specs.declared.event.Event.{Event}
 use Rattle.build_core.specs.declared.event.Event.TheVariants as event
-use Rattle.module_scripts.specs.Climbing.{but}
+use Rattle.scripts.specs.Climbing.{but}
 use Rattle.event_core.specs.Enabled.{IsRun}
-use Rattle.module_scripts.specs.Scripts.{settled}
-use Rattle.module_progress.specs.HowFar.{is_over}
+use Rattle.scripts.specs.Scripts.{settled}
+use Rattle.event_core.specs.HowFar.{is_over}
 use Rattle.event_core.specs.Standing.{Course, Standing, after, after_deed, after_free, course_of, held_by, idle, is_complete, module_of, on_course, standing_of, start_of}
-use Rattle.module_scripts.specs.Outlines.{is_empty}
-use Rattle.module_scripts.specs.declared.deed.Deed.TheVariants as deed
-use Rattle.module_scripts.specs.declared.outline.Outline.{Outline}
-use Rattle.module_scripts.proofs.Dues.{below_or_not}
+use Rattle.scripts.specs.Outlines.{is_empty}
+use Rattle.scripts.specs.declared.deed.Deed.TheVariants as deed
+use Rattle.scripts.specs.declared.outline.Outline.{Outline}
+use Rattle.scripts.proofs.Dues.{below_or_not}
 use Rattle.event_core.proofs.Fits.{one_more, same_or_not}
 use Rattle.event_core.proofs.Ties.{deed_module, free_module, set_far, turned_module}
 use Rattle.run_law.proofs.Complete.{all_over, standing}

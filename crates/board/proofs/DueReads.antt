@@ -4,8 +4,8 @@ use Rattle.std.specs.List.{list_all}
 use Rattle.std.specs.Option.{option_map_or}
 use Rattle.std.proofs.lemmas.Bool.{eqb-true, false≢true}
 use Rattle.std.proofs.lemmas.List.{length-set}
-use Rattle.name_locks.specs.Locks.{below}
-use Rattle.name_locks.specs.declared.mode.Mode.TheVariants.{Shared, Exclusive}
+use Rattle.build_core.specs.Locks.{below}
+use Rattle.build_core.specs.declared.mode.Mode.TheVariants.{Shared, Exclusive}
 use Rattle.build_core.specs.declared.event.Event.{Event}
 use Rattle.build_core.specs.declared.event.Event.TheVariants as event
 use Rattle.build_core.specs.declared.plan.Entry.{Entry}
@@ -13,14 +13,14 @@ use Rattle.build_core.specs.declared.plan.Origin.{Origin}
 use Rattle.build_core.specs.declared.plan.Origin.TheVariants as origin
 use Rattle.build_core.specs.declared.plan.Plan.{Plan}
 use Rattle.build_core.specs.declared.plan.PlanModule.{PlanModule}
-use Rattle.module_scripts.specs.declared.deed.Deed.{Deed}
-use Rattle.module_scripts.specs.declared.deed.Deed.TheVariants as deed
-use Rattle.module_scripts.specs.declared.outline.ModuleOutline.{ModuleOutline}
-use Rattle.module_scripts.specs.declared.outline.Outline.{Outline}
-use Rattle.module_scripts.specs.Climbing.{but}
+use Rattle.scripts.specs.declared.deed.Deed.{Deed}
+use Rattle.scripts.specs.declared.deed.Deed.TheVariants as deed
+use Rattle.scripts.specs.declared.outline.ModuleOutline.{ModuleOutline}
+use Rattle.scripts.specs.declared.outline.Outline.{Outline}
+use Rattle.scripts.specs.Climbing.{but}
 use Rattle.event_core.specs.Enabled.{Enabled, IsRun, is_due}
-use Rattle.module_scripts.specs.Outlines.{files_of, files_read, is_empty, is_listed, module_outline, once_more, outline_of}
-use Rattle.module_scripts.specs.Scripts.{Script, Step, absent, answers, choice_script, done, fetches, frees, install_script, is_there, is_wanted, lock_script, may_publish, own_script, publishes, read_script, reads, release_script, script_of, settled, stage_of, step, steps, takes, whole, is_gathered, wanted}
+use Rattle.scripts.specs.Outlines.{files_of, files_read, is_empty, is_listed, module_outline, once_more, outline_of}
+use Rattle.scripts.specs.Scripts.{Script, Step, absent, answers, choice_script, done, fetches, frees, install_script, is_there, is_wanted, lock_script, may_publish, own_script, publishes, read_script, reads, release_script, script_of, settled, stage_of, step, steps, takes, whole, is_gathered, wanted}
 use Rattle.event_core.specs.SoundPlans.{IsSoundPlan, is_backed}
 use Rattle.event_core.specs.Standing.{Course, Standing, after, after_deed, after_free, course_of, goals_of, held_by, idle, module_of, off_course, on_course, standing_of, start_of}
 use Rattle.event_core.proofs.Ties.{any_idle}
@@ -28,7 +28,7 @@ use Rattle.event_core.proofs.Weights.{nothing_is}
 use Rattle.run_law.proofs.Basics.{and_is, both3, chosen}
 use Rattle.run_law.proofs.Complete.{by_events, standing}
 use Rattle.run_law.proofs.Courses.{at_place, courses_after, courses_first}
-use Rattle.run_law.proofs.Gathering.{all_here, gathering_after, gathering_first, late_none}
+use Rattle.run_law.proofs.RunGathering.{all_here, gathering_after, gathering_first, late_none}
 use Rattle.run_law.proofs.Invariants.{AreCoursesFit, AreGathering, IsGathering, pending}
 use Rattle.run_law.proofs.Once.{both, listed_first, listed_later}
 use Rattle.run_law.proofs.Ready.{all_listed}

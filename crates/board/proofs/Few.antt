@@ -2,7 +2,7 @@
 use Rattle.std.proofs.Common.{◌<◌, ◌≤◌, ◌+◌, ◌*◌, ◌^◌, ℕ, List, [], ◌∷◌, length, arith}
 use Rattle.build_core.specs.declared.plan.Plan.{Plan}
 use Rattle.build_core.specs.declared.plan.PlanModule.{PlanModule}
-use Rattle.module_scripts.specs.Bounds.{total}
+use Rattle.scripts.specs.Bounds.{total}
 use Rattle.event_core.specs.SoundPlans.{IsSoundPlan, greatest_events}
 
 -- each module has events

@@ -1,3 +1,7 @@
+mod AnswerOutputs
+mod Placed
+pub mod KeptOutputs
+pub mod Sharing
 mod AnswerMore
 mod Boards
 mod Busy

@@ -21,12 +21,12 @@ use Rattle.build_core.specs.declared.plan.Plan.{Plan}
 use Rattle.event_core.specs.Enabled.{Enabled, is_due}
 use Rattle.event_core.specs.Runs.{answers_in}
 use Rattle.event_core.specs.Standing.{course_of, module_of, standing_of}
-use Rattle.module_scripts.specs.declared.deed.Deed.{Deed}
-use Rattle.module_scripts.specs.declared.deed.Deed.TheVariants as deed
+use Rattle.scripts.specs.declared.deed.Deed.{Deed}
+use Rattle.scripts.specs.declared.deed.Deed.TheVariants as deed
 use Rattle.event_core.specs.declared.entry.Carried.{Carried}
 use Rattle.event_core.specs.declared.entry.Carried.TheVariants as carried
 use Rattle.event_core.specs.declared.entry.RunEntry.{RunEntry}
-use Rattle.module_scripts.specs.declared.outline.Outline.{Outline}
+use Rattle.scripts.specs.declared.outline.Outline.{Outline}
 use Rattle.event_core.proofs.Ties.{any_idle}
 use Rattle.run_law.proofs.Complete.{at_work}
 use Rattle.run_law.proofs.Kept.{answers_more}

@@ -1,7 +1,7 @@
 -- States of all modules, one module more.
 use Rattle.std.proofs.Common.{◌≡◌, ℕ, suc, ◌+◌, List, [], ◌∷◌, ◌++◌, length, map, refl, arith, ap, subst, sym, ◌∙◌}
 use Rattle.std.proofs.lemmas.List.{length-append}
-use Rattle.name_locks.specs.Locks.{below}
+use Rattle.build_core.specs.Locks.{below}
 use Rattle.build_core.specs.declared.ending.State.{State}
 
 map_more : (f : ℕ → State) (xs : List ℕ) (x : ℕ) → map f (xs ++ x ∷ []) ≡ map f xs ++ f x ∷ []

@@ -6,8 +6,8 @@ use Rattle.std.proofs.lemmas.Bool.{false≢true, lt-ltb}
 use Rattle.std.proofs.lemmas.List.{append-nil, length-replicate, length-set}
 use Rattle.std.proofs.lemmas.List.Folds.{find-append}
 use Rattle.mvn_outside.specs.declared.shelf.ShelfTold.{ShelfTold}
-use Rattle.name_locks.specs.Locks.{below, blocker}
-use Rattle.name_locks.specs.declared.mode.Mode.{Mode}
+use Rattle.build_core.specs.Locks.{below, blocker}
+use Rattle.build_core.specs.declared.mode.Mode.{Mode}
 use Rattle.build_core.specs.declared.ending.Ending.{Ending}
 use Rattle.build_core.specs.declared.ending.Ending.TheVariants.{Built}
 use Rattle.build_core.specs.declared.event.Answered.{Answered}
@@ -17,20 +17,20 @@ use Rattle.build_core.specs.declared.plan.Plan.{Plan}
 use Rattle.event_core.specs.Causes.{cause_now, hold_cause, where_found}
 use Rattle.event_core.specs.Enabled.{Enabled, is_due, may_end_so}
 use Rattle.event_core.specs.Going.{AreOn, GoesOn, IsDue, NamesAscend, NeverWaits}
-use Rattle.module_scripts.specs.Outlines.{outline_of}
+use Rattle.scripts.specs.Outlines.{outline_of}
 use Rattle.event_core.specs.Sound.{IsSound}
 use Rattle.event_core.specs.SoundPlans.{IsSoundPlan}
 use Rattle.event_core.specs.Runs.{events_of, is_quiet_event}
-use Rattle.module_progress.specs.HowFar.{first_lost, first_not_built, is_ready, is_skippable, is_waiting, progress_of}
+use Rattle.event_core.specs.HowFar.{first_lost, first_not_built, is_ready, is_skippable, is_waiting, progress_of}
 use Rattle.event_core.specs.Standing.{Course, Standing, course_of, held_by, idle, is_complete, module_of, off_course, on_course, standing_of}
-use Rattle.module_scripts.specs.declared.deed.Deed.TheVariants as deed
-use Rattle.module_scripts.specs.declared.outline.Outline.{Outline}
+use Rattle.scripts.specs.declared.deed.Deed.TheVariants as deed
+use Rattle.scripts.specs.declared.outline.Outline.{Outline}
 use Rattle.event_core.specs.declared.refused.NotEnabled.{NotEnabled}
 use Rattle.event_core.specs.declared.refused.NotEnabled.TheVariants.{Lock}
-use Rattle.module_scripts.proofs.Climbs.{both}
+use Rattle.scripts.proofs.Climbs.{both}
 use Rattle.event_core.proofs.Law.{cause_none, none_above}
 use Rattle.event_core.proofs.Weights.{nothing_is}
-use Rattle.goal_answers.specs.Tables.{goal_counts}
+use Rattle.board.specs.Tables.{goal_counts}
 use Rattle.mvn_outside.specs.Shelf.{files_now}
 use Rattle.run_law.specs.Given.{IsPresent}
 use Rattle.run_law.proofs.Complete.{at_work}

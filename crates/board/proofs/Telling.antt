@@ -10,9 +10,9 @@ use Rattle.build_core.specs.declared.event.Event.TheVariants as event
 use Rattle.build_core.specs.declared.plan.Plan.{Plan}
 use Rattle.event_core.specs.Enabled.{Enabled, IsRun}
 use Rattle.event_core.specs.Runs.{IsRunOf, contents, events_of, standing_of_run}
-use Rattle.module_scripts.specs.Scripts.{is_there}
+use Rattle.scripts.specs.Scripts.{is_there}
 use Rattle.event_core.specs.declared.entry.RunEntry.{RunEntry}
-use Rattle.module_scripts.specs.declared.outline.Outline.{Outline}
+use Rattle.scripts.specs.declared.outline.Outline.{Outline}
 use Rattle.run_law.specs.Given.{IsPresent}
 use Rattle.board.specs.Keeping.{IsBoard, Room, log_by}
 use Rattle.board.specs.Logs.{AreCarried, published_since, told_after}

@@ -15,16 +15,16 @@ use Rattle.build_core.specs.declared.event.Event.{Event}
 use Rattle.build_core.specs.declared.event.Event.TheVariants as event
 use Rattle.build_core.specs.declared.plan.Plan.{Plan}
 use Rattle.event_core.specs.Enabled.{Enabled, IsEnabled, IsRun}
-use Rattle.module_scripts.specs.Outlines.{outline_of}
+use Rattle.scripts.specs.Outlines.{outline_of}
 use Rattle.event_core.specs.Runs.{IsRunOf, contents, events_of, put_carried, put_under, standing_of_run, writes_of}
-use Rattle.module_scripts.specs.Scripts.{is_there}
+use Rattle.scripts.specs.Scripts.{is_there}
 use Rattle.event_core.specs.SoundPlans.{IsSoundPlan}
 use Rattle.event_core.specs.Standing.{Standing, after, at_first, standing_of}
 use Rattle.event_core.specs.Worlds.{is_told}
 use Rattle.event_core.specs.declared.entry.Carried.{Carried}
 use Rattle.event_core.specs.declared.entry.Carried.TheVariants as carried
 use Rattle.event_core.specs.declared.entry.RunEntry.{RunEntry}
-use Rattle.module_scripts.specs.declared.outline.Outline.{Outline}
+use Rattle.scripts.specs.declared.outline.Outline.{Outline}
 use Rattle.event_core.proofs.Fits.{fold_more, one_more, same_or_not}
 use Rattle.run_law.specs.Given.{IsPresent}
 use Rattle.run_law.proofs.Carried.{at_insert, name_itself}

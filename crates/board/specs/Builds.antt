@@ -11,10 +11,10 @@ use Rattle.mvn_outside.specs.declared.fault.ReadFault.{ReadFault}
 use Rattle.mvn_outside.specs.declared.fault.ReadFault.TheVariants as read
 use Rattle.mvn_outside.specs.declared.shelf.ShelfTold.{ShelfTold}
 use Rattle.goal_types.specs.declared.goal.Slot.{Slot}
-use Rattle.name_locks.specs.Locks.{below, blocker}
-use Rattle.name_locks.specs.declared.mode.Mode.{Mode}
-use Rattle.name_locks.specs.declared.table.Tried.{Tried}
-use Rattle.name_locks.specs.declared.table.Tried.TheVariants.{Taken, Busy}
+use Rattle.build_core.specs.Locks.{below, blocker}
+use Rattle.build_core.specs.declared.mode.Mode.{Mode}
+use Rattle.build_core.specs.declared.table.Tried.{Tried}
+use Rattle.build_core.specs.declared.table.Tried.TheVariants.{Taken, Busy}
 use Rattle.build_core.specs.declared.event.Event.{Event}
 use Rattle.build_core.specs.declared.event.Event.TheVariants as event
 use Rattle.build_core.specs.declared.plan.Plan.{Plan}
@@ -22,18 +22,18 @@ use Rattle.build_core.specs.OneThread.{name_of}
 use Rattle.build_core.specs.Slots.{GoalsEnd, slot_bytes}
 use Rattle.event_core.specs.Enabled.{Enabled}
 use Rattle.event_core.specs.Going.{AreOn, GoesOn}
-use Rattle.module_scripts.specs.Outlines.{outline_of}
+use Rattle.scripts.specs.Outlines.{outline_of}
 use Rattle.event_core.specs.Runs.{IsQuiet, answers_in, events_of, goals_in, module_by, standing_of_run}
-use Rattle.module_scripts.specs.Scripts.{is_there}
-use Rattle.module_progress.specs.HowFar.{is_ready, is_skippable}
+use Rattle.scripts.specs.Scripts.{is_there}
+use Rattle.event_core.specs.HowFar.{is_ready, is_skippable}
 use Rattle.event_core.specs.Standing.{Standing, course_of, is_complete, module_of}
 use Rattle.event_core.specs.declared.entry.Carried.{Carried}
 use Rattle.event_core.specs.declared.entry.Carried.TheVariants as carried
 use Rattle.event_core.specs.declared.entry.RunEntry.{RunEntry}
-use Rattle.module_scripts.specs.declared.outline.Outline.{Outline}
+use Rattle.scripts.specs.declared.outline.Outline.{Outline}
 use Rattle.event_core.specs.Worlds.{is_too_large_at}
-use Rattle.goal_answers.specs.declared.walk.GoalsStand.{GoalsStand}
-use Rattle.goal_answers.specs.declared.walk.GoalsStand.TheVariants as stand
+use Rattle.board.specs.declared.walk.GoalsStand.{GoalsStand}
+use Rattle.board.specs.declared.walk.GoalsStand.TheVariants as stand
 use Rattle.run_law.specs.Given.{outputs_after}
 use Rattle.board.specs.Logs.{marked, shelf_endings}
 use Rattle.board.specs.declared.next.AnswerKept.{AnswerKept}

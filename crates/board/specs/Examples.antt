@@ -3,7 +3,7 @@ use Rattle.std.specs.Prelude.{◌≡◌, true, false, List, [], ◌∷◌, Some,
 use Rattle.std.proofs.Common.{refl}
 use Rattle.goal_types.specs.declared.goal.GoalAnswer.TheVariants.{Done}
 use Rattle.mvn_outside.specs.declared.shelf.Published.{Published}
-use Rattle.name_locks.specs.declared.table.Tried.TheVariants.{Busy}
+use Rattle.build_core.specs.declared.table.Tried.TheVariants.{Busy}
 use Rattle.build_core.specs.declared.ending.Device.TheVariants.{Remote, Shelf}
 use Rattle.build_core.specs.declared.ending.Ending.TheVariants.{Built, Fault}
 use Rattle.build_core.specs.declared.event.Answered.{Answered}

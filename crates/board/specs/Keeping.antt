@@ -5,13 +5,13 @@ use Rattle.build_core.specs.declared.event.Answered.{Answered}
 use Rattle.build_core.specs.declared.event.Event.{Event}
 use Rattle.build_core.specs.declared.event.Event.TheVariants as event
 use Rattle.build_core.specs.declared.plan.Plan.{Plan}
-use Rattle.module_scripts.specs.Outlines.{outline_of}
+use Rattle.scripts.specs.Outlines.{outline_of}
 use Rattle.event_core.specs.Runs.{answers_in}
 use Rattle.event_core.specs.SoundPlans.{IsSoundPlan}
 use Rattle.event_core.specs.Standing.{standing_of}
 use Rattle.event_core.specs.declared.entry.RunEntry.{RunEntry}
-use Rattle.module_scripts.specs.declared.outline.Outline.{Outline}
-use Rattle.goal_answers.specs.Tables.{KeptAnswers, goal_counts}
+use Rattle.scripts.specs.declared.outline.Outline.{Outline}
+use Rattle.board.specs.Tables.{KeptAnswers, goal_counts}
 use Rattle.mvn_outside.specs.Shelf.{files_now}
 use Rattle.run_law.specs.Given.{IsPresent}
 use Rattle.board.specs.Builds.{AreBusy, AreCaused, IsCalm}

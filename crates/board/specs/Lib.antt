@@ -1,3 +1,9 @@
+pub use Rattle.build_core.specs.OneThread
+pub mod Tables
+pub mod Walks
+pub use Rattle.goal_types.specs.Goals
+pub use Rattle.build_core.specs.Slots
+pub mod Crossings
 pub use Rattle.event_core.specs.Runs
 pub mod Builds
 pub mod Examples

@@ -1,19 +1,19 @@
 // The board and its calls that leave the repository alone.
 ghost use Rattle.std.specs.Prelude.{◌≡◌, ℕ, ◌<◌, ◌≤◌, ◌^◌, [], ◌∷◌, ◌++◌, true, false, None, Some, is_some, length, replicate, slice_set, IfErr, IfOk, IfSome, OnOk};
 ghost use Rattle.mvn_outside.specs.Shelf.{files_now};
-ghost use Rattle.name_locks.specs.declared.table.Tried.TheVariants.{Busy};
+ghost use Rattle.build_core.specs.declared.table.Tried.TheVariants.{Busy};
 ghost use Rattle.build_core.specs.declared.event.Event.TheVariants as event;
-ghost use Rattle.module_scripts.specs.Bounds.{most_events};
+ghost use Rattle.scripts.specs.Bounds.{most_events};
 ghost use Rattle.event_core.specs.Causes.{cause_now};
 ghost use Rattle.event_core.specs.Enabled.{Enabled, is_due};
-ghost use Rattle.module_scripts.specs.Outlines.{outline_of};
+ghost use Rattle.scripts.specs.Outlines.{outline_of};
 ghost use Rattle.event_core.specs.Runs.{IsQuiet, IsRunOf, answers_in, contents, events_of, is_quiet_event};
-ghost use Rattle.module_scripts.specs.Scripts.{is_there};
+ghost use Rattle.scripts.specs.Scripts.{is_there};
 ghost use Rattle.event_core.specs.SoundPlans.{IsSoundPlan};
 ghost use Rattle.event_core.specs.Standing.{course_of, is_complete, standing_of};
-ghost use Rattle.module_scripts.specs.declared.deed.Deed.TheVariants.{Take};
+ghost use Rattle.scripts.specs.declared.deed.Deed.TheVariants.{Take};
 ghost use Rattle.event_core.specs.declared.refused.NotEnabled.TheVariants.{Lock};
-ghost use Rattle.goal_answers.specs.Tables.{goal_counts};
+ghost use Rattle.board.specs.Tables.{goal_counts};
 ghost use Rattle.run_law.specs.Given.{IsPresent, states_after};
 ghost use Rattle.board.specs.Builds.{AnotherGoesOn, AreBusy, AreCaused, HasFiles, IsCalm, MayCome, NoneLeft, after_next, after_try, is_marked, module_at, next_at, next_in, opened, standing_at, tried_at, with_event, with_mark};
 ghost use Rattle.board.specs.Keeping.{is_ending, is_plain};
@@ -21,14 +21,13 @@ ghost use Rattle.board.specs.Logs.{AreCarried, is_shelf_end, told_after};
 ghost use Rattle.board.specs.declared.board.BoardError.TheVariants.{Memory};
 ghost use Rattle.board.specs.declared.next.Next.TheVariants as next;
 
+use crate::AnswerTable;
 use crate::next::Next;
 use crate::states::StateRoom;
-use build_core::{Answered, Ending, Event, Plan, State};
+use build_core::{Answered, Ending, Event, Mode, Plan, State, Tried};
 use event_core::{Core, NotEnabled};
-use goal_answers::AnswerTable;
 use mvn_outside::Shelf;
 use mvn_shared::{List, Mem};
-use name_locks::{Mode, Tried};
 use run_law::bound::runs_fit_in;
 use std::alloc::Global;
 use std::marker::Model;
@@ -315,11 +314,12 @@ impl<'a, S: Shelf> Board<'a, S> {
         }
     }
 
-    /// A law: what a board keeps. Its log is a run of its plan, no longer than the plan's events, and each entry carries what it has to;
-    /// what the repository tells is what it told at the start with the log's publishes behind; `present` says which of the plan's files
-    /// it had then, and `has` which it has now, as the log puts them; where it tells, its faults are at least as many as the modules that
-    /// ended by them and the workers that are marked; where no module ended by a fault or for want of memory and none is marked, they are
-    /// as many as at the start; and who is marked builds a module. Does nothing. Project rule.
+    /// A law: what a board keeps. Its log is a run of its plan, no longer than the plan's events, and each entry
+    /// carries what it has to; what the repository tells is what it told at the start with the log's publishes after
+    /// it; `present` says which of the plan's files it had then, and `has` which it has now, as the log puts them;
+    /// where it tells, its faults are at least as many as the modules that ended by them and the workers that are
+    /// marked; where no module ended by a fault or for want of memory and none is marked, they are as many as at the
+    /// start; and who is marked builds a module. Does nothing. Project rule.
     pub fn keeps(&self)
         ensures run { IsRunOf self.now.plan self.now.log }
         ensures bound { length self.now.log ≤ self.now.plan.events }

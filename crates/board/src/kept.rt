@@ -1,4 +1,4 @@
-// The board as a value behind the turn lock.
+// The board as a value under the turn lock.
 use crate::board::Board;
 use build_core::Plan;
 use event_core::RunEntry;

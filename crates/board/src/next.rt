@@ -1,4 +1,4 @@
-// What the board answers.
+// What the board answers to an idle worker, and to an answer that is kept.
 
 /// What a worker is told to do next.
 #[derive(Clone, Copy)]

@@ -1,4 +1,4 @@
-// A file is published.
+// The call of the board that publishes a file.
 ghost use Rattle.std.specs.Prelude.{◌≡◌, ◌<◌, true, Some, length, OnErr, OnOk};
 ghost use Rattle.std.specs.FinMap as map;
 ghost use Rattle.mvn_shared.specs.Cause.{HasCause};
@@ -11,9 +11,8 @@ ghost use Rattle.board.specs.Builds.{MayCome, Publishes, with_entry, with_fault,
 
 use crate::board::{Board, set_mark, step};
 use build_core::{Event, Plan};
-use local_repo::put;
 use mvn_base::FileName;
-use mvn_outside::{DeviceFault, Shelf};
+use mvn_outside::{DeviceFault, Shelf, put};
 
 // The name of a file.
 pub(crate) fn name_at(plan: &Plan, file: u32) -> &FileName

@@ -1,4 +1,4 @@
-// A file is read.
+// The call of the board that reads a file.
 ghost use Rattle.std.specs.Prelude.{◌≡◌, ◌≤◌, ◌<◌, ◌⊎◌, true, None, Some, is_some, length, IfErr, IfOk, IfSome, IsSomeAnd, OnOk};
 ghost use Rattle.mvn_shared.specs.Cause.{HasCause};
 ghost use Rattle.mvn_shared.specs.Files.{file_at};

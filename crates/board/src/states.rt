@@ -1,7 +1,7 @@
 // How all modules stand, when a build is over.
 ghost use Rattle.std.specs.Prelude.{◌≡◌, ◌<◌, ◌≤◌, ◌^◌, [], ◌∷◌, ◌++◌, length, map, vec_capacity, IfOk};
-ghost use Rattle.name_locks.specs.Locks.{below};
-ghost use Rattle.module_progress.specs.HowFar.{state_of};
+ghost use Rattle.build_core.specs.Locks.{below};
+ghost use Rattle.event_core.specs.HowFar.{state_of};
 ghost use Rattle.event_core.specs.Standing.{standing_of};
 
 use build_core::{Plan, State};

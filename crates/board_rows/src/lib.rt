@@ -1,10 +1,13 @@
-//! Plays builds over objects in memory by a board in one thread, which takes the turns of 1 to 4 workers in an order that is drawn, and
-//! compares each with the build by one hand. The answer to a row is the row itself, and then what comes of it:
+//! Rows about builds that a board plays in one thread are answered: each is compared with the build of the same project by one hand.
 //!
-//! - `calm FIRST COUNT`: of so many projects of up to 5 modules that are made from numbers, from the first on, how many left other endings,
-//!   files or answers than one hand leaves
-//! - `faults FIRST COUNT`: the same where calls of the repository, of the workers' remotes and areas, and of goals fail: how many left a file
-//!   that is neither from before nor one hand's, or a module otherwise than one hand that no fault touched; and whether enough had a fault
+//! The board takes the turns of 1 to 4 workers in an order that is drawn, over objects in memory. The answer to a row is the row itself,
+//! and then what comes of it:
+//!
+//! - `calm FIRST COUNT`: of so many projects of up to 5 modules that are made from numbers, from the first on, how many left other
+//!   endings, files or answers than one hand leaves
+//! - `faults FIRST COUNT`: the same where calls of the repository, of the workers' remotes and areas, and of goals fail: how many left a
+//!   file that is neither from before nor one hand's, or a module otherwise than one hand that no fault touched; and whether enough had a
+//!   fault
 #![tactic(auto)]
 
 mod play;
@@ -28,7 +31,7 @@ fn counted(alloc: Global, faulty: bool, first: u32, count: u32) -> Mem<Counts> {
     Ok(counts)
 }
 
-// How many builds left what they may not, and the number of the last of them, behind these words.
+// How many builds left what they may not, and the number of the last of them, after these words.
 fn counts_text(alloc: Global, much: &str, counts: &Counts) -> Mem<String> {
     let last = counts.last_wrong;
     match counts.wrong {

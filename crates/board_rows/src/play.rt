@@ -5,13 +5,12 @@ ghost use Rattle.outside_mem.specs.FilesNamed.{files_named};
 ghost use Rattle.run_law.specs.Given.{IsPresent};
 
 use board::{Finished, Next};
-use board_site::Site;
-use board_turns::{Hand, Stage, Table, Turn, module_turn};
+use board_play::{Hand, Site, Stage, Table, Turn, module_turn};
 use build_core::Plan;
 use mvn_shared::Mem;
 use outside_mem::{Calls, MemArea, MemRemote, MemShelf};
-use random_projects::{Device, Draws, Project, World};
 use std::alloc::Global;
+use test_projects::{Device, Draws, Project, World};
 
 /// The most turns of a build: none needs so many, unless workers wait for one another for ever.
 const TURNS: u32 = 100_000;
@@ -46,7 +45,7 @@ fn hand(alloc: Global, project: &Project, world: &World, worker: u32) -> Mem<Han
     })
 }
 
-// So many more hands.
+// Adds so many hands.
 fn put_hands(
     alloc: Global,
     project: &Project,
@@ -91,7 +90,7 @@ fn turn(
     }
 }
 
-// Whether the build goes on behind a turn.
+// Whether the build goes on after a turn.
 fn goes_on(hand: &mut Hand, turn: Turn) -> bool {
     match turn {
         Turn::Goes(stage) => {

@@ -6,14 +6,13 @@ ghost use Rattle.run_law.specs.Given.{IsPresent};
 
 use crate::play::{Left, build};
 use board::Finished;
+use board_play::{Built, by_one, has_fault, is_same, is_untouched, nothing};
 use build_core::Plan;
-use compared_builds::put_files_under;
 use mem_plans::plan;
 use mvn_shared::{Bytes, List, Mem};
 use outside_mem::{Calls, MemShelf};
-use plain_builds::{Built, by_one, has_fault, is_same, is_untouched, nothing};
-use random_projects::{Project, World, random_project};
 use std::alloc::Global;
+use test_projects::{Project, World, put_files_under, random_project};
 
 /// The most modules below the root: with it they are five.
 const MODULES: u32 = 4;
@@ -123,7 +122,7 @@ fn compared(
     Ok(judged(plan, project, faulty, calm, left, now.as_slice()))
 }
 
-// The same of a build that came to its end, if it did.
+// A build compared with that by one hand, if it came to its end.
 fn compared_left(
     alloc: Global,
     plan: &Plan,
@@ -155,7 +154,7 @@ fn tell_beside(
     compared_left(alloc, plan, project, world.faulty, calm, &mut left)
 }
 
-// The same beside one by one hand that hasn't begun.
+// What is told of the build of a plan, beside the build by one hand, which hasn't begun.
 fn tell_with(
     alloc: Global,
     project: &Project,

@@ -1,1 +1,3 @@
+mod Tables
+pub mod Sharing
 pub mod Examples

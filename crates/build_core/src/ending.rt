@@ -1,4 +1,5 @@
-// How a module stands, and how it ends. Guide to Working with Multiple Modules, "Fail at end"; own as a whole.
+// How a module stands, and how it ends. Guide to Working with Multiple Modules, "Fail at end"; a project rule as a
+// whole.
 
 /// What may fail while a module is built.
 #[derive(Clone, Copy, PartialEq, Eq)]

@@ -1,7 +1,7 @@
-// The steps of a run. Own, but for the modes of locks: Resolver, "Named Locks".
+// The steps of a run. Project rule, but for the modes of locks: Resolver, "Named Locks".
+use crate::Mode;
 use crate::ending::Ending;
 use goal_types::GoalAnswer;
-use name_locks::Mode;
 
 /// One step of a run. Workers are numbered by their hands; modules, names and files are places in the plan's lists, goals
 /// places in the list of the worker's module.

@@ -6,7 +6,7 @@ use mvn_shared::{Bytes, List, Text};
 /// A whole build.
 #[derive(Drop)]
 pub struct Plan {
-    /// The modules, each behind its upstreams.
+    /// The modules, each after its upstreams.
     pub modules: List<PlanModule>,
     /// The names that are locked, ascending and distinct.
     pub names: List<Text>,

@@ -1,10 +1,10 @@
 // Small builds, made from numbers. Each module has a name of its own, and each file that is fetched a name that covers it.
 use crate::draws::Draws;
-use module_scripts::{ModuleOutline, Outline};
 use mvn_shared::{List, Mem};
+use scripts::{ModuleOutline, Outline};
 use std::alloc::Global;
 
-// How many names and files are fetched under; the own names and files stand behind them.
+// How many names and files are fetched under; the own names and files stand after them.
 const SHARED: u32 = 3;
 
 // Some of the numbers below one, one of two.

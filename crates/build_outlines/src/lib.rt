@@ -1,5 +1,6 @@
-//! Outlines of builds for measurements of the event core: small ones that are made from numbers, and long ones. Any build will do, so no
-//! clause says which one a number gives; the stored run of `bench_events` holds these.
+//! A number makes the outline of a small build, for measurements of the event core; other outlines have as many modules as one asks for.
+//!
+//! Any build will do, so no clause says which one a number gives; the stored run of `bench_events` holds these.
 #![tactic(auto)]
 
 mod builds;

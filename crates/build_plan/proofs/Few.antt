@@ -9,11 +9,11 @@ use Rattle.mvn_shared.specs.Files.{Files}
 use Rattle.mvn_base.specs.declared.gav.Gav.{Gav}
 use Rattle.mvn_base.specs.declared.phase.Phase.{Phase}
 use Rattle.cli_words.specs.declared.command_line.CommandLine.{CommandLine}
-use Rattle.plan_files.specs.Numbers.{ascending, fetch_locks, locks_of, number_of, numbers_of, plan_files, plan_names, with_text, with_texts}
-use Rattle.plan_parts.specs.Plans.{IsNumbered, all_events, events_of, module_of, most_events, plan_modules, plan_with}
-use Rattle.plan_files.specs.Uses.{gavs}
-use Rattle.plan_files.specs.declared.selected.Planned.{Planned}
-use Rattle.plan_files.specs.declared.selected.SelectedModule.{SelectedModule}
+use Rattle.module_plan.specs.Numbers.{ascending, fetch_locks, locks_of, number_of, numbers_of, plan_files, plan_names, with_text, with_texts}
+use Rattle.module_plan.specs.Plans.{IsNumbered, all_events, events_of, module_of, most_events, plan_modules, plan_with}
+use Rattle.module_plan.specs.Uses.{gavs}
+use Rattle.module_plan.specs.declared.selected.Planned.{Planned}
+use Rattle.module_plan.specs.declared.selected.SelectedModule.{SelectedModule}
 use Rattle.build_plan.specs.Planning.{IsPlan}
 
 -- with a text more, a set has one more at most

@@ -5,10 +5,10 @@ use Rattle.mvn_base.specs.declared.phase.Phase.{Phase}
 use Rattle.mvn_outside.specs.Shelf.{files_now}
 use Rattle.mvn_outside.specs.declared.shelf.ShelfTold.{ShelfTold}
 use Rattle.pom_source.specs.declared.fault.BuildFault.{BuildFault}
-use Rattle.plan_files.specs.Numbers.{plan_files}
-use Rattle.plan_parts.specs.Plans.{all_events, most_events, numbered, plan_modules, plan_with, planned_with, present_in}
-use Rattle.plan_files.specs.declared.selected.Planned.{Planned}
-use Rattle.plan_files.specs.declared.selected.SelectedModule.{SelectedModule}
+use Rattle.module_plan.specs.Numbers.{plan_files}
+use Rattle.module_plan.specs.Plans.{all_events, most_events, numbered, plan_modules, plan_with, planned_with, present_in}
+use Rattle.module_plan.specs.declared.selected.Planned.{Planned}
+use Rattle.module_plan.specs.declared.selected.SelectedModule.{SelectedModule}
 use Rattle.build_plan.specs.Planning.{KnowsFiles}
 
 abbrev planned : Planned → Result Planned BuildFault

@@ -5,16 +5,16 @@ use Rattle.classpaths.specs.declared.resolution.Resolution.{Resolution}
 use Rattle.cli_words.specs.declared.command_line.CommandLine.{CommandLine}
 use Rattle.goal_types.specs.declared.goal.SourceFile.{SourceFile}
 use Rattle.model_types.specs.declared.model.Model.{Model}
-use Rattle.import_store.specs.Lawful.{IsLawful}
+use Rattle.effective.specs.Lawful.{IsLawful}
 use Rattle.model_resolver.specs.declared.resolver.ProjectPom.{ProjectPom}
 use Rattle.project_models.specs.Models as project
-use Rattle.reactor_modules.specs.Reactor.{AreBuilt, AreInOrder}
-use Rattle.reactor_modules.specs.declared.modules.ReactorModules.{ReactorModules}
-use Rattle.reactor_modules.proofs.Standing.{stands_on_winners}
-use Rattle.plan_parts.specs.Plans.{IsNumbered}
+use Rattle.reactor.specs.Reactor.{AreBuilt, AreInOrder}
+use Rattle.reactor.specs.declared.modules.ReactorModules.{ReactorModules}
+use Rattle.reactor.proofs.Standing.{stands_on_winners}
+use Rattle.module_plan.specs.Plans.{IsNumbered}
 use Rattle.plan_numbers.specs.Whole.{HasGav}
-use Rattle.plan_files.specs.declared.selected.Planned.{Planned}
-use Rattle.plan_files.specs.declared.selected.SelectedModule.{SelectedModule}
+use Rattle.module_plan.specs.declared.selected.Planned.{Planned}
+use Rattle.module_plan.specs.declared.selected.SelectedModule.{SelectedModule}
 use Rattle.plan_law.proofs.Whole.{sound_numbered}
 use Rattle.built_modules.specs.Selected.{AreModules, AreSelected}
 use Rattle.built_modules.proofs.Ordered.{are_ordered}

@@ -4,11 +4,11 @@ use Rattle.mvn_base.specs.FileName.{IsValid}
 use Rattle.mvn_base.specs.Names.{is_version}
 use Rattle.mvn_base.specs.declared.gav.Gav.{Gav}
 use Rattle.model_types.specs.declared.model.Model.{Model}
-use Rattle.model_validation.specs.Valid.{is_valid, is_valid_gav}
-use Rattle.model_validation.specs.Validation.{is_named, is_soft}
-use Rattle.model_validation.specs.declared.kind.VersionKind.{VersionKind}
-use Rattle.model_validation.specs.declared.kind.VersionKind.TheVariants.{Missing, Soft, Range, Unreadable}
-use Rattle.import_store.specs.Lawful.{IsLawful}
+use Rattle.model_steps.specs.Valid.{is_valid, is_valid_gav}
+use Rattle.model_steps.specs.Validation.{is_named, is_soft}
+use Rattle.model_steps.specs.declared.kind.VersionKind.{VersionKind}
+use Rattle.model_steps.specs.declared.kind.VersionKind.TheVariants.{Missing, Soft, Range, Unreadable}
+use Rattle.effective.specs.Lawful.{IsLawful}
 
 both : (a b : Bool) → (a && b) ≡ true → (a ≡ true) × (b ≡ true)
 both true true e = (refl, refl)

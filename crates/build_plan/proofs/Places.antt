@@ -9,8 +9,8 @@ use Rattle.cli_words.specs.declared.command_line.Word.{Word}
 use Rattle.model_types.specs.declared.model.Model.{Model}
 use Rattle.reactor_order.specs.Graph.{has}
 use Rattle.reactor_order.specs.Select.{from_on}
-use Rattle.module_selection.specs.Meaning.{meant}
-use Rattle.module_selection.specs.Selection.{first_meant, naming, or_unknown, resumed, resumed_at, unknown}
+use Rattle.reactor.specs.Meaning.{meant}
+use Rattle.reactor.specs.Selection.{first_meant, naming, or_unknown, resumed, resumed_at, unknown}
 
 abbrev places : List Word → List ℕ
 places words = map (λ (w : Word). w.place) words

@@ -9,13 +9,13 @@ use Rattle.pom_source.specs.declared.fault.BuildFault.{BuildFault}
 use Rattle.pom_source.specs.declared.fault.BuildFault.TheVariants.{Refused, Absent, Source, Memory}
 use Rattle.pom_source.specs.declared.found.Given.{Given}
 use Rattle.project_models.specs.Models.{Modules, project_models}
-use Rattle.reactor_modules.specs.declared.modules.ReactorModules.{ReactorModules}
-use Rattle.reactor_modules.specs.declared.modules.ReactorFault.{ReactorFault}
-use Rattle.reactor_modules.specs.declared.modules.ReactorFault.TheVariants as reactors
-use Rattle.reactor_modules.specs.Reactor.{Answers}
-use Rattle.plan_parts.specs.Plans.{numbered}
-use Rattle.plan_files.specs.declared.selected.Planned.{Planned}
-use Rattle.plan_files.specs.declared.selected.SelectedModule.{SelectedModule}
+use Rattle.reactor.specs.declared.modules.ReactorModules.{ReactorModules}
+use Rattle.reactor.specs.declared.modules.ReactorFault.{ReactorFault}
+use Rattle.reactor.specs.declared.modules.ReactorFault.TheVariants as reactors
+use Rattle.reactor.specs.Reactor.{Answers}
+use Rattle.module_plan.specs.Plans.{numbered}
+use Rattle.module_plan.specs.declared.selected.Planned.{Planned}
+use Rattle.module_plan.specs.declared.selected.SelectedModule.{SelectedModule}
 use Rattle.built_modules.specs.Selected.{AreModules}
 use Rattle.build_plan.specs.Planning.{AreReady, AreResolved, IsPlanned, IsProject, IsReactor, IsRefused, Libraries, Plans, plan_fault, sources_of}
 use Rattle.build_plan.specs.Planning.IsRefused.{by_circle, by_libraries, by_poms, by_size, by_sources}

@@ -5,10 +5,10 @@ use Rattle.cli_words.specs.declared.command_line.CommandLine.{CommandLine}
 use Rattle.cli_words.specs.declared.command_line.Word.{Word}
 use Rattle.classpaths.specs.declared.resolution.Resolution.{Resolution}
 use Rattle.model_types.specs.declared.model.Model.{Model}
-use Rattle.module_selection.specs.Selection.{IsChosen, naming, resumed, unknown}
-use Rattle.reactor_modules.specs.Reactor.{Answers, IsUnknown}
-use Rattle.reactor_modules.specs.declared.modules.ReactorFault.{ReactorFault}
-use Rattle.reactor_modules.specs.declared.modules.ReactorFault.TheVariants.{Memory, Refused, Unknown}
+use Rattle.reactor.specs.Selection.{IsChosen, naming, resumed, unknown}
+use Rattle.reactor.specs.Reactor.{Answers, IsUnknown}
+use Rattle.reactor.specs.declared.modules.ReactorFault.{ReactorFault}
+use Rattle.reactor.specs.declared.modules.ReactorFault.TheVariants.{Memory, Refused, Unknown}
 use Rattle.build_plan.specs.Planning.{NamesWord, plan_fault}
 use Rattle.build_plan.proofs.Places.{first_is_named, from_is_named}
 

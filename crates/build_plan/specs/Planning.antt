@@ -15,24 +15,24 @@ use Rattle.model_types.specs.declared.model.Model.{Model}
 use Rattle.classpaths.specs.declared.resolution.Resolution.{Resolution}
 use Rattle.cli_words.specs.declared.command_line.CommandLine.{CommandLine}
 use Rattle.cli_words.specs.declared.command_line.Word.{Word}
-use Rattle.module_selection.specs.Selection.{naming}
+use Rattle.reactor.specs.Selection.{naming}
 use Rattle.event_core.specs.SoundPlans.{IsSoundPlan}
 use Rattle.pom_source.specs.Answers.{Built, fault_failed}
 use Rattle.pom_source.specs.declared.fault.BuildFault.{BuildFault}
 use Rattle.pom_source.specs.declared.fault.BuildFault.TheVariants.{Refused, Absent, Source, Memory}
 use Rattle.pom_source.specs.declared.found.Given.{Given}
-use Rattle.import_store.specs.Lawful.{IsLawful}
+use Rattle.effective.specs.Lawful.{IsLawful}
 use Rattle.project_models.specs.Models.{Modules, project_models}
 use Rattle.project_libraries.specs.Known.{libraries_of}
 use Rattle.project_libraries.specs.Resolving.{Resolves}
-use Rattle.reactor_modules.specs.Reactor.{AreBuilt, IsUnknown, Orders}
-use Rattle.reactor_modules.specs.declared.modules.ReactorModules.{ReactorModules}
-use Rattle.reactor_modules.specs.declared.modules.ReactorFault.{ReactorFault}
-use Rattle.reactor_modules.specs.declared.modules.ReactorFault.TheVariants as reactor
-use Rattle.module_sources.specs.Modules.{module_sources}
-use Rattle.plan_parts.specs.Plans.{IsNumbered, most_events, numbered, present_in}
-use Rattle.plan_files.specs.declared.selected.Planned.{Planned}
-use Rattle.plan_files.specs.declared.selected.SelectedModule.{SelectedModule}
+use Rattle.reactor.specs.Reactor.{AreBuilt, IsUnknown, Orders}
+use Rattle.reactor.specs.declared.modules.ReactorModules.{ReactorModules}
+use Rattle.reactor.specs.declared.modules.ReactorFault.{ReactorFault}
+use Rattle.reactor.specs.declared.modules.ReactorFault.TheVariants as reactor
+use Rattle.sources.specs.Modules.{module_sources}
+use Rattle.module_plan.specs.Plans.{IsNumbered, most_events, numbered, present_in}
+use Rattle.module_plan.specs.declared.selected.Planned.{Planned}
+use Rattle.module_plan.specs.declared.selected.SelectedModule.{SelectedModule}
 use Rattle.plan_law.specs.Ready.{AreOrdered}
 use Rattle.built_modules.specs.Selected.{AreModules}
 use Rattle.build_plan.specs.declared.planning.PlanFault.{PlanFault}

@@ -1,14 +1,14 @@
-// From a project's devices to its plan.
+// Makes the plan of a project that devices hold.
 ghost use Rattle.std.specs.Prelude.{◌≡◌, ℕ, ◌≤◌, ◌<◌, false, None, Err, Option, is_some, length, IfOk, IfSome};
 ghost use Rattle.mvn_shared.specs.Cause.{HasCause};
 ghost use Rattle.mvn_shared.specs.Files.{Files};
 ghost use Rattle.mvn_outside.specs.Shelf.{files_now};
-ghost use Rattle.import_store.specs.Kept.{HoldsAll};
+ghost use Rattle.effective.specs.Kept.{HoldsAll};
 ghost use Rattle.model_resolver.specs.Devices.{Counted, IsCounted};
 ghost use Rattle.model_resolver.specs.Finding.{world_of};
 ghost use Rattle.project_models.specs.Models.{AreModules};
 ghost use Rattle.project_models.specs.Telling.{IfTold};
-ghost use Rattle.reactor_modules.specs.Reactor.{Answers, AreInOrder};
+ghost use Rattle.reactor.specs.Reactor.{Answers, AreInOrder};
 ghost use Rattle.build_plan.specs.Planning.{plan_failed, plan_fault, AreResolved, IsPlan, IsProject, KnowsFiles, NamesWord, Plans};
 
 use crate::reading::{Reactor, plan_built};
@@ -16,27 +16,30 @@ use classpaths::Resolution;
 use cli_words::CommandLine;
 use model_resolver::{Failures, PomDevice, ProjectPom};
 use model_types::Model;
+use module_plan::Planned;
 use mvn_outside::{Remote, Shelf, Tree};
 use mvn_shared::{List, Shared};
-use plan_files::Planned;
 use pom_source::{BuildFault, Given};
 use project_libraries::resolve_modules;
 use project_models::{ProjectModels, project_models};
-use reactor_modules::{ReactorFault, ReactorModules, reactor_modules};
+use reactor::{ReactorFault, ReactorModules, reactor_modules};
 use std::alloc::Global;
+use thiserror::Error;
 
 /// Why there is no plan: what a POM or the plan is refused for, a device that failed, or want of memory; or the word at a place means no
 /// module that is built.
-#[derive(Drop)]
+#[derive(Debug, Drop, Error)]
 pub enum PlanFault {
+    #[error("{0}")]
     Build(BuildFault),
+    #[error("selector {0} names no module that is built")]
     Unknown(usize),
 }
 
-/// What planning gave, and the device that failed, if one did.
+/// What planning gave: a plan, or why there is none; and the device that failed, if one did.
 #[derive(Drop)]
-pub struct Planning {
-    pub answer: Result<Planned, PlanFault>,
+pub struct Planning<A> {
+    pub answer: A,
     pub failed: Option<PomDevice>,
 }
 
@@ -245,7 +248,7 @@ pub fn plan_build<T: Tree, S: Shelf, R: Remote>(
     remote: &mut R,
     given: &Given,
     line: &CommandLine,
-) -> Planning
+) -> Planning<Result<Planned, PlanFault>>
     requires workers { (1 ≤ line.now.workers) × (line.now.workers ≤ 16) }
     ensures says { IfSome (T.files tree.old) (λ files. IfSome (S.told shelf.old) (λ told.
         IfSome (R.files remote.old) (λ there.

@@ -8,7 +8,7 @@ ghost use Rattle.pom_source.specs.Answers.{Says, build_failed};
 ghost use Rattle.project_models.specs.Models.{AreModules};
 ghost use Rattle.project_models.specs.Telling.{IfTold};
 ghost use Rattle.reactor_order.specs.Graph.{AreBelow};
-ghost use Rattle.module_sources.specs.Modules.{module_sources};
+ghost use Rattle.sources.specs.Modules.{module_sources};
 ghost use Rattle.built_modules.specs.Selected.{AreSelected};
 ghost use Rattle.build_plan.specs.Planning.{built_models, plan_failed, sources_of, IsPlan, IsReactor, KnowsFiles, NamesWord, Plans};
 
@@ -19,13 +19,13 @@ use cli_words::CommandLine;
 use goal_types::SourceFile;
 use model_resolver::{Failures, ProjectPom};
 use model_types::Model;
-use module_sources::module_sources;
+use module_plan::Planned;
 use mvn_outside::{Shelf, Tree};
 use mvn_shared::{List, Mem, Shared};
-use plan_files::Planned;
+use plan_numbers::plan_selected;
 use pom_source::{BuildFault, Given};
-use reactor_modules::ReactorModules;
-use selected_plan::plan_selected;
+use reactor::ReactorModules;
+use sources::module_sources;
 use std::alloc::Global;
 
 /// What a project's modules are planned from, in the order of discovery; and those that are built.

@@ -1,7 +1,11 @@
-//! Rows about whole projects over objects in memory. A line of standard input is the name of a table and one of its rows, with a space
-//! between; a line that begins with `#` is printed as it stands. The tables are those of the libraries `discovery_rows`, `plan_rows`,
-//! `stop_rows`, `run_rows`, `fault_rows` and `board_rows`, each by the first word of its name: they say what a row is, and what is printed
-//! for it.
+//! The program `build_rows` answers rows about whole projects over objects in memory, each from one of six tables.
+//!
+//! A line of standard input is the name of a table and one of its rows, with a space between; a line that begins with `#` is printed as
+//! it stands. What a row is, and what is printed for it, is said by the library that has the table:
+//!
+//! - `discovery`, `plan`: `project_rows`
+//! - `stop`, `run`, `fault`: `build_row_tables`
+//! - `board`: `board_rows`
 #![tactic(auto)]
 
 use mvn_shared::Mem;
@@ -23,11 +27,11 @@ fn push_told<W: Threads + Wait + Sync>(
     text: &mut String,
 ) -> Mem<()> {
     match table {
-        "discovery" => discovery_rows::push_told(alloc, row, text),
-        "plan" => plan_rows::push_told(alloc, row, text),
-        "stop" => stop_rows::push_told(rt, alloc, row, text),
-        "run" => run_rows::push_told(rt, alloc, row, text),
-        "fault" => fault_rows::push_told(rt, alloc, row, text),
+        "discovery" => project_rows::discovered::push_told(alloc, row, text),
+        "plan" => project_rows::push_told(alloc, row, text),
+        "stop" => build_row_tables::stops::push_told(rt, alloc, row, text),
+        "run" => build_row_tables::push_told(rt, alloc, row, text),
+        "fault" => build_row_tables::told::push_told(rt, alloc, row, text),
         "board" => board_rows::push_told(alloc, row, text),
         _ => push_no_table(text),
     }
@@ -49,7 +53,7 @@ fn push_line<W: Threads + Wait + Sync>(
     push_told(rt, alloc, table, row, text)
 }
 
-// The same as a text.
+// What is told of a line, as a text.
 fn told<W: Threads + Wait + Sync>(rt: &W, alloc: Global, line: &str) -> Mem<String> {
     let mut text = String::new(alloc);
     push_line(rt, alloc, line, &mut text)?;

@@ -12,15 +12,15 @@ use Rattle.model_types.specs.declared.model.Model.{Model}
 use Rattle.reactor_order.specs.Graph.{has}
 use Rattle.mvn_base.specs.Gav.{gav_eq}
 use Rattle.classpaths.specs.declared.resolution.Resolution.{Resolution}
-use Rattle.module_scripts.specs.Climbing.{Climbs}
-use Rattle.module_scripts.specs.Outlines.{is_listed}
+use Rattle.scripts.specs.Climbing.{Climbs}
+use Rattle.scripts.specs.Outlines.{is_listed}
 use Rattle.event_core.specs.Sound.{are_below}
 use Rattle.goal_types.specs.declared.goal.SourceFile.{SourceFile}
 use Rattle.model_resolver.specs.declared.resolver.ProjectPom.{ProjectPom}
 use Rattle.plan_law.specs.Ready.{AreOrdered, IsPlaced}
-use Rattle.plan_files.specs.declared.selected.SelectedModule.{SelectedModule}
-use Rattle.reactor_modules.specs.Upstreams.{Ascends}
-use Rattle.reactor_modules.specs.declared.modules.ReactorModules.{ReactorModules}
+use Rattle.module_plan.specs.declared.selected.SelectedModule.{SelectedModule}
+use Rattle.reactor.specs.Upstreams.{Ascends}
+use Rattle.reactor.specs.declared.modules.ReactorModules.{ReactorModules}
 use Rattle.built_modules.specs.Selected.{AreModules, AreSelected}
 
 -- ---- where items stand

@@ -5,9 +5,9 @@ use Rattle.model_types.specs.declared.model.Model.{Model}
 use Rattle.built_modules.specs.Picks.{ArePicked}
 use Rattle.built_modules.specs.Selected.{AreModules, Parts, selected}
 use Rattle.model_resolver.specs.declared.resolver.ProjectPom.{ProjectPom}
-use Rattle.reactor_modules.specs.declared.modules.ReactorModules.{ReactorModules}
+use Rattle.reactor.specs.declared.modules.ReactorModules.{ReactorModules}
 use Rattle.classpaths.specs.declared.resolution.Resolution.{Resolution}
-use Rattle.plan_files.specs.declared.selected.SelectedModule.{SelectedModule}
+use Rattle.module_plan.specs.declared.selected.SelectedModule.{SelectedModule}
 use Rattle.goal_types.specs.declared.goal.SourceFile.{SourceFile}
 
 some_is : {A : Type 0} (a b : A) → Some a ≡ Some b → a ≡ b

@@ -1,3 +1,3 @@
-pub use Rattle.reactor_modules.specs.Reactor
+pub use Rattle.reactor.specs.Reactor
 pub mod Picks
 pub mod Selected

@@ -4,12 +4,12 @@ use Rattle.std.specs.Prelude.{◌≡◌, ℕ, List, length, get_or, map, slice_g
 use Rattle.std.specs.List.{IsDistinct}
 use Rattle.mvn_base.specs.FileName.{IsValid}
 use Rattle.mvn_base.specs.Gav.{gav_eq}
-use Rattle.reactor_modules.specs.Reactor.{AreInOrder, StandsOnWinners}
+use Rattle.reactor.specs.Reactor.{AreInOrder, StandsOnWinners}
 use Rattle.model_types.specs.declared.model.Model.{Model}
 use Rattle.model_resolver.specs.declared.resolver.ProjectPom.{ProjectPom}
-use Rattle.reactor_modules.specs.declared.modules.ReactorModules.{ReactorModules}
+use Rattle.reactor.specs.declared.modules.ReactorModules.{ReactorModules}
 use Rattle.classpaths.specs.declared.resolution.Resolution.{Resolution}
-use Rattle.plan_files.specs.declared.selected.SelectedModule.{SelectedModule}
+use Rattle.module_plan.specs.declared.selected.SelectedModule.{SelectedModule}
 use Rattle.goal_types.specs.declared.goal.SourceFile.{SourceFile}
 
 -- a POM and its model; what its dependencies lead to; the places of those before it, and its sources

@@ -1,3 +1,5 @@
+//! Joins two lists into a list of pairs.
+
 ghost use Rattle.std.specs.Prelude.{◌≡◌, zip, IfOk};
 
 use mvn_shared::{List, Mem};

@@ -1,3 +1,5 @@
+//! Takes the items at some places out of a list.
+
 ghost use Rattle.std.specs.Prelude.{◌≡◌, ℕ, ◌<◌, true, nat_eq, None, Some, is_some, get_or, length, map, set, slice_get, IfOk, OnOk};
 ghost use Rattle.std.specs.List.{IsDistinct};
 ghost use Rattle.reactor_order.specs.Graph.{AreBelow, has};
@@ -30,7 +32,7 @@ fn taken<T: Drop>(slots: &mut Vec<Option<T>>, place: usize) -> T
     }
 }
 
-// Those at places, in the order of these.
+// The items at places, in the order of these.
 fn taken_all<T: Drop>(alloc: Global, slots: &mut Vec<Option<T>>, places: &[u32]) -> Mem<List<T>>
     requires below { AreBelow (length slots.old.items) places.now }
     requires once { IsDistinct nat_eq places.now }

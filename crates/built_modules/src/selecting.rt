@@ -1,3 +1,5 @@
+//! Gathers, for each module that is built, all that its plan is made from.
+
 ghost use Rattle.std.specs.Prelude.{◌≡◌, nat_eq, length, map, zip, IfOk};
 ghost use Rattle.std.specs.List.{IsDistinct};
 ghost use Rattle.reactor_order.specs.Graph.{AreBelow};
@@ -9,12 +11,12 @@ use classpaths::Resolution;
 use goal_types::SourceFile;
 use model_resolver::ProjectPom;
 use model_types::Model;
+use module_plan::SelectedModule;
 use mvn_shared::{List, Mem, Shared};
-use plan_files::SelectedModule;
-use reactor_modules::ReactorModules;
+use reactor::ReactorModules;
 use std::alloc::Global;
 
-// A module of its parts.
+// One module of its parts.
 fn selected(
     parts: (
         (ProjectPom, Shared<Model>),
@@ -33,7 +35,7 @@ fn selected(
     }
 }
 
-// So of each.
+// The modules of their parts, one by one.
 fn of_parts(
     alloc: Global,
     parts: List<

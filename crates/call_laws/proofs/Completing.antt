@@ -7,12 +7,12 @@ use Rattle.mvn_outside.specs.declared.shelf.ShelfTold.{ShelfTold}
 use Rattle.cli_words.specs.declared.command_line.CommandLine.{CommandLine}
 use Rattle.build_core.specs.declared.event.Answered.{Answered}
 use Rattle.build_core.specs.declared.event.Event.{Event}
-use Rattle.outcome_laws.specs.Crews.{hand_of}
-use Rattle.crew_outcome.specs.Left.{HandFailed}
-use Rattle.crew_outcome.specs.declared.outcome.Outcome.{Outcome}
-use Rattle.mvn_call.specs.Ending.{IsWhole}
-use Rattle.mvn_call.specs.Headline.{Comes, IsWanted, OneFailed}
-use Rattle.mvn_call.specs.Seen.{After, Seen, used}
+use Rattle.crew.specs.CrewOutcomes.{hand_of}
+use Rattle.build_outcome.specs.Left.{HandFailed}
+use Rattle.build_outcome.specs.declared.outcome.Outcome.{Outcome}
+use Rattle.call_plan.specs.Ending.{IsWhole}
+use Rattle.call_plan.specs.Headline.{Comes, IsWanted, OneFailed}
+use Rattle.call_plan.specs.Seen.{After, Seen, used}
 use Rattle.call_laws.specs.Complete.{EndsCall, IsAnswered, NothingFailed}
 
 -- a count that stands, and not at its end, hasn't risen

@@ -9,14 +9,14 @@ use Rattle.build_core.specs.declared.event.Answered.{Answered}
 use Rattle.build_core.specs.declared.event.Event.{Event}
 use Rattle.build_core.specs.declared.event.Event.TheVariants as event
 use Rattle.build_core.specs.declared.plan.Plan.{Plan}
-use Rattle.module_scripts.specs.declared.deed.Deed.{Deed}
-use Rattle.module_scripts.specs.declared.deed.Deed.TheVariants as deed
+use Rattle.scripts.specs.declared.deed.Deed.{Deed}
+use Rattle.scripts.specs.declared.deed.Deed.TheVariants as deed
 use Rattle.event_core.specs.declared.entry.Carried.{Carried}
 use Rattle.event_core.specs.declared.entry.Carried.TheVariants as carried
 use Rattle.event_core.specs.declared.entry.RunEntry.{RunEntry}
-use Rattle.module_scripts.specs.declared.outline.Outline.{Outline}
+use Rattle.scripts.specs.declared.outline.Outline.{Outline}
 use Rattle.event_core.specs.Enabled.{Enabled, IsRun, is_due}
-use Rattle.module_scripts.specs.Outlines.{outline_of}
+use Rattle.scripts.specs.Outlines.{outline_of}
 use Rattle.event_core.specs.Runs.{IsRunOf, answers_from, events_of, kept_by, module_by, standing_of_run}
 use Rattle.event_core.specs.Standing.{Course, course_of, module_of}
 use Rattle.event_core.specs.Worlds.{AllFit, HandTold, is_told, is_told_by}
@@ -24,14 +24,14 @@ use Rattle.run_law.proofs.Complete.{events_more}
 use Rattle.run_law.proofs.Stored.{due_on}
 use Rattle.turn_lock.specs.Turns.{is_of, open_of, opened_by}
 use Rattle.board.specs.Logs.{role, role_of}
-use Rattle.crew_laws.specs.Twice.{same_goal}
-use Rattle.crew_laws.proofs.Answering.{answered_once}
+use Rattle.run_law.specs.Twice.{same_goal}
+use Rattle.run_law.proofs.Answering.{answered_once}
 use Rattle.crew_turns.proofs.Opening.{open_is}
 use Rattle.cli_words.specs.declared.command_line.CommandLine.{CommandLine}
-use Rattle.outcome_laws.specs.Crews.{start_of, told_of}
-use Rattle.crew_outcome.specs.declared.outcome.Outcome.{Outcome}
-use Rattle.mvn_call.specs.Headline.{IsHistory}
-use Rattle.mvn_call.specs.Seen.{After, Seen, used}
+use Rattle.crew.specs.CrewOutcomes.{start_of, told_of}
+use Rattle.build_outcome.specs.declared.outcome.Outcome.{Outcome}
+use Rattle.call_plan.specs.Headline.{IsHistory}
+use Rattle.call_plan.specs.Seen.{After, Seen, used}
 use Rattle.call_laws.specs.Numbered.{AreKeptOnce, AreTheTraces, begins, begun_by, goal_by, goals_from, goals_of_trace, numbers_of}
 
 -- ---- the module that a worker has open is the one that it began last

@@ -11,17 +11,17 @@ use Rattle.build_core.specs.declared.plan.Plan.{Plan}
 use Rattle.event_core.specs.declared.entry.RunEntry.{RunEntry}
 use Rattle.board.specs.Logs.{publishes_in, told_after}
 use Rattle.run_law.specs.Given.{Answers, Extends, IsBetween, IsPresent, supply_by}
-use Rattle.plan_files.specs.declared.selected.Planned.{Planned}
+use Rattle.module_plan.specs.declared.selected.Planned.{Planned}
 use Rattle.build_plan.specs.Planning.{IsPlan, KnowsFiles}
-use Rattle.outcome_laws.specs.AsOne.{EndsApart}
-use Rattle.outcome_laws.specs.Crews.{AllTellFiles, IsCrewRun}
-use Rattle.outcome_laws.proofs.Names.{told_contents}
-use Rattle.outcome_laws.proofs.Sides as sides
-use Rattle.crew_outcome.specs.Left.{IsCallRun, IsIdle}
-use Rattle.crew_outcome.specs.declared.outcome.Outcome.{Outcome}
-use Rattle.mvn_call.specs.Headline.{IsFoundIn, IsHistory}
-use Rattle.mvn_call.specs.Seen.{After, Seen, used}
-use Rattle.mvn_call.proofs.Present.{found_is, is_present_told}
+use Rattle.crew.specs.AsOne.{EndsApart}
+use Rattle.crew.specs.CrewOutcomes.{AllTellFiles, IsCrewRun}
+use Rattle.crew.proofs.Names.{told_contents}
+use Rattle.crew.proofs.Sides as sides
+use Rattle.build_outcome.specs.Left.{IsCallRun, IsIdle}
+use Rattle.build_outcome.specs.declared.outcome.Outcome.{Outcome}
+use Rattle.call_plan.specs.Headline.{IsFoundIn, IsHistory}
+use Rattle.call_plan.specs.Seen.{After, Seen, used}
+use Rattle.call_plan.proofs.Present.{found_is, is_present_told}
 use Rattle.call_laws.specs.Apart.{FaultsStayApart}
 
 -- what a repository tells behind a run's publishes, so many of them settled

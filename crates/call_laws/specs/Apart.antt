@@ -9,12 +9,12 @@ use Rattle.build_core.specs.declared.event.Answered.{Answered}
 use Rattle.build_core.specs.declared.event.Event.{Event}
 use Rattle.event_core.specs.declared.entry.RunEntry.{RunEntry}
 use Rattle.run_law.specs.Given.{Answers, Extends, IsBetween, supply_by}
-use Rattle.outcome_laws.specs.AsOne.{EndsApart}
-use Rattle.plan_files.specs.declared.selected.Planned.{Planned}
-use Rattle.crew_outcome.specs.Left.{IsCallRun}
-use Rattle.crew_outcome.specs.declared.outcome.Outcome.{Outcome}
-use Rattle.mvn_call.specs.Headline.{IsFoundIn}
-use Rattle.mvn_call.specs.Seen.{After, Seen, used}
+use Rattle.crew.specs.AsOne.{EndsApart}
+use Rattle.module_plan.specs.declared.selected.Planned.{Planned}
+use Rattle.build_outcome.specs.Left.{IsCallRun}
+use Rattle.build_outcome.specs.declared.outcome.Outcome.{Outcome}
+use Rattle.call_plan.specs.Headline.{IsFoundIn}
+use Rattle.call_plan.specs.Seen.{After, Seen, used}
 
 -- A plan of the line was built by the hands that are used, with these events and answers. By any answers that extend the kept ones, a module
 -- that no fault touched stands and keeps outputs as in the build by one thread, and so does each that ended otherwise; and each file of

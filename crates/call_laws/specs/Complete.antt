@@ -4,12 +4,12 @@ use Rattle.mvn_shared.specs.Cause.{HasRisen, last_count}
 use Rattle.build_core.specs.declared.event.Answered.{Answered}
 use Rattle.build_core.specs.declared.event.Event.{Event}
 use Rattle.cli_words.specs.declared.command_line.CommandLine.{CommandLine}
-use Rattle.crew_stages.specs.Hands.{HandState}
-use Rattle.outcome_laws.specs.Crews.{hand_of}
-use Rattle.crew_outcome.specs.declared.outcome.Outcome.{Outcome}
-use Rattle.mvn_call.specs.Ending.{Ends, IsWhole}
-use Rattle.mvn_call.specs.Headline.{Comes, IsWanted, NoneFailed, OneFailed}
-use Rattle.mvn_call.specs.Seen.{After, Seen, used}
+use Rattle.crew_turns.specs.Hands.{HandState}
+use Rattle.crew.specs.CrewOutcomes.{hand_of}
+use Rattle.build_outcome.specs.declared.outcome.Outcome.{Outcome}
+use Rattle.call_plan.specs.Ending.{Ends, IsWhole}
+use Rattle.call_plan.specs.Headline.{Comes, IsWanted, NoneFailed, OneFailed}
+use Rattle.call_plan.specs.Seen.{After, Seen, used}
 
 -- the clauses `causes`, `fault` and `bound` of `mvn`
 pub record EndsCall (asked : Result CommandLine Outcome) (seen : Seen) (after : After) (trace : List Event) (answers : List Answered) (status : ℕ) (before now : Option (List ℕ)) (sink_before sink_now : ℕ) : Type 0 where

@@ -1,4 +1,12 @@
-pub use Rattle.mvn_call.specs.Headline
+pub use Rattle.build_plan.specs.Planning
+pub use Rattle.call_plan.specs.Found
+pub use Rattle.run_law.specs.Given
+pub use Rattle.call_plan.specs.Headline
+pub mod Again
+pub mod RerunsApart
+pub mod Grown
+pub mod Reruns
+pub mod Samples
 pub mod Apart
 pub mod Complete
 pub mod Numbered

@@ -5,7 +5,7 @@ use Rattle.std.specs.Option.{option_map_or}
 use Rattle.build_core.specs.declared.event.Answered.{Answered}
 use Rattle.build_core.specs.declared.event.Event.{Event}
 use Rattle.build_core.specs.declared.event.Event.TheVariants as event
-use Rattle.crew_laws.specs.Twice.{same_goal}
+use Rattle.run_law.specs.Twice.{same_goal}
 
 -- the module that a worker began last
 abbrev pub begins : (worker : ℕ) → Option ℕ → Event → Option ℕ

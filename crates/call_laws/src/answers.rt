@@ -1,11 +1,11 @@
-// The answers of a call, beside its trace.
+// The law of the answers of a call, beside its trace.
 ghost use Rattle.std.specs.Prelude.{◌≡◌, List, Result};
 ghost use Rattle.build_core.specs.declared.event.Answered.{Answered};
 ghost use Rattle.build_core.specs.declared.event.Event.{Event};
 ghost use Rattle.cli_words.specs.declared.command_line.CommandLine.{CommandLine};
-ghost use Rattle.crew_outcome.specs.declared.outcome.Outcome.{Outcome};
-ghost use Rattle.mvn_call.specs.Headline.{IsHistory};
-ghost use Rattle.mvn_call.specs.Seen.{After, Seen};
+ghost use Rattle.build_outcome.specs.declared.outcome.Outcome.{Outcome};
+ghost use Rattle.call_plan.specs.Headline.{IsHistory};
+ghost use Rattle.call_plan.specs.Seen.{After, Seen};
 ghost use Rattle.call_laws.specs.Numbered.{AreKeptOnce, goals_of_trace, numbers_of};
 
 /// A law: what the clause `history` of `mvn` says of a call makes its answers those of its trace, one for each event `Answer`, in order, to

@@ -1,15 +1,15 @@
-// A call with faults, beside the build by one hand.
+// The law of a call with faults, beside the build by one hand.
 ghost use Rattle.std.specs.Prelude.{◌≡◌, ◌⊎◌, List, Result, Some};
 ghost use Rattle.mvn_shared.specs.Files.{Files};
 ghost use Rattle.mvn_outside.specs.declared.shelf.ShelfTold.{ShelfTold};
 ghost use Rattle.build_core.specs.declared.event.Answered.{Answered};
 ghost use Rattle.build_core.specs.declared.event.Event.{Event};
 ghost use Rattle.cli_words.specs.declared.command_line.CommandLine.{CommandLine};
-ghost use Rattle.outcome_laws.specs.Crews.{AllTellFiles};
-ghost use Rattle.crew_outcome.specs.Left.{IsIdle};
-ghost use Rattle.crew_outcome.specs.declared.outcome.Outcome.{Outcome};
-ghost use Rattle.mvn_call.specs.Headline.{IsHistory};
-ghost use Rattle.mvn_call.specs.Seen.{After, Seen, used};
+ghost use Rattle.crew.specs.CrewOutcomes.{AllTellFiles};
+ghost use Rattle.build_outcome.specs.Left.{IsIdle};
+ghost use Rattle.build_outcome.specs.declared.outcome.Outcome.{Outcome};
+ghost use Rattle.call_plan.specs.Headline.{IsHistory};
+ghost use Rattle.call_plan.specs.Seen.{After, Seen, used};
 ghost use Rattle.call_laws.specs.Apart.{FaultsStayApart};
 
 /// A law: whatever fails in a call, and with every status, the clause `history` of `mvn` says that nothing was done, or that a plan was

@@ -1,11 +1,11 @@
-// A call in which nothing fails.
+// The law of a call in which nothing fails.
 ghost use Rattle.std.specs.Prelude.{◌≡◌, ◌≢◌, ℕ, List, Option, Result, Some};
 ghost use Rattle.mvn_outside.specs.declared.shelf.ShelfTold.{ShelfTold};
 ghost use Rattle.build_core.specs.declared.event.Answered.{Answered};
 ghost use Rattle.build_core.specs.declared.event.Event.{Event};
 ghost use Rattle.cli_words.specs.declared.command_line.CommandLine.{CommandLine};
-ghost use Rattle.crew_outcome.specs.declared.outcome.Outcome.{Outcome};
-ghost use Rattle.mvn_call.specs.Seen.{After, Seen};
+ghost use Rattle.build_outcome.specs.declared.outcome.Outcome.{Outcome};
+ghost use Rattle.call_plan.specs.Seen.{After, Seen};
 ghost use Rattle.call_laws.specs.Complete.{EndsCall, IsAnswered, NothingFailed};
 
 /// A law of completeness: where no count of a device rose, and memory didn't run out, a call is answered in full, and with a status below

@@ -1,8 +1,8 @@
 -- The first hand of several, where its remote alone is used.
 use Rattle.std.proofs.Common.{◌≡◌, ◌≤◌, List, [], ◌∷◌, length, map, drop, get_or, set, refl, arith}
-use Rattle.crew_stages.specs.Hands.{HandState}
-use Rattle.outcome_laws.specs.Crews.{hand_of}
-use Rattle.mvn_call.specs.Seen.{IsAskedFirst}
+use Rattle.crew_turns.specs.Hands.{HandState}
+use Rattle.crew.specs.CrewOutcomes.{hand_of}
+use Rattle.call_plan.specs.Seen.{IsAskedFirst}
 
 -- it is what is taken by its number
 pub first_of : {H : Type 0} (state : H → HandState) (hands : List H) (d : H) → 1 ≤ length hands → hand_of (map state hands) 0 ≡ state (get_or hands 0 d)

@@ -1,2 +1,4 @@
+pub mod Present
+pub mod Workers
 pub mod FirstHand
 pub mod Planned

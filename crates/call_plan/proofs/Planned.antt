@@ -6,11 +6,11 @@ use Rattle.cli_words.specs.declared.command_line.CommandLine.{CommandLine}
 use Rattle.mvn_outside.specs.declared.shelf.ShelfTold.{ShelfTold}
 use Rattle.pom_source.specs.declared.found.Given.{Given}
 use Rattle.model_resolver.specs.declared.failures.PomDevice.{PomDevice}
-use Rattle.plan_files.specs.declared.selected.Planned.{Planned}
+use Rattle.module_plan.specs.declared.selected.Planned.{Planned}
 use Rattle.build_plan.specs.declared.planning.PlanFault.{PlanFault}
 use Rattle.build_plan.specs.Planning.{IsPlan, KnowsFiles, NamesWord, Plans}
-use Rattle.crew_outcome.specs.declared.outcome.Outcome.{Outcome}
-use Rattle.mvn_call.specs.Found.{Finds, IfTold}
+use Rattle.build_outcome.specs.declared.outcome.Outcome.{Outcome}
+use Rattle.call_plan.specs.Found.{Finds, IfTold}
 use Rattle.call_plan.specs.Project.{GivesPlan, IsMadeOf}
 
 -- where no device failed

@@ -5,11 +5,11 @@ use Rattle.mvn_outside.specs.declared.shelf.ShelfTold.{ShelfTold}
 use Rattle.cli_words.specs.declared.command_line.CommandLine.{CommandLine}
 use Rattle.pom_source.specs.declared.found.Given.{Given}
 use Rattle.model_resolver.specs.declared.failures.PomDevice.{PomDevice}
-use Rattle.plan_files.specs.declared.selected.Planned.{Planned}
+use Rattle.module_plan.specs.declared.selected.Planned.{Planned}
 use Rattle.build_plan.specs.declared.planning.PlanFault.{PlanFault}
-use Rattle.crew_outcome.specs.declared.outcome.Outcome.{Outcome}
-use Rattle.mvn_call.specs.Found.{Finds, IsFoundBy}
-use Rattle.mvn_call.specs.Outcome.{fault_line}
+use Rattle.build_outcome.specs.declared.outcome.Outcome.{Outcome}
+use Rattle.call_plan.specs.Found.{Finds, IsFoundBy}
+use Rattle.call_plan.specs.Outcome.{fault_line}
 
 -- what is made of what planning gave: where a device failed its line, and else the plan or what is answered in its place
 abbrev pub IsMadeOf : Result Planned PlanFault → Option PomDevice → Result Planned Outcome → Type 0

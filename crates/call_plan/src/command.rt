@@ -1,10 +1,10 @@
-// The words of a call.
+// Reads the words of a call.
 ghost use Rattle.std.specs.Prelude.{◌≡◌, ◌≤◌, IfOk};
-ghost use Rattle.mvn_call.specs.Commands.{asked};
+ghost use Rattle.call_plan.specs.Commands.{asked};
 
 use crate::outcome::word_fault;
+use build_outcome::Outcome;
 use cli_words::{CommandLine, WordError, options};
-use crew_outcome::Outcome;
 use mvn_shared::{Bytes, Mem, OutOfMemory};
 use std::alloc::Global;
 

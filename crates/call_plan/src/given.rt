@@ -1,11 +1,12 @@
 // What is given to all POMs of a call.
 ghost use Rattle.std.specs.Prelude.{◌≡◌, IfOk};
-ghost use Rattle.mvn_call.specs.Found.{given_of};
+ghost use Rattle.call_plan.specs.Found.{given_of};
 
 use cli_words::CommandLine;
 use mvn_base::{Choice, Machine, Pair};
 use mvn_shared::{List, Mem};
 use pom_source::Given;
+use std::alloc::Global;
 
 fn copied_choice(choice: &Choice) -> Mem<Choice>
     ensures { IfOk result (λ copy. copy ≡ choice.now) }
@@ -33,7 +34,7 @@ fn copies_of(line: &CommandLine) -> Mem<Copies>
 
 /// What is given to all POMs of a call: the machine, and copies of the properties and the choice of profiles of the line. Costs
 /// these.
-pub fn given_of(machine: Machine, line: &CommandLine) -> Mem<Given>
+pub fn given_of(alloc: Global, machine: Machine, line: &CommandLine) -> Mem<Given>
     ensures { IfOk result (λ given. given ≡ given_of machine line.now) }
 {
     let Copies { defines, choice } = copies_of(line)?;
@@ -41,5 +42,6 @@ pub fn given_of(machine: Machine, line: &CommandLine) -> Mem<Given>
         machine,
         defines,
         choice,
+        ci: List::new(alloc),
     })
 }

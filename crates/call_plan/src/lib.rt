@@ -1,4 +1,9 @@
-//! From the words of a call to the plan of its project, or to what is answered in its place.
+//! The words of a call lead to the plan of its project, or to what is answered in its place.
+//!
+//! 1. `command::asked` reads the words, or answers their first fault.
+//! 2. `given::given_of` gives what all POMs of the call are given: the machine, the properties and the profiles.
+//! 3. `project::plan_by_first` plans the project (`build_plan::plan_build`), with the remote of the first hand.
+//! 4. `outcome::answered` gives the plan, or what is answered where planning refused or failed.
 #![tactic(auto)]
 
 mod command;
@@ -8,4 +13,4 @@ mod project;
 
 pub use command::asked;
 pub use given::given_of;
-pub use project::{PlanAnswer, plan_by_first};
+pub use project::plan_by_first;

@@ -4,20 +4,20 @@ ghost use Rattle.std.specs.String.{string_bytes};
 ghost use Rattle.pom_source.specs.Answers.{fault_failed};
 ghost use Rattle.build_plan.specs.Planning.{plan_failed};
 ghost use Rattle.build_plan.specs.declared.planning.PlanFault.TheVariants as faults;
-ghost use Rattle.mvn_call.specs.Outcome.{device_name, fault_line, line, refused_by, root_missing, unknown_module, word_fault};
+ghost use Rattle.call_plan.specs.Outcome.{device_name, fault_line, line, refused_by, root_missing, unknown_module, word_fault};
 ghost use Rattle.call_plan.specs.Project.{IsMadeOf};
 
+use build_outcome::{FAULT, Outcome, REFUSED};
 use build_plan::{PlanFault, Planning};
 use cli_words::{WordFault, WordKind};
-use crew_outcome::{FAULT, Outcome, REFUSED};
 use model_resolver::PomDevice;
+use module_plan::Planned;
 use mvn_base::{Place, PomId, Refusal, Rule};
 use mvn_shared::{Bytes, Mem, OutOfMemory, Text};
-use plan_files::Planned;
 use pom_source::BuildFault;
 use std::alloc::Global;
 
-// A text with a line feed behind it.
+// A text with a line feed after it.
 fn line(text: String) -> Mem<Bytes>
     ensures { IfOk result (λ bytes. bytes ≡ line (string_bytes text)) }
 {
@@ -27,7 +27,7 @@ fn line(text: String) -> Mem<Bytes>
 }
 
 /// The answer to words of which this is the first fault.
-#[tactic(auto, unfolding(mvn_call::specs::Outcome::word_fault))]
+#[tactic(auto, unfolding(crate::specs::Outcome::word_fault))]
 pub(crate) fn word_fault(alloc: Global, fault: WordFault) -> Mem<Outcome>
     ensures { IfOk result (λ outcome. outcome ≡ word_fault fault) }
 {
@@ -50,7 +50,7 @@ fn device_name(device: PomDevice) -> &'static str
 }
 
 // The answer where a device failed.
-#[tactic(auto, unfolding(mvn_call::specs::Outcome::fault_line))]
+#[tactic(auto, unfolding(crate::specs::Outcome::fault_line))]
 fn fault_line(alloc: Global, device: PomDevice) -> Mem<Outcome>
     ensures { IfOk result (λ outcome. outcome ≡ fault_line device) }
 {
@@ -63,8 +63,8 @@ fn fault_line(alloc: Global, device: PomDevice) -> Mem<Outcome>
     })
 }
 
-// A refusal.
-#[tactic(auto, unfolding(mvn_call::specs::Outcome::refused_by))]
+// The answer to a refusal.
+#[tactic(auto, unfolding(crate::specs::Outcome::refused_by))]
 fn refused_by(alloc: Global, refusal: &Refusal) -> Mem<Outcome>
     ensures { IfOk result (λ outcome. outcome ≡ refused_by refusal.now) }
 {
@@ -133,7 +133,10 @@ fn refused(alloc: Global, fault: &PlanFault, failed: Option<PomDevice>) -> Mem<O
 
 /// The plan that planning gave, or what is answered in its place.
 #[tactic(auto, using(crate::proofs::Planned::made_none))]
-pub(crate) fn answered(alloc: Global, planning: Planning) -> Mem<Result<Planned, Outcome>>
+pub(crate) fn answered(
+    alloc: Global,
+    planning: Planning<Result<Planned, PlanFault>>,
+) -> Mem<Result<Planned, Outcome>>
     requires failed { is_some planning.failed ≡ plan_failed planning.answer }
     ensures { IfOk result (IsMadeOf planning.answer planning.failed) }
 {

@@ -1,28 +1,20 @@
-// From the project's devices to its plan.
+// Plans the project of a call.
 ghost use Rattle.std.specs.Prelude.{◌≡◌, ◌≤◌, None, drop, length, map, IfOk};
 ghost use Rattle.model_resolver.specs.Devices.{Counted};
-ghost use Rattle.crew_stages.specs.Hands.{state_by};
-ghost use Rattle.crew_outcome.specs.Left.{outside_by};
+ghost use Rattle.build_outcome.specs.Left.{outside_by};
 ghost use Rattle.call_plan.specs.Project.{GivesPlan};
-ghost use Rattle.mvn_call.specs.Seen.{counts_of, first_remote, IsAskedFirst};
+ghost use Rattle.call_plan.specs.Seen.{counts_of, first_remote, IsAskedFirst};
 
 use crate::outcome::answered;
-use build_plan::plan_build;
+use build_outcome::Outcome;
+use build_plan::{Planning, plan_build};
 use cli_words::CommandLine;
-use crew_outcome::Outcome;
-use model_resolver::PomDevice;
+use crew_turns::Worker;
+use module_plan::Planned;
 use mvn_outside::{Gate, Hand, Remote, Shelf, Tree};
 use mvn_shared::Mem;
-use plan_files::Planned;
 use pom_source::Given;
 use std::alloc::Global;
-
-/// What planning gave: a plan, or what is answered in its place; and the device that failed, if one did.
-#[derive(Drop)]
-pub struct PlanAnswer {
-    pub answer: Mem<Result<Planned, Outcome>>,
-    pub failed: Option<PomDevice>,
-}
 
 // Plans the project for a line.
 #[tactic(auto, using(crate::proofs::Planned::gives_plan))]
@@ -33,7 +25,7 @@ fn plan_line<T: Tree, S: Shelf, R: Remote>(
     tree: &mut T,
     shelf: &mut S,
     remote: &mut R,
-) -> PlanAnswer
+) -> Planning<Mem<Result<Planned, Outcome>>>
     requires workers { (1 ≤ line.now.workers) × (line.now.workers ≤ 16) }
     ensures gives { IfOk result.answer (GivesPlan (T.files tree.old) (S.told shelf.old)
         (R.files remote.old) given.now line.now result.failed) }
@@ -55,7 +47,7 @@ fn plan_line<T: Tree, S: Shelf, R: Remote>(
     let planning = plan_build(alloc, tree, shelf, remote, given, line);
     let failed = planning.failed;
     let answer = answered(alloc, planning);
-    PlanAnswer { answer, failed }
+    Planning { answer, failed }
 }
 
 // Plans the project for a line with the remote of a hand, of which nothing else is used.
@@ -66,7 +58,7 @@ fn plan_by_hand<T: Tree, R: Remote, S: Shelf, G: Gate>(
     tree: &mut T,
     shelf: &mut S,
     hand: &mut Hand<R, S::Area, G>,
-) -> PlanAnswer
+) -> Planning<Mem<Result<Planned, Outcome>>>
     requires workers { (1 ≤ line.now.workers) × (line.now.workers ≤ 16) }
     ensures gives { IfOk result.answer (GivesPlan (T.files tree.old) (S.told shelf.old)
         (R.files hand.old.remote) given.now line.now result.failed) }
@@ -82,10 +74,9 @@ fn plan_by_hand<T: Tree, R: Remote, S: Shelf, G: Gate>(
           shelf = S.faults shelf.new;
           remote = R.faults hand.new.remote;
         }) }
-    ensures state { state_by R.files R.faults S.Area.contents S.Area.faults S.Area.pieces G.answers
-        G.faults hand.new
-        ≡ record (state_by R.files R.faults S.Area.contents S.Area.faults S.Area.pieces G.answers
-        G.faults hand.old) { remote = R.faults hand.new.remote } }
+    ensures state { ⟦<Hand<R, S::Area, G> as Worker>⟧.state hand.new
+        ≡ record (⟦<Hand<R, S::Area, G> as Worker>⟧.state hand.old)
+        { remote = R.faults hand.new.remote } }
 {
     plan_line(alloc, given, line, tree, shelf, &mut hand.remote)
 }
@@ -98,24 +89,22 @@ pub fn plan_by_first<T: Tree, R: Remote, S: Shelf, G: Gate>(
     tree: &mut T,
     shelf: &mut S,
     hands: &mut [Hand<R, S::Area, G>],
-) -> PlanAnswer
+) -> Planning<Mem<Result<Planned, Outcome>>>
     requires workers { (1 ≤ line.now.workers) × (line.now.workers ≤ 16) }
     requires some { 1 ≤ length hands.old }
     ensures gives { IfOk result.answer (GivesPlan (T.files tree.old) (S.told shelf.old)
-        (first_remote (outside_by S.told S.faults (state_by R.files R.faults S.Area.contents
-        S.Area.faults S.Area.pieces G.answers G.faults) shelf.old hands.old))
+        (first_remote (outside_by S.told S.faults ⟦<Hand<R, S::Area, G> as Worker>⟧.state
+        shelf.old hands.old))
         given.now line.now result.failed) }
     ensures shelf { S.told shelf.new ≡ S.told shelf.old }
     ensures counted { Counted None result.failed
-        (counts_of (T.faults tree.old) (outside_by S.told S.faults (state_by R.files R.faults
-        S.Area.contents S.Area.faults S.Area.pieces G.answers G.faults) shelf.old hands.old))
-        (counts_of (T.faults tree.new) (outside_by S.told S.faults (state_by R.files R.faults
-        S.Area.contents S.Area.faults S.Area.pieces G.answers G.faults) shelf.new hands.new)) }
+        (counts_of (T.faults tree.old) (outside_by S.told S.faults
+        ⟦<Hand<R, S::Area, G> as Worker>⟧.state shelf.old hands.old))
+        (counts_of (T.faults tree.new) (outside_by S.told S.faults
+        ⟦<Hand<R, S::Area, G> as Worker>⟧.state shelf.new hands.new)) }
     ensures asked { IsAskedFirst
-        (map (state_by R.files R.faults S.Area.contents S.Area.faults S.Area.pieces G.answers
-        G.faults) hands.old)
-        (map (state_by R.files R.faults S.Area.contents S.Area.faults S.Area.pieces G.answers
-        G.faults) hands.new) }
+        (map ⟦<Hand<R, S::Area, G> as Worker>⟧.state hands.old)
+        (map ⟦<Hand<R, S::Area, G> as Worker>⟧.state hands.new) }
     ensures others { drop 1 hands.new ≡ drop 1 hands.old }
     ensures many { length hands.new ≡ length hands.old }
 {

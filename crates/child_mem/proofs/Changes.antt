@@ -1,8 +1,8 @@
 -- Changing the record at a place, against writing to a slice.
 use Rattle.std.proofs.Common.{◌≡◌, ℕ, zero, suc, ◌<◌, ◌≤◌, ◌+◌, List, [], ◌∷◌, length, IfSome, refl, ap, ◌∙◌, arith}
 use Rattle.std.specs.Prelude.{slice_get, slice_set, slice_index_or}
-use Rattle.child_outside.specs.declared.spawner.ChildRecord.{ChildRecord}
-use Rattle.child_outside.specs.Children.{change_at, read_on}
+use Rattle.children.specs.declared.spawner.ChildRecord.{ChildRecord}
+use Rattle.children.specs.Children.{change_at, read_on}
 
 -- a change is a write of the changed item
 change_set : {A : Type 0} (f : A → A) (d : A) (n : ℕ) (xs : List A) → n < length xs → slice_set xs n (f (slice_index_or xs n d)) ≡ change_at f n xs

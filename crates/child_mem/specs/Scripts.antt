@@ -1,7 +1,7 @@
 -- What children in memory do.
 use Rattle.std.specs.Prelude.{ℕ, ℤ, List, [], pos, Option, Some, None}
-use Rattle.child_outside.specs.declared.spawner.ChildRecord.{ChildRecord}
-use Rattle.child_outside.specs.Children.{fresh_child}
+use Rattle.children.specs.declared.spawner.ChildRecord.{ChildRecord}
+use Rattle.children.specs.Children.{fresh_child}
 use Rattle.child_mem.specs.declared.spawner.ChildScript.{ChildScript}
 
 -- what a child writes, and what it ends with: without a script nothing and 0

@@ -1,11 +1,11 @@
 -- What children in memory hold.
 use Rattle.std.specs.Prelude.{ℕ, Bool, List}
-use Rattle.child_outside.specs.Children.{Children}
-use Rattle.child_outside.specs.Numbers.{numbers}
+use Rattle.children.specs.Children.{Children}
+use Rattle.children.specs.Numbers.{numbers}
 use Rattle.std.specs.Vec.Iter.{into_iter_items}
 use Rattle.outside_mem.specs.declared.calls.Calls.{Calls}
 use Rattle.outside_mem.specs.Calls.{fails}
-use Rattle.child_outside.specs.declared.spawner.ChildRecord.{ChildRecord}
+use Rattle.children.specs.declared.spawner.ChildRecord.{ChildRecord}
 use Rattle.child_mem.specs.declared.spawner.ChildScript.{ChildScript}
 use Rattle.child_mem.specs.declared.spawner.MemSpawner.{MemSpawner}
 

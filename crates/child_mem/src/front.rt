@@ -1,6 +1,6 @@
 // Reading from the front of bytes.
 ghost use Rattle.std.specs.Prelude.{◌≡◌, length, min};
-ghost use Rattle.child_outside.specs.Reading.{IsFront};
+ghost use Rattle.children.specs.Reading.{IsFront};
 
 /// Copies as many bytes as there are and fit, and says how many.
 pub(crate) fn copy_front(rest: &[u8], into: &mut [u8]) -> usize

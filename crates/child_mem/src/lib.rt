@@ -1,4 +1,4 @@
-//! Streams and children in memory: they tell their contents, and fail at the calls that they are told to.
+//! Streams and children in memory tell what they hold, and fail at the calls that they are told to.
 #![tactic(auto)]
 
 mod front;

@@ -1,13 +1,13 @@
 // The records of children in memory, changed by each call.
 ghost use Rattle.std.specs.Prelude.{◌≡◌, ◌≤◌, length, drop, slice_get, IfSome, OnOk, OnErr};
 ghost use Rattle.std.specs.Vec.Iter.{into_iter_items};
-ghost use Rattle.child_outside.specs.Children.{change_at, given_more, input_closed, read_on, unread};
-ghost use Rattle.child_outside.specs.Reading.{IsFront};
+ghost use Rattle.children.specs.Children.{change_at, given_more, input_closed, read_on, unread};
+ghost use Rattle.children.specs.Reading.{IsFront};
 ghost use Rattle.child_mem.specs.Scripts.{child_of};
 
 use crate::front::copy_front;
 use crate::spawner::ChildScript;
-use child_outside::ChildRecord;
+use children::ChildRecord;
 use mvn_shared::{Bytes, Mem};
 use std::alloc::Global;
 use std::vec::IntoIter;

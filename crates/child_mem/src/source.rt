@@ -1,7 +1,9 @@
+//! A stream in memory, which gives the bytes that it was made of.
+
 ghost use Rattle.std.specs.Prelude.{◌≡◌, ◌≤◌, ℕ, ◌==◌, [], IfOk, length, true};
 
 use crate::front::copy_front;
-use child_outside::{Failed, Source};
+use children::{Failed, Source};
 use mvn_shared::{Bytes, List, Mem};
 use outside_mem::{Calls, Failures, NoFailures};
 use std::alloc::Global;

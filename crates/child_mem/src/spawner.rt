@@ -1,7 +1,9 @@
+//! Children in memory, each of which does what its script says.
+
 ghost use Rattle.std.specs.Prelude.{◌≡◌, ◌<◌, ◌≤◌, ℕ, ◌==◌, [], true, length, is_err, IfOk};
 
 use crate::records::{close, fresh_record, give, next_script, status_of, take};
-use child_outside::{ChildRecord, Failed, Spawner};
+use children::{ChildRecord, Failed, Spawner};
 use mvn_outside::DeviceFault;
 use mvn_shared::{Bytes, List, Mem};
 use outside_mem::{Calls, Failures, NoFailures};
@@ -98,9 +100,9 @@ impl<F: Failures> Spawner for MemSpawner<F> {
     ghost use Rattle.std.specs.Prelude.{Some, false, ◌∷◌, ◌++◌, take, drop, slice_get, IfSome, OnOk, OnErr};
     ghost use Rattle.mvn_shared.specs.Cause.{HasCause};
     ghost use Rattle.mvn_outside.specs.Faults.{device_failed};
-    ghost use Rattle.child_outside.specs.Children.{is_there, with_child, without_child, changed, given_more, input_closed, read_on, unread, record_of};
-    ghost use Rattle.child_outside.specs.Reading.{IsFront};
-    ghost use Rattle.child_outside.specs.Numbers.{numbers};
+    ghost use Rattle.children.specs.Children.{is_there, with_child, without_child, changed, given_more, input_closed, read_on, unread, record_of};
+    ghost use Rattle.children.specs.Reading.{IsFront};
+    ghost use Rattle.children.specs.Numbers.{numbers};
     ghost use Rattle.child_mem.specs.Scripts.{child_of};
     ghost use Rattle.child_mem.specs.Spawner.{scripts_left, child_records, children_there};
 
@@ -115,7 +117,7 @@ impl<F: Failures> Spawner for MemSpawner<F> {
     ghost no_faults = { λ spawner. F.no_faults spawner.calls };
 
     /// Starts a child with the next script. A call that fails uses up none.
-    #[tactic(auto, using(child_outside::proofs::Present::not_there, child_outside::proofs::Present::one_added))]
+    #[tactic(auto, using(children::proofs::Present::not_there, children::proofs::Present::one_added))]
     fn start(&mut self) -> Result<u64, DeviceFault>
         ensures script { OnOk result (child_records self.new
             ≡ child_records self.old ++ child_of (slice_get (scripts_left self.old) 0) ∷ []) }
@@ -210,7 +212,7 @@ impl<F: Failures> Spawner for MemSpawner<F> {
         Ok(take(&mut self.records, child as usize, into))
     }
 
-    #[tactic(auto, using(child_outside::proofs::Present::one_gone))]
+    #[tactic(auto, using(children::proofs::Present::one_gone))]
     fn wait(&mut self, child: u64) -> Result<i32, Failed>
         requires { is_there (children_there self.old) child ≡ true }
         ensures scripts { scripts_left self.new ≡ scripts_left self.old }
@@ -231,7 +233,7 @@ impl<F: Failures> Spawner for MemSpawner<F> {
         Ok(status_of(&self.records, child as usize))
     }
 
-    #[tactic(auto, using(child_outside::proofs::Present::one_gone))]
+    #[tactic(auto, using(children::proofs::Present::one_gone))]
     fn drop_child(&mut self, child: u64)
         requires { is_there (children_there self.old) child ≡ true }
         ensures scripts { scripts_left self.new ≡ scripts_left self.old }

@@ -4,15 +4,14 @@ ghost use Rattle.goal_types.specs.Goals.{HasOwnSlots};
 
 use crate::calls;
 use child_mem::{ChildScript, MemSpawner};
-use child_outside::ChildRecord;
-use gate_process::ProcessGate;
+use children::ChildRecord;
+use gates::ProcessGate;
 use goal_types::{GoalAnswer, GoalCall, GoalRequest, Need, Slot, request_bytes};
 use mvn_base::Phase;
 use mvn_outside::{DeviceFault, Gate};
 use mvn_shared::{Bytes, List, Mem, Text};
 use outside_mem::Calls;
-use row_fields::unescaped;
-use row_values::gav;
+use row_fields::{gav, unescaped};
 use std::alloc::Global;
 
 // A gate over children in memory.
@@ -86,7 +85,7 @@ fn push_number_left(alloc: Global, shown: &mut String, left: u64) -> Mem<()> {
     Ok(shown.push_str(told.as_str())?)
 }
 
-// The same of the children, behind a semicolon, and how many are left.
+// The same of the children, after a semicolon, and how many are left.
 fn push_children(
     alloc: Global,
     shown: &mut String,
@@ -150,7 +149,7 @@ fn asked_by(alloc: Global, gate: &mut MemGate) -> Mem<Bytes> {
     called(alloc, gate, &request)
 }
 
-// The same of a gate with one child, some of whose calls fail.
+// What is told of a gate with one child, where some calls fail.
 fn asked(alloc: Global, script: ChildScript, failing: &List<u64>) -> Mem<Bytes> {
     let spawner = spawner(alloc, script, failing)?;
     let mut gate = ProcessGate::new(alloc, spawner);
@@ -172,7 +171,7 @@ pub(crate) fn fail(alloc: Global, number: &str) -> Mem<Bytes> {
     asked(alloc, ChildScript { output, status: 0 }, &failing)
 }
 
-// So many bytes behind a text.
+// A text, and so many bytes after it.
 fn lengthened(alloc: Global, front: &str, count: &str) -> Mem<Bytes> {
     let count = count.parse::<usize>().unwrap_or(0);
     let bytes = vec![in alloc; b'x'; count]?;

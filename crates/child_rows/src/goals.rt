@@ -22,7 +22,7 @@ fn ended(alloc: Global, source: &mut MemSource<Calls>, writes: &List<u64>) -> Me
     told(alloc, status, sink.bytes())
 }
 
-// The same with the bytes of a field, where these reads fail too.
+// How the program ends with the bytes of a field where these reads and writes fail, and what it writes.
 fn given(alloc: Global, field: &str, reads: &List<u64>, writes: &List<u64>) -> Mem<Bytes> {
     let input = unescaped(alloc, field)?;
     let mut source = MemSource::new(alloc, input, reads)?;
@@ -34,14 +34,14 @@ pub(crate) fn run(alloc: Global, field: &str) -> Mem<Bytes> {
     given(alloc, field, &List::new(alloc), &List::new(alloc))
 }
 
-/// The same where a read fails.
+/// How the program ends with the bytes of a field where a read fails, and what it writes.
 pub(crate) fn failing_read(alloc: Global, fields: &str) -> Mem<Bytes> {
     let (call, field) = fields.split_once(' ').unwrap_or((fields, ""));
     let reads = calls(alloc, call)?;
     given(alloc, field, &reads, &List::new(alloc))
 }
 
-/// The same where a write fails.
+/// How the program ends with the bytes of a field where a write fails, and what it writes.
 pub(crate) fn failing_write(alloc: Global, fields: &str) -> Mem<Bytes> {
     let (call, field) = fields.split_once(' ').unwrap_or((fields, ""));
     let writes = calls(alloc, call)?;

@@ -1,11 +1,14 @@
-//! Rows about goals in children in memory, each with its answer: what the gate answers, what its child was given and how far it was read, and
-//! what the goal program writes. A line of standard input is a word, which says what is asked for, and fields with a space between two of
-//! them, spelled as `row_fields` says; the answer is printed as one line. In it all bytes but the printed ones of ASCII are spelled `\xNN`.
-//! A line that begins with `#` is printed as it stands.
+//! The program `child_rows` answers rows about goals in children in memory: what the gate answers, what its child was given and how far
+//! it was read, and what the goal program writes.
+//!
+//! A line of standard input is a word, which says what is asked for, and fields with a space between two of them, spelled as
+//! `row_fields` says; the answer is printed as one line. In it all bytes but the printed ones of ASCII are spelled `\xNN`. A line that
+//! begins with `#` is printed as it stands.
 //!
 //! - `ask STATUS OUTPUT`: the gate's answer where its child writes the output and ends with the status
 //! - `fail N`: the same of a child that is done, where call N of the spawner fails, from 0 on
-//! - `produced N`, `long N`: the same of an answer with N bytes of output, and of N bytes that are no answer; `long N K`: where call K fails
+//! - `produced N`, `long N`: the same of an answer with N bytes of output, and of N bytes that are no answer; `long N K`: where call K
+//!   fails
 //! - `goal BYTES`: the status of the goal program, and what it writes; `failing-read N BYTES`, `failing-write N BYTES`: the same where
 //!   that read or write fails
 #![tactic(auto)]

@@ -1,3 +1,5 @@
+//! The compile, runtime and test classpaths of a project, by the scopes of its dependencies.
+
 ghost use Rattle.std.specs.Prelude.{◌≡◌, IfOk};
 ghost use Rattle.classpaths.specs.Classpaths.{classpath, has_scope, is_on};
 
@@ -36,9 +38,9 @@ fn is_on(alloc: Global, kind: Kind, winner: &Resolved) -> Mem<bool>
 }
 
 impl Resolution {
-    /// The places of the winners that are on a classpath, in order: compile has the scopes compile and provided, runtime has
-    /// compile and runtime, test has all; of types that classes are loaded from alone. Costs the winners' types. Introduction
-    /// to the Dependency Mechanism, "Dependency Scope"; Maven's default artifact handlers.
+    /// The places of the winners that are on a classpath, in order: compile has the scopes compile and provided,
+    /// runtime has compile and runtime, test has all; of types that classes are loaded from alone. Costs the winners'
+    /// types. Introduction to the Dependency Mechanism, "Dependency Scope"; Maven's default artifact handlers.
     pub fn classpath(&self, alloc: Global, kind: Kind) -> Mem<List<usize>>
         ensures { IfOk result (λ places. places ≡ classpath kind self.now.winners) }
     {

@@ -1,3 +1,5 @@
+//! The files that are fetched for a project, each one once.
+
 ghost use Rattle.std.specs.Prelude.{◌≡◌, [], All, fold, IfOk, OnOk};
 ghost use Rattle.std.specs.HashSet.{contains};
 ghost use Rattle.mvn_base.specs.Gav.{gav_eq};
@@ -75,9 +77,9 @@ fn add_files(
 }
 
 impl Resolution {
-    /// The files that are fetched for it: for each winner whose coordinates aren't among `selected`, the modules that are built in the
-    /// same run, its POM where it has one, and its artifact; each file once, in the order of the winners. Costs their names.
-    /// Maven's repository layout.
+    /// The files that are fetched for it: for each winner whose coordinates aren't among `selected`, the modules that
+    /// are built in the same run, its POM where it has one, and its artifact; each file once, in the order of the
+    /// winners. Costs their names. Maven's repository layout.
     pub fn files(&self, alloc: Global, selected: &HashSet<Gav>) -> Mem<List<FileName>>
         requires { All HasNames self.now.winners }
         ensures { IfOk result (λ list. list

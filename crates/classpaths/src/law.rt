@@ -1,3 +1,5 @@
+//! Laws of classpaths and of the files that are fetched.
+
 ghost use Rattle.std.specs.Prelude.{◌≡◌, ◌≢◌, ℕ, Bool, true, false, [], ◌∷◌, codes, AllPairs, Contains, flat_map};
 ghost use Rattle.std.specs.Prelude.{List as Items};
 ghost use Rattle.mvn_base.specs.declared.gav.Gav.{Gav};
@@ -24,7 +26,8 @@ pub fn each_file_once()
         → Contains (fetch_list is_selected winners) name }
 {}
 
-/// An example: of `web` there are the jar and the jar of its tests, which have one POM, and `tests` is needed for tests alone.
+/// An example: of `web` there are the jar and the jar of its tests, which have one POM, and `tests` is needed for tests
+/// alone.
 #[tactic(auto, unfolding(mvn_base::specs::Types::type_rule, mvn_base::specs::FileName::file_name))]
 pub fn first_of_two_artifacts()
     ensures compile { classpath Compile (web ∷ leads ∷ tests ∷ []) ≡ 0 ∷ 1 ∷ [] }

@@ -1,4 +1,4 @@
-//! What a project is built with: its classpaths, and the files that are fetched for it.
+//! Gives the classpaths of a project and the files that are fetched for it, from what it is built with.
 #![tactic(auto)]
 
 mod classpath;

@@ -1,3 +1,5 @@
+//! The names of the POM and the artifact of a dependency in a repository.
+
 ghost use Rattle.std.specs.Prelude.{◌≡◌, [], true, codes, IfOk};
 ghost use Rattle.mvn_base.specs.FileName.{IsValid, file_name, is_classifier};
 ghost use Rattle.mvn_base.specs.Names.{is_name};

@@ -1,3 +1,5 @@
+//! `Resolution`: the dependencies that a project is built with, and notes on POMs that lead to nothing.
+
 use collector::Scope;
 use mvn_base::{Gav, Rule};
 use mvn_shared::{List, Shared, Text};
@@ -24,8 +26,8 @@ pub enum Note {
 /// What a project is built with.
 #[derive(Drop)]
 pub struct Resolution {
-    /// In the order of the dependency tree: each stands behind the one that declares it and behind what is declared before it, with
-    /// all that is below that. Modules may share what several of them are built with.
+    /// In the order of the dependency tree: each stands after the one that declares it and after what is declared
+    /// before it, with all that is below that. Modules may share what several of them are built with.
     pub winners: List<Shared<Resolved>>,
     /// In the order in which the POMs are met.
     pub notes: List<Note>,

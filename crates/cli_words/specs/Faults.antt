@@ -26,10 +26,6 @@ kind_name NotUtf8 = codes "NotUtf8"
 unfoldable pub fault_text : WordFault → List ℕ
 fault_text fault = codes "word " ++ decimal fault.place ++ 32 ∷ kind_name fault.kind
 
-unfoldable pub error_text : WordError → List ℕ
-error_text (Fault fault) = fault_text fault
-error_text Memory = codes "out of memory"
-
 -- an error is the fault that is said; want of memory says nothing of the words
 abbrev pub Refuses : {T : Type 0} → WordError → Result T WordFault → Type 0
 Refuses (Fault fault) said = said ≡ Err fault

@@ -6,6 +6,7 @@ use Rattle.std.specs.Char.{is_ascii_digit, is_ascii_whitespace}
 use Rattle.std.specs.Str.{is_utf8}
 use Rattle.mvn_base.specs.Phase.{phase_of}
 use Rattle.mvn_base.specs.declared.phase.Phase.{Phase}
+use Rattle.mvn_base.specs.declared.fail_mode.FailMode.TheVariants.{AtEnd}
 use Rattle.mvn_base.specs.declared.phase.Phase.TheVariants.{Deploy}
 use Rattle.cli_words.specs.declared.command_line.Word.{Word}
 use Rattle.mvn_base.specs.declared.machine.Choice.{Choice}
@@ -218,7 +219,7 @@ abbrev pub no_words : Line
 no_words = record { awaits = None; workers = None; phase = None; choice = record { on = []; off = [] }; defines = []; projects = []; also_make = false; also_make_dependents = false; from = None; full = false; generated = None }
 
 abbrev pub command_line : ℕ → Phase → Line → CommandLine
-command_line workers phase line = record { workers = workers; phase = phase; choice = line.choice; defines = line.defines; projects = line.projects; also_make = line.also_make; also_make_dependents = line.also_make_dependents; from = line.from; full = line.full; generated = line.generated }
+command_line workers phase line = record { workers = workers; phase = phase; choice = line.choice; defines = line.defines; projects = line.projects; also_make = line.also_make; also_make_dependents = line.also_make_dependents; from = line.from; mode = AtEnd; tree = false; full = line.full; generated = line.generated }
 
 -- how many workers are asked for, no more than there are hands
 abbrev pub with_hands : ℕ → Phase → Line → Result CommandLine WordFault

@@ -1,4 +1,4 @@
-use mvn_base::{Choice, Pair, Phase};
+use mvn_base::{Choice, FailMode, Pair, Phase};
 use mvn_shared::{List, Text};
 
 /// A selector of modules, and the number of the word where it stands. Guide to Working with Multiple Modules.
@@ -26,8 +26,12 @@ pub struct CommandLine {
     pub also_make_dependents: bool,
     /// The module from which on is built.
     pub from: Option<Word>,
+    /// What is built once a module has failed. No word chooses it yet, so it is `AtEnd`.
+    pub mode: FailMode,
+    /// Whether the report has the dependency tree. No word asks for it yet, so it is false.
+    pub tree: bool,
     /// Whether the report has the full lines. Own word.
     pub full: bool,
-    /// How many POMs the generated project has that is built in place of the folder's, 1 to 1,024. Own word.
+    /// How many POMs the generated project has that is built in place of the folder's, 1 to 1,024. Project word.
     pub generated: Option<u32>,
 }

@@ -1,11 +1,13 @@
+//! What may be wrong with a word, and how that is printed.
+
 ghost use Rattle.std.specs.Prelude.{◌≡◌};
 ghost use Rattle.cli_words.specs.declared.fault.WordError.TheVariants.{Fault};
 
 use mvn_shared::OutOfMemory;
-use std::error::Error;
 use std::fmt;
+use thiserror::Error;
 
-/// What is wrong with a word. Own kinds.
+/// What is wrong with a word. Project rule.
 #[derive(Clone, Copy, Debug)]
 pub enum WordKind {
     UnknownWord,
@@ -26,7 +28,7 @@ impl WordKind {
     ghost use Rattle.std.specs.Prelude.{◌≡◌};
     ghost use Rattle.cli_words.specs.Faults.{kind_name};
 
-    /// Its name, as it is printed.
+    /// The name of the kind, as it is printed.
     #[tactic(auto, unfolding(crate::specs::Faults::kind_name))]
     pub fn name(self) -> &'static str
         ensures { result.now ≡ kind_name self }
@@ -70,28 +72,13 @@ impl fmt::Display for WordFault {
 }
 
 /// Why words have no meaning.
-#[derive(Clone, Copy, Debug)]
+#[derive(Clone, Copy, Debug, Error)]
 pub enum WordError {
+    #[error("{0}")]
     Fault(WordFault),
+    #[error("out of memory")]
     Memory,
 }
-
-impl fmt::Display for WordError {
-    ghost use Rattle.std.specs.Prelude.{Some};
-    ghost use Rattle.cli_words.specs.Faults.{error_text};
-
-    ghost output = { λ error. Some (error_text error) };
-
-    #[tactic(auto, unfolding(crate::specs::Faults::error_text))]
-    fn fmt<W: fmt::Write>(&self, f: &mut fmt::Formatter<W>) -> fmt::Result {
-        match self {
-            WordError::Fault(fault) => write!(f, "{fault}"),
-            WordError::Memory => write!(f, "out of memory"),
-        }
-    }
-}
-
-impl Error for WordError {}
 
 impl From<OutOfMemory> for WordError {
     ghost use Rattle.std.specs.Prelude.{◌≡◌};

@@ -1,3 +1,5 @@
+//! What the words of a command line that were read so far say.
+
 use crate::command_line::Word;
 use crate::spelling::Wanted;
 use mvn_base::{Choice, Pair, Phase};

@@ -1,3 +1,5 @@
+//! Reads one word of a command line after the words before it.
+
 ghost use Rattle.std.specs.Prelude.{◌≡◌, ◌≤◌, true, is_some, Some, Ok};
 ghost use Rattle.std.specs.Result.{MatchResult};
 ghost use Rattle.cli_words.specs.Faults.{Answers, Refuses};
@@ -68,7 +70,7 @@ impl Line {
         }
     }
 
-    // A phase, or an option of one letter with its value behind it.
+    // A phase, or an option of one letter with its value after it.
     #[tactic(auto, using(crate::proofs::Texts::third_boundary))]
     fn joined_word(self, alloc: Global, at: usize, word: &str) -> Result<Line, WordError>
         ensures { Answers (joined_word at word.now self) result }

@@ -1,3 +1,5 @@
+//! The spellings of the options, and what each stands for.
+
 ghost use Rattle.std.specs.Prelude.{◌≡◌};
 ghost use Rattle.cli_words.specs.Spellings.{has_no_effect, is_word, spelled};
 

@@ -1,3 +1,5 @@
+//! Reads the parts of values: numbers, items of lists, and properties.
+
 ghost use Rattle.std.specs.Prelude.{◌≡◌, ◌≤◌, ◌==◌, true, false, length, map, IfOk};
 ghost use Rattle.std.specs.Option.{MatchOption};
 ghost use Rattle.std.specs.Str.{is_utf8};
@@ -105,7 +107,7 @@ pub(crate) fn name_of(word: &str) -> &str
     &word[..equals_place(word.as_bytes())]
 }
 
-/// The value: what stands behind the first `=`, and `true` where there is none. Costs the name's length.
+/// The value: what stands after the first `=`, and `true` where there is none. Costs the name's length.
 #[tactic(auto, using(crate::proofs::Texts::value_is, crate::proofs::Texts::value_is_true, crate::proofs::Texts::value_boundary))]
 pub(crate) fn value_of(word: &str) -> &str
     ensures { result.now ≡ value_of word.now }

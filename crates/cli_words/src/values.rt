@@ -1,3 +1,5 @@
+//! Puts the value of an option into the line that is being read.
+
 ghost use Rattle.std.specs.Prelude.{◌≡◌, ◌++◌, [], ◌∷◌, map, fold, Some, None, Ok, if◌then◌else◌, IfOk, OnOk};
 ghost use Rattle.std.specs.List.{list_any};
 ghost use Rattle.cli_words.specs.Faults.{Answers};

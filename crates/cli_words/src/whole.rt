@@ -1,3 +1,5 @@
+//! Reads all words of a command line, and answers what they ask for.
+
 ghost use Rattle.std.specs.Prelude.{◌≡◌, ◌≤◌, true, is_some};
 ghost use Rattle.cli_words.specs.Faults.{Answers};
 ghost use Rattle.cli_words.specs.Options.{command_line, no_words, options, whole_line, with_hands};
@@ -5,7 +7,7 @@ ghost use Rattle.cli_words.specs.Options.{command_line, no_words, options, whole
 use crate::command_line::CommandLine;
 use crate::fault::{WordError, WordKind, fault};
 use crate::line::Line;
-use mvn_base::{Choice, Phase};
+use mvn_base::{Choice, FailMode, Phase};
 use mvn_shared::{Bytes, List};
 use std::alloc::Global;
 
@@ -45,6 +47,8 @@ impl Line {
             also_make: self.also_make,
             also_make_dependents: self.also_make_dependents,
             from: self.from,
+            mode: FailMode::AtEnd,
+            tree: false,
             full: self.full,
             generated: self.generated,
         }
@@ -61,7 +65,7 @@ impl Line {
         }
     }
 
-    // Behind the last word.
+    // What the line asks for after the last word.
     #[tactic(auto, unfolding(crate::specs::Options::whole_line))]
     fn whole_line(self, count: usize, hands: u32) -> Result<CommandLine, WordError>
         requires { is_some self.awaits ≡ true → 1 ≤ count }

@@ -2,7 +2,7 @@
 use Rattle.std.specs.Prelude.{◌≡◌, ◌<◌, List, ◌++◌, length, ⊤}
 use Rattle.model_types.specs.declared.dependency.Dependency.{Dependency}
 use Rattle.model_types.specs.declared.dependency.Exclusion.{Exclusion}
-use Rattle.exclusion_set.specs.Excluding.{is_excluded}
+use Rattle.collector.specs.Excluding.{is_excluded}
 use Rattle.collector.specs.declared.chain.Link.{Link}
 use Rattle.collector.specs.declared.chain.Link.TheVariants.{First, Behind}
 

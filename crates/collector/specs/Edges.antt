@@ -7,7 +7,7 @@ use Rattle.mvn_base.specs.declared.key.Key.{Key}
 use Rattle.model_types.specs.declared.dependency.Dependency.{Dependency}
 use Rattle.model_types.specs.declared.dependency.Exclusion.{Exclusion}
 use Rattle.managed_deps.specs.Managed.{find_pair, is_scope, key_of}
-pub use Rattle.exclusion_set.specs.Excluding.{excludes, is_excluded, is_named}
+pub use Rattle.collector.specs.Excluding.{excludes, is_excluded, is_named}
 use Rattle.collector.specs.declared.edge.Edge.{Edge}
 use Rattle.collector.specs.declared.scope.Scope.{Scope}
 use Rattle.collector.specs.declared.scope.Scope.TheVariants.{Compile, Provided, Runtime, Test}

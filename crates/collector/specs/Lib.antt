@@ -1,3 +1,10 @@
+pub mod Excluding
+pub mod ExclusionFalls
+pub mod Hashes
+pub mod Nodes
+pub mod Parts
+pub mod Winners
+pub mod Example
 pub mod Chains
 pub mod Edges
 pub mod Falls

@@ -1,3 +1,5 @@
+//! A list of exclusions in parts, of which all but the last are shared.
+
 ghost use Rattle.std.specs.Prelude.{◌≡◌, ◌≢◌, ◌↔◌, ◌++◌, [], IsTrue};
 
 use model_types::Exclusion;
@@ -11,7 +13,7 @@ pub struct Chain {
     pub(crate) link: Link,
 }
 
-// The last part, behind the parts before it.
+// The last part, after the parts before it.
 #[cycle(chain)]
 #[derive(Drop)]
 pub enum Link {
@@ -80,7 +82,7 @@ impl Chain {
         }
     }
 
-    // Whether there is none.
+    // Whether there is no exclusion.
     pub(crate) fn is_empty(&self) -> bool
         ensures { IsTrue result ↔ (self.now ≡ []) }
     {

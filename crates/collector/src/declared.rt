@@ -1,9 +1,11 @@
+//! The edges of a project's own dependencies.
+
 ghost use Rattle.std.specs.Prelude.{◌≡◌, IfOk};
 ghost use Rattle.collector.specs.Edges.{direct_edge, direct_edges};
 
 use crate::edge::{Edge, stated_edge};
 use crate::exclusions::Exclusions;
-use keyed_lists::Keyed;
+use model_merge::Keyed;
 use model_types::Dependency;
 use mvn_shared::{List, Mem, Shared};
 use std::alloc::Global;
@@ -25,8 +27,8 @@ fn direct_edge(alloc: Global, position: usize, dependency: &Dependency) -> Mem<E
     )
 }
 
-/// What a project's own dependencies lead to: each stands, with its own version, scope and exclusions. Costs their texts.
-/// Introduction to the Dependency Mechanism, "Transitive Dependencies".
+/// What a project's own dependencies lead to: each stands, with its own version, scope and exclusions. Costs their
+/// texts. Introduction to the Dependency Mechanism, "Transitive Dependencies".
 pub fn direct_edges(alloc: Global, dependencies: &[Shared<Dependency>]) -> Mem<List<Edge>>
     ensures { IfOk result (λ list. list ≡ direct_edges dependencies.now) }
 {

@@ -1,3 +1,5 @@
+//! `Edge`: a dependency as an edge of the graph, with what it excludes below it.
+
 ghost use Rattle.std.specs.Prelude.{◌≡◌, IfOk};
 ghost use Rattle.std.specs.Option.{option_or};
 ghost use Rattle.collector.specs.Edges.{stated_edge, text_of};

@@ -1,17 +1,19 @@
+//! `Exclusions`: what is left out below an edge, added to what is left out above it.
+
 ghost use Rattle.std.specs.Prelude.{◌≡◌, ◌≢◌, ◌↔◌, ◌++◌, [], IsTrue, IfOk};
-ghost use Rattle.exclusion_set.specs.Excluding.{is_excluded};
+ghost use Rattle.collector.specs.Excluding.{is_excluded};
 ghost use Rattle.collector.specs.Chains.{ExcludeSame};
 
+use crate::ExclusionSet;
 use crate::chain::Chain;
-use exclusion_set::ExclusionSet;
 use model_types::{Dependency, Exclusion};
 use mvn_shared::{List, Mem, Shared};
 use std::alloc::Global;
 use std::marker::Model;
 use std::sync::Arc;
 
-/// What is left out below an edge: what its declaration and the project's management add, behind what is left out above, which
-/// it shares. Contracts see the whole list.
+/// What is left out below an edge: what its declaration and the project's management add, after what is left out above,
+/// which it shares. Contracts see the whole list.
 #[derive(Drop)]
 pub struct Exclusions {
     // Absent where nothing is left out.
@@ -55,7 +57,7 @@ impl Model for Parts {
 }
 
 impl Parts {
-    // Those of a list. Costs one allocation, and putting each into a set.
+    // The exclusions of a list. Costs one allocation, and putting each into a set.
     fn of(alloc: Global, list: List<Exclusion>) -> Mem<Parts>
         ensures { IfOk result (λ parts. parts ≡ list) }
     {
@@ -64,7 +66,7 @@ impl Parts {
         Ok(Parts { chain, set })
     }
 
-    // Whether there is none.
+    // Whether there is no exclusion.
     fn has_none(&self) -> bool
         ensures { IsTrue result ↔ (self.now ≡ []) }
     {
@@ -78,7 +80,7 @@ impl Parts {
         self.set.excludes(dependency)
     }
 
-    // These, which are shared, and others behind them.
+    // These exclusions, which are shared, and others after them.
     fn longer(&self, alloc: Global, more: &List<Exclusion>) -> Mem<Parts>
         requires { more.now ≢ [] }
         ensures { IfOk result (λ parts. parts ≡ self.now ++ more.now) }
@@ -92,7 +94,7 @@ impl Parts {
 }
 
 impl Exclusions {
-    /// Those of a list. Costs nothing where there is none, else two allocations, and putting each into a set.
+    /// The exclusions of a list. Costs nothing where there is none, else two allocations, and putting each into a set.
     pub fn new(alloc: Global, list: List<Exclusion>) -> Mem<Exclusions>
         ensures { IfOk result (λ exclusions. exclusions ≡ list) }
     {
@@ -102,7 +104,7 @@ impl Exclusions {
         of_parts(alloc, Parts::of(alloc, list)?)
     }
 
-    /// The same, in constant time; nothing is copied.
+    /// The same exclusions, in constant time; nothing is copied.
     pub fn share(&self) -> Mem<Exclusions>
         ensures { IfOk result (λ exclusions. exclusions ≡ self.now) }
     {
@@ -115,7 +117,7 @@ impl Exclusions {
         }
     }
 
-    /// Whether there is none. Constant time.
+    /// Whether there is no exclusion. Constant time.
     pub fn is_empty(&self) -> bool
         ensures { IsTrue result ↔ (self.now ≡ []) }
     {
@@ -135,7 +137,8 @@ impl Exclusions {
         }
     }
 
-    // These, which are shared, and others behind them. Costs the others, and some steps for each of them to put it into the set.
+    // These exclusions, which are shared, and others after them. Costs the others, and some steps for each of them to
+    // put it into the set.
     pub(crate) fn with(&self, alloc: Global, more: &List<Exclusion>) -> Mem<Exclusions>
         ensures { IfOk result (λ exclusions. exclusions ≡ self.now ++ more.now) }
     {
@@ -149,7 +152,7 @@ impl Exclusions {
     }
 }
 
-// Those of parts, which are shared from here on.
+// The exclusions of parts, which are shared from here on.
 fn of_parts(alloc: Global, parts: Parts) -> Mem<Exclusions>
     ensures { IfOk result (λ exclusions. exclusions ≡ parts) }
 {

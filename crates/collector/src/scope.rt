@@ -1,3 +1,5 @@
+//! `Scope`: where a dependency is needed, and the words for it.
+
 ghost use Rattle.std.specs.Prelude.{◌≡◌};
 ghost use Rattle.managed_deps.specs.Managed.{is_scope};
 ghost use Rattle.collector.specs.Edges.{scope_named, scope_of};

@@ -1,11 +1,13 @@
+//! The edges of a POM below the project: its transitive dependencies, managed and without the excluded.
+
 ghost use Rattle.std.specs.Prelude.{◌≡◌, ◌++◌, IfOk, OnOk};
 ghost use Rattle.collector.specs.Edges.{edge_below, is_kept, managed_edge, plain_edge, transitive_edge, transitive_edges};
 
 use crate::edge::{Edge, first_of, stated_edge};
 use crate::exclusions::Exclusions;
 use crate::scope::is_scope;
-use keyed_lists::Keyed;
 use managed_deps::ManagedSet;
+use model_merge::Keyed;
 use model_types::Dependency;
 use mvn_base::Key;
 use mvn_shared::{List, Mem, Shared};

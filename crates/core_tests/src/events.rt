@@ -1,8 +1,8 @@
 // Builds event by event (`event_core`).
 use build_core::Plan;
 use event_core::Core;
-use module_scripts::Outline;
 use mvn_shared::List;
+use scripts::Outline;
 use std::alloc::Global;
 use std::test::Fail;
 

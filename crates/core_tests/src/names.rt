@@ -1,10 +1,10 @@
-// Maven's names (`mvn_base`), faulty words (`cli_words`), versions (`version_order`) and locks (`name_locks`).
+// Tests of Maven's names (`mvn_base`), faulty words (`cli_words`), versions (`versions`) and locks (`build_core`).
+use build_core::{LockTable, Mode, Tried};
 use cli_words::WordKind;
 use mvn_base::{Rule, artifact_folder, phase_of, valid_group};
 use mvn_shared::Text;
-use name_locks::{LockTable, Mode, Tried};
 use std::test::Fail;
-use version_order::{Interval, Kind};
+use versions::{Interval, Kind};
 
 #[test]
 fn what_is_refused_has_its_name(rt: HostRuntime) {

@@ -8,19 +8,19 @@ use Rattle.mvn_outside.specs.declared.shelf.ShelfTold.{ShelfTold}
 use Rattle.build_core.specs.declared.event.Event.{Event}
 use Rattle.build_core.specs.declared.plan.Plan.{Plan}
 use Rattle.event_core.specs.declared.entry.RunEntry.{RunEntry}
-use Rattle.module_scripts.specs.Outlines.{outline_of}
+use Rattle.scripts.specs.Outlines.{outline_of}
 use Rattle.event_core.specs.Runs.{IsComplete, IsQuiet, IsRunOf, answers_in, events_of}
 use Rattle.run_law.proofs.Complete.{complete_is_all}
 use Rattle.run_law.proofs.LaterMoments.{front}
 use Rattle.run_law.specs.Given.{states_after}
-use Rattle.worker_law.specs.Hands.{OwnFit}
+use Rattle.run_law.specs.Hands.{OwnFit}
 use Rattle.turn_lock.specs.Turns.{Begins}
 use Rattle.board.specs.Builds.{AreCaused, Build}
 use Rattle.board.specs.Logs.{AreCarried, marked, shelf_endings, told_after}
 use Rattle.board.specs.declared.board.Finished.{Finished}
 use Rattle.board.specs.declared.kept.Opened.{Opened}
-use Rattle.crew_stages.specs.Endings.{endings_of}
-use Rattle.crew_stages.specs.Hands.{HandState, IsWorked}
+use Rattle.crew_turns.specs.Endings.{endings_of}
+use Rattle.crew_turns.specs.Hands.{HandState, IsWorked}
 use Rattle.crew_turns.specs.Taken.{opened_of}
 use Rattle.crew.specs.Crews.{HasLeft, opened_by, start_of}
 use Rattle.crew.specs.Whole.{IsBuilt, IsWorkedBy}

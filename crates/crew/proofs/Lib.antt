@@ -1,3 +1,8 @@
+pub mod Behind
+pub mod Counts
+pub mod Names
+pub mod Sides
+pub mod Sums
 pub mod Closing
 pub mod Rests
 pub mod Sharing

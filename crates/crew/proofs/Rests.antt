@@ -14,13 +14,13 @@ use Rattle.turn_lock.specs.Passes.{lock_of, with_view}
 use Rattle.turn_lock.specs.Turns.{Begins, entries_of, first_view, half, joined, left_of, longer, right_of}
 use Rattle.board.specs.Logs.{role}
 use Rattle.board.specs.declared.kept.Opened.{Opened}
-use Rattle.worker_law.proofs.Fitting as fitting
-use Rattle.worker_law.proofs.Staying.{course_stays}
-use Rattle.worker_law.specs.Hands.{OwnFit}
-use Rattle.worker_law.specs.Others.{AreOthers}
+use Rattle.run_law.proofs.Fitting as fitting
+use Rattle.run_law.proofs.Staying.{course_stays}
+use Rattle.run_law.specs.Hands.{OwnFit}
+use Rattle.run_law.specs.Others.{AreOthers}
 use Rattle.crew_modules.proofs.Ended.{begins_all, others_end_none}
-use Rattle.crew_stages.specs.Endings.{endings_of, endings_since}
-use Rattle.crew_stages.specs.Hands.{HandState, IsWorked}
+use Rattle.crew_turns.specs.Endings.{endings_of, endings_since}
+use Rattle.crew_turns.specs.Hands.{HandState, IsWorked}
 use Rattle.crew_turns.proofs.Logs.{behind}
 use Rattle.crew_turns.specs.Seen.{FitsHand, Follows, IsOf, Told, seen_by, start_by, view}
 use Rattle.crew.specs.Crews.{HasLeft, IsDone, IsReady}

@@ -5,7 +5,7 @@ use denote.Param.Send.{IsSync, sendable}
 use denote.Param.SendFields.{declared_sync}
 use Rattle.std.proofs.Crossing
 use Rattle.std.proofs.alloc.Global.TheSendSync as heap
-use Rattle.plan_sharing.proofs.Sharing.{plan_sync}
+use Rattle.build_core.proofs.Sharing.{plan_sync}
 use Rattle.crew.specs.contracts.halves.Crew as crew
 
 -- the plan, the repository as it was, and the allocator

@@ -6,12 +6,12 @@ use Rattle.build_core.specs.declared.plan.Plan.{Plan}
 use Rattle.event_core.specs.Runs.{module_by}
 use Rattle.event_core.specs.Standing.{module_of}
 use Rattle.atomic_table.specs.Seated.{TableId}
-use Rattle.worker_law.proofs.Staying.{course_stays}
+use Rattle.run_law.proofs.Staying.{course_stays}
 use Rattle.crew_modules.proofs.Ended.{follows_all, sees_ends_none, since_more, start_ends_none}
-use Rattle.crew_stages.proofs.Counting.{since, worked_more, worked_none}
-use Rattle.crew_stages.specs.Endings.{endings_of, endings_since}
-use Rattle.crew_stages.specs.Hands.{HandState, IsWorked}
-use Rattle.crew_stages.specs.Stops.{HasEnded}
+use Rattle.crew_turns.proofs.Counting.{since, worked_more, worked_none}
+use Rattle.crew_turns.specs.Endings.{endings_of, endings_since}
+use Rattle.crew_turns.specs.Hands.{HandState, IsWorked}
+use Rattle.crew_turns.specs.Stops.{HasEnded}
 use Rattle.crew_turns.specs.Seen.{AlwaysFits, FitsHand, Follows, IsOf, KeepsFit, Sees, Told, seen_by, view}
 use Rattle.crew_turns.specs.Tasks.{ModuleTask}
 use Rattle.crew_turns.specs.Turned.{HasStarted}

@@ -3,8 +3,8 @@ use Rattle.std.specs.Prelude.{◌≡◌, ℕ, None}
 use Rattle.build_core.specs.declared.plan.Plan.{Plan}
 use Rattle.event_core.specs.Runs.{module_by}
 use Rattle.atomic_table.specs.Seated.{TableId}
-use Rattle.crew_stages.specs.Endings.{endings_since}
-use Rattle.crew_stages.specs.Hands.{HandState, IsWorked}
+use Rattle.crew_turns.specs.Endings.{endings_since}
+use Rattle.crew_turns.specs.Hands.{HandState, IsWorked}
 use Rattle.crew_turns.specs.Seen.{FitsHand, Follows, IsOf, Told, seen_by}
 
 -- a worker builds no module: its pass is what the one at its start became, its entries fit what its hand told then, and its hand was worked

@@ -12,9 +12,9 @@ use Rattle.turn_lock.specs.Resting.{IsAtRest}
 use Rattle.turn_lock.specs.Turns.{Begins, entries_of}
 use Rattle.board.specs.Logs.{role}
 use Rattle.board.specs.declared.kept.Opened.{Opened}
-use Rattle.worker_law.specs.Hands.{OwnFit}
-use Rattle.crew_stages.specs.Hands.{HandState, IsWorked}
-use Rattle.crew_stages.specs.Endings.{endings_of}
+use Rattle.run_law.specs.Hands.{OwnFit}
+use Rattle.crew_turns.specs.Hands.{HandState, IsWorked}
+use Rattle.crew_turns.specs.Endings.{endings_of}
 use Rattle.crew_turns.specs.Seen.{Told, seen_by, view}
 
 abbrev pub start_of : Opened → Option Files

@@ -1,3 +1,9 @@
+pub use Rattle.crew_turns.specs.Hands
+pub use Rattle.crew_turns.specs.Endings
+pub mod AsOne
+pub mod Counted
+pub mod CrewOutcomes
+pub mod Once
 pub mod Between
 pub mod Crews
 pub mod Whole

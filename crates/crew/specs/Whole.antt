@@ -9,9 +9,9 @@ use Rattle.build_core.specs.declared.plan.Plan.{Plan}
 use Rattle.event_core.specs.Runs.{IsComplete, IsQuiet, IsRunOf, answers_in, events_of}
 use Rattle.event_core.specs.declared.entry.RunEntry.{RunEntry}
 use Rattle.run_law.specs.Given.{states_after}
-use Rattle.worker_law.specs.Hands.{OwnFit}
-use Rattle.crew_stages.specs.Hands.{HandState, IsWorked}
-use Rattle.crew_stages.specs.Endings.{endings_of}
+use Rattle.run_law.specs.Hands.{OwnFit}
+use Rattle.crew_turns.specs.Hands.{HandState, IsWorked}
+use Rattle.crew_turns.specs.Endings.{endings_of}
 
 -- the run is complete, and what comes back is its events, its answers, its states and its publishes behind the repository's, whose count of faults didn't
 -- fall; where the repository told its files, its faults are at least as many as the modules that ended by them

@@ -8,7 +8,6 @@ ghost use Rattle.event_core.specs.declared.entry.RunEntry.{RunEntry};
 ghost use Rattle.run_law.specs.Given.{IsPresent};
 ghost use Rattle.turn_lock.specs.Passes.{lock_of};
 ghost use Rattle.turn_lock.specs.Turns.{first_view};
-ghost use Rattle.crew_stages.specs.Hands.{state_by};
 ghost use Rattle.crew_turns.specs.Seen.{seen_by, view};
 ghost use Rattle.crew.specs.Crews.{IsDone, opened_by};
 ghost use Rattle.crew.specs.Whole.{IsBuilt, IsWorkedBy};
@@ -17,6 +16,7 @@ ghost use Rattle.crew.specs.declared.build.BuildError.TheVariants.{Memory};
 use crate::halves::{Crew, run_crew};
 use board::{Board, BoardError, Finished};
 use build_core::Plan;
+use crew_turns::Worker;
 use mvn_outside::{Gate, Hand, Remote, Shelf};
 use std::alloc::Global;
 use std::snapshot::Snapshot;
@@ -93,10 +93,8 @@ where
         × IsBuilt S.told S.faults plan.now shelf run end
         × ((i : ℕ) (d : Hand R S.Area G) → i < length hands.old → IsWorkedBy plan.now
         (S.told shelf) run i
-        (state_by R.files R.faults S.Area.contents S.Area.faults S.Area.pieces G.answers G.faults
-        (slice_index_or hands.old i d))
-        (state_by R.files R.faults S.Area.contents S.Area.faults S.Area.pieces G.answers G.faults
-        (slice_index_or hands.new i d)))) }
+        (⟦<Hand<R, S::Area, G> as Worker>⟧.state (slice_index_or hands.old i d))
+        (⟦<Hand<R, S::Area, G> as Worker>⟧.state (slice_index_or hands.new i d)))) }
     ensures err { IfErr result (λ error. error ≡ Memory shelf) }
     ensures unused { OnErr result (hands.new ≡ hands.old) }
 {

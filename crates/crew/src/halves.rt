@@ -2,13 +2,13 @@
 ghost use Rattle.std.specs.Prelude.{◌+◌, ◌<◌, ◌^◌, ℕ, length, slice_index_or};
 ghost use Rattle.mvn_outside.specs.declared.hand.Hand.{Hand};
 ghost use Rattle.crew.specs.Crews.{HasLeft, IsDone, IsReady, opened_by};
-ghost use Rattle.crew_stages.specs.Hands.{state_by};
 ghost use Rattle.crew_turns.specs.Seen.{seen_by};
 
 use crate::worker::work_on;
+use crate::{Team, run};
 use board::Board;
 use build_core::Plan;
-use divide::{Team, run};
+use crew_turns::Worker;
 use mvn_outside::{Gate, Hand, Remote, Shelf};
 use std::alloc::Global;
 use std::snapshot::Snapshot;
@@ -30,14 +30,13 @@ impl<'a, S: Shelf, R: Remote, G: Gate> Team<
     Pass<Board<'a, S>>,
 > for Crew<'a, S> {
     ghost use Rattle.crew.specs.Crews.{HasLeft, IsDone, IsReady, opened_by};
-    ghost use Rattle.crew_stages.specs.Hands.{state_by};
     ghost use Rattle.crew_turns.specs.Seen.{seen_by};
 
     ghost ready = { λ crew lock first count pass. IsReady (opened_by S.told S.faults crew.plan.now crew.opening.value) lock first count pass };
 
     ghost done = { λ crew lock first count pass. IsDone (opened_by S.told S.faults crew.plan.now crew.opening.value) lock first count pass };
 
-    ghost leaves = { λ crew pass k before now. HasLeft (opened_by S.told S.faults crew.plan.now crew.opening.value) k (state_by R.files R.faults S.Area.contents S.Area.faults S.Area.pieces G.answers G.faults before) (state_by R.files R.faults S.Area.contents S.Area.faults S.Area.pieces G.answers G.faults now) (seen_by pass) };
+    ghost leaves = { λ crew pass k before now. HasLeft (opened_by S.told S.faults crew.plan.now crew.opening.value) k (⟦<Hand<R, S::Area, G> as Worker>⟧.state before) (⟦<Hand<R, S::Area, G> as Worker>⟧.state now) (seen_by pass) };
 
     fn work<W: Wait>(
         &self,
@@ -99,10 +98,8 @@ where
         lock.now first (length hands.old) result }
     ensures hands { (i : ℕ) (d : Hand R S.Area G) → i < length hands.old
         → HasLeft (opened_by S.told S.faults crew.now.plan.now crew.now.opening.value) (first + i)
-        (state_by R.files R.faults S.Area.contents S.Area.faults S.Area.pieces G.answers G.faults
-        (slice_index_or hands.old i d))
-        (state_by R.files R.faults S.Area.contents S.Area.faults S.Area.pieces G.answers G.faults
-        (slice_index_or hands.new i d)) (seen_by result) }
+        (⟦<Hand<R, S::Area, G> as Worker>⟧.state (slice_index_or hands.old i d))
+        (⟦<Hand<R, S::Area, G> as Worker>⟧.state (slice_index_or hands.new i d)) (seen_by result) }
 {
     let mut pass = pass;
     run(rt, crew, lock, first, hands, &mut pass);

@@ -1,15 +1,15 @@
-// One worker's work.
+// One worker's work, until all modules of the plan are over.
 ghost use Rattle.std.specs.Prelude.{◌≡◌, ◌<◌, ◌^◌, None, true};
 ghost use Rattle.event_core.specs.Runs.{IsComplete, module_by};
-ghost use Rattle.crew_stages.specs.Hands.{HandState, IsWorked, state_by};
-ghost use Rattle.crew_stages.specs.Endings.{endings_since};
+ghost use Rattle.crew_turns.specs.Hands.{HandState, IsWorked};
+ghost use Rattle.crew_turns.specs.Endings.{endings_since};
 ghost use Rattle.crew_turns.specs.Seen.{FitsHand, Follows, IsOf, Told, seen_by, view};
 ghost use Rattle.crew.specs.Between.{IsBetween};
 
 use board::Board;
 use build_core::Plan;
 use crew_modules::build_module;
-use crew_turns::{Assigned, next_task};
+use crew_turns::{Assigned, Worker, next_task};
 use mvn_outside::{Gate, Hand, Remote, Shelf};
 use std::alloc::Global;
 use std::sync::Wait;
@@ -30,11 +30,9 @@ fn go_on<'b, W: Wait, S: Shelf, R: Remote, G: Gate>(
     requires idle { module_by plan.now (seen_by pass.old) worker ≡ None }
     ensures between { (start : Told) (first : HandState)
         → IsBetween plan.now lock.now worker start pass.old first
-        (state_by R.files R.faults S.Area.contents S.Area.faults S.Area.pieces G.answers G.faults
-        hand.old)
+        (⟦<Hand<R, S::Area, G> as Worker>⟧.state hand.old)
         → IsBetween plan.now lock.now worker start pass.new first
-        (state_by R.files R.faults S.Area.contents S.Area.faults S.Area.pieces G.answers G.faults
-        hand.new) }
+        (⟦<Hand<R, S::Area, G> as Worker>⟧.state hand.new) }
     ensures done { result ≡ true → IsComplete plan.now (seen_by pass.new) }
 {
     match next_task(rt, lock, pass, plan, worker) {
@@ -69,20 +67,17 @@ pub fn work_on<'b, W: Wait, S: Shelf, R: Remote, G: Gate>(
     requires of { IsOf plan.now lock.now worker pass.old }
     requires clear { (view pass.old).owed ≡ None }
     requires own { FitsHand plan.now worker
-        (state_by R.files R.faults S.Area.contents S.Area.faults S.Area.pieces G.answers G.faults
-        hand.old).told pass.old }
+        (⟦<Hand<R, S::Area, G> as Worker>⟧.state hand.old).told pass.old }
     ensures of { IsOf plan.now lock.now worker pass.new }
     ensures clear { (view pass.new).owed ≡ None }
     ensures follows { Follows pass.old pass.new }
     ensures complete { IsComplete plan.now (seen_by pass.new) }
     ensures own { FitsHand plan.now worker
-        (state_by R.files R.faults S.Area.contents S.Area.faults S.Area.pieces G.answers G.faults
-        hand.old).told pass.new }
+        (⟦<Hand<R, S::Area, G> as Worker>⟧.state hand.old).told pass.new }
     ensures worked { IsWorked
-        (state_by R.files R.faults S.Area.contents S.Area.faults S.Area.pieces G.answers G.faults
-        hand.old)
-        (state_by R.files R.faults S.Area.contents S.Area.faults S.Area.pieces G.answers G.faults
-        hand.new) (endings_since worker (seen_by pass.old) (seen_by pass.new)) }
+        (⟦<Hand<R, S::Area, G> as Worker>⟧.state hand.old)
+        (⟦<Hand<R, S::Area, G> as Worker>⟧.state hand.new)
+        (endings_since worker (seen_by pass.old) (seen_by pass.new)) }
 {
     for _ in rt.forever() {
         if go_on(rt, alloc, lock, plan, hand, worker, pass) {

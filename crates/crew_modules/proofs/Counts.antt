@@ -9,9 +9,9 @@ use Rattle.build_core.specs.declared.ending.Device.{Device}
 use Rattle.build_core.specs.declared.ending.Device.TheVariants as device
 use Rattle.build_core.specs.declared.ending.Ending.{Ending}
 use Rattle.build_core.specs.declared.ending.Ending.TheVariants as ending
-use Rattle.module_scripts.proofs.Climbs.{both}
-use Rattle.crew_stages.specs.Endings.{faults_of, is_fault_of, is_gather_end, is_goal_end, is_install_end, is_quiet_end}
-use Rattle.crew_stages.specs.Hands.{HandState, IsAreaLeft, IsCounted, IsFetchedBy, IsWorked, Test, state_by}
+use Rattle.scripts.proofs.Climbs.{both}
+use Rattle.crew_turns.specs.Endings.{faults_of, is_fault_of, is_gather_end, is_goal_end, is_install_end, is_quiet_end}
+use Rattle.crew_turns.specs.Hands.{HandState, IsAreaLeft, IsCounted, IsFetchedBy, IsWorked, Test, state_by}
 use Rattle.crew_turns.specs.Ends.{ends_as}
 
 -- ---- one device

@@ -10,16 +10,16 @@ use Rattle.build_core.specs.declared.event.Event.TheVariants as event
 use Rattle.build_core.specs.declared.plan.Plan.{Plan}
 use Rattle.event_core.specs.declared.entry.RunEntry.{RunEntry}
 use Rattle.event_core.specs.Runs.{IsRunOf, module_by}
-use Rattle.module_scripts.proofs.Climbs.{both}
+use Rattle.scripts.proofs.Climbs.{both}
 use Rattle.event_core.proofs.Fits.{fold_more}
 use Rattle.atomic_table.specs.Seated.{TableId}
 use Rattle.turn_lock.specs.Turns.{Begins, is_of, open_of, opened_by}
 use Rattle.board.specs.Logs.{role}
-use Rattle.worker_law.specs.Others.{AreOthers}
-use Rattle.worker_law.specs.Others as others
-use Rattle.crew_stages.proofs.Counting.{endings_append}
-use Rattle.crew_stages.specs.Endings.{ending_of, endings_of, endings_since}
-use Rattle.crew_stages.specs.Stops.{HasEnded}
+use Rattle.run_law.specs.Others.{AreOthers}
+use Rattle.run_law.specs.Others as others
+use Rattle.crew_turns.proofs.Counting.{endings_append}
+use Rattle.crew_turns.specs.Endings.{ending_of, endings_of, endings_since}
+use Rattle.crew_turns.specs.Stops.{HasEnded}
 use Rattle.crew_turns.proofs.Opening.{open_is}
 use Rattle.crew_turns.proofs.Taken.{itself}
 use Rattle.crew_turns.specs.Seen.{Follows, IsOf, Sees, Steps, Told, seen_by}

@@ -7,32 +7,32 @@ use Rattle.mvn_outside.specs.Shelf.{files_now}
 use Rattle.board.specs.declared.kept.Opened.{Opened}
 use Rattle.mvn_shared.specs.Files.{Files}
 use Rattle.goal_types.specs.declared.goal.PathEntry.{PathEntry}
-use Rattle.name_locks.specs.Locks.{below}
-use Rattle.name_locks.specs.declared.mode.Mode.TheVariants.{Exclusive}
+use Rattle.build_core.specs.Locks.{below}
+use Rattle.build_core.specs.declared.mode.Mode.TheVariants.{Exclusive}
 use Rattle.build_core.specs.OneThread.{path_entry}
 use Rattle.event_core.specs.declared.entry.RunEntry.{RunEntry}
-use Rattle.module_scripts.specs.declared.outline.ModuleOutline.{ModuleOutline}
-use Rattle.module_scripts.specs.declared.outline.Outline.{Outline}
-use Rattle.module_scripts.specs.declared.script_place.ScriptPlace.TheVariants as place
-use Rattle.module_scripts.specs.Outlines.{files_read, is_empty}
+use Rattle.scripts.specs.declared.outline.ModuleOutline.{ModuleOutline}
+use Rattle.scripts.specs.declared.outline.Outline.{Outline}
+use Rattle.scripts.specs.declared.script_place.ScriptPlace.TheVariants as place
+use Rattle.scripts.specs.Outlines.{files_read, is_empty}
 use Rattle.event_core.specs.Runs.{IsRunOf, contents, module_by, outputs_in, standing_of_run}
-use Rattle.module_scripts.specs.ScriptPlaces.{rest_of}
-use Rattle.module_scripts.specs.Scripts.{answer_script, answers, answers_left, frees, install_script, is_there, reads, release_script, settled, step, steps, takes, own_script, whole}
+use Rattle.scripts.specs.ScriptPlaces.{rest_of}
+use Rattle.scripts.specs.Scripts.{answer_script, answers, answers_left, frees, install_script, is_there, reads, release_script, settled, step, steps, takes, own_script, whole}
 use Rattle.event_core.specs.Standing.{after_free, module_of, on_course}
 use Rattle.event_core.specs.Worlds.{IsWithin, is_good, stood}
-use Rattle.module_scripts.proofs.Climbs.{both}
+use Rattle.scripts.proofs.Climbs.{both}
 use Rattle.run_law.proofs.Basics.{and_is}
-use Rattle.worker_law.proofs.Staying.{entries_stay, file_stays}
-use Rattle.worker_law.specs.Others.{HasAll}
+use Rattle.run_law.proofs.Staying.{entries_stay, file_stays}
+use Rattle.run_law.specs.Others.{HasAll}
 use Rattle.atomic_table.specs.Seated.{TableId}
-use Rattle.crew_laws.proofs.Answering.{begun}
-use Rattle.crew_laws.proofs.Ending.{within}
-use Rattle.crew_laws.proofs.Orders.{read_left}
-use Rattle.crew_laws.proofs.Settling.{late}
-use Rattle.crew_paths.specs.Parts.{IsPart}
-use Rattle.crew_stages.specs.Paths.{IsPath}
-use Rattle.crew_stages.specs.Stages.{HasAnswered, IsReading}
-use Rattle.crew_stages.specs.Stops.{freed_course}
+use Rattle.run_law.proofs.Answering.{begun}
+use Rattle.run_law.proofs.Ending.{within}
+use Rattle.run_law.proofs.Orders.{read_left}
+use Rattle.run_law.proofs.Settling.{late}
+use Rattle.crew_turns.specs.Parts.{IsPart}
+use Rattle.crew_turns.specs.Paths.{IsPath}
+use Rattle.crew_turns.specs.Stages.{HasAnswered, IsReading}
+use Rattle.crew_turns.specs.Stops.{freed_course}
 use Rattle.crew_turns.specs.Seen.{Follows, IsOf, Told, course_by, names_by, seen_by, start_by, there_by}
 use Rattle.crew_turns.specs.Tasks.{IsTask, ModuleTask, plan_outline, stood_by, unit_outline}
 

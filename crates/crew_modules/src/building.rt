@@ -1,20 +1,16 @@
-// A module from its start to its end.
+// Builds a module from its start to its end.
 ghost use Rattle.std.specs.Prelude.{◌≡◌, ◌<◌, ◌^◌, [], ◌∷◌, None, length};
-ghost use Rattle.crew_stages.specs.Hands.{IsWorked, state_by};
-ghost use Rattle.crew_stages.specs.Paths.{IsPath};
-ghost use Rattle.crew_stages.specs.Stages.{HasAnswered, IsReading};
-ghost use Rattle.crew_stages.specs.Stops.{HasEnded};
+ghost use Rattle.crew_turns.specs.Hands.{IsWorked};
+ghost use Rattle.crew_turns.specs.Paths.{IsPath};
+ghost use Rattle.crew_turns.specs.Stages.{HasAnswered, IsReading};
+ghost use Rattle.crew_turns.specs.Stops.{HasEnded};
 ghost use Rattle.crew_turns.specs.Seen.{IsOf, KeepsFit};
 ghost use Rattle.crew_turns.specs.Tasks.{HasBegun};
 
+use crate::{answer_goals, building_ends_none, end_holding, free_all, gather, install, make_ready};
 use board::Board;
 use build_core::Ending;
-use crew_batches::{building_ends_none, end_holding, free_all};
-use crew_files::make_ready;
-use crew_goals::answer_goals;
-use crew_installing::install;
-use crew_reading::gather;
-use crew_turns::{Task, end_module};
+use crew_turns::{Task, Worker, end_module};
 use goal_types::PathEntry;
 use mvn_outside::{Gate, Hand, Remote, Shelf};
 use std::alloc::Global;
@@ -38,13 +34,10 @@ fn build_gathered<'b, W: Wait, S: Shelf, R: Remote, G: Gate>(
     requires beside { length paths.now ≡ length task.now.unit.entries }
     ensures ended { HasEnded task.now lock.now result pass.old pass.new }
     ensures fits { KeepsFit task.now.plan task.now.worker
-        (state_by R.files R.faults S.Area.contents S.Area.faults S.Area.pieces G.answers G.faults
-        hand.old).told pass.old pass.new }
+        (⟦<Hand<R, S::Area, G> as Worker>⟧.state hand.old).told pass.old pass.new }
     ensures worked { IsWorked
-        (state_by R.files R.faults S.Area.contents S.Area.faults S.Area.pieces G.answers G.faults
-        hand.old)
-        (state_by R.files R.faults S.Area.contents S.Area.faults S.Area.pieces G.answers G.faults
-        hand.new) (result ∷ []) }
+        (⟦<Hand<R, S::Area, G> as Worker>⟧.state hand.old)
+        (⟦<Hand<R, S::Area, G> as Worker>⟧.state hand.new) (result ∷ []) }
 {
     building_ends_none();
     match answer_goals(alloc, rt, lock, pass, task, &mut hand.gate, paths) {
@@ -67,13 +60,10 @@ fn build_ready<'b, W: Wait, S: Shelf, R: Remote, G: Gate>(
     requires at { IsReading task.now 0 pass.old }
     ensures ended { HasEnded task.now lock.now result pass.old pass.new }
     ensures fits { KeepsFit task.now.plan task.now.worker
-        (state_by R.files R.faults S.Area.contents S.Area.faults S.Area.pieces G.answers G.faults
-        hand.old).told pass.old pass.new }
+        (⟦<Hand<R, S::Area, G> as Worker>⟧.state hand.old).told pass.old pass.new }
     ensures worked { IsWorked
-        (state_by R.files R.faults S.Area.contents S.Area.faults S.Area.pieces G.answers G.faults
-        hand.old)
-        (state_by R.files R.faults S.Area.contents S.Area.faults S.Area.pieces G.answers G.faults
-        hand.new) (result ∷ []) }
+        (⟦<Hand<R, S::Area, G> as Worker>⟧.state hand.old)
+        (⟦<Hand<R, S::Area, G> as Worker>⟧.state hand.new) (result ∷ []) }
 {
     building_ends_none();
     let batch = task.unit.batch.as_slice();
@@ -102,13 +92,10 @@ pub fn build_module<'b, W: Wait, S: Shelf, R: Remote, G: Gate>(
     requires begun { HasBegun task.now pass.old }
     ensures ended { HasEnded task.now lock.now result pass.old pass.new }
     ensures fits { KeepsFit task.now.plan task.now.worker
-        (state_by R.files R.faults S.Area.contents S.Area.faults S.Area.pieces G.answers G.faults
-        hand.old).told pass.old pass.new }
+        (⟦<Hand<R, S::Area, G> as Worker>⟧.state hand.old).told pass.old pass.new }
     ensures worked { IsWorked
-        (state_by R.files R.faults S.Area.contents S.Area.faults S.Area.pieces G.answers G.faults
-        hand.old)
-        (state_by R.files R.faults S.Area.contents S.Area.faults S.Area.pieces G.answers G.faults
-        hand.new) (result ∷ []) }
+        (⟦<Hand<R, S::Area, G> as Worker>⟧.state hand.old)
+        (⟦<Hand<R, S::Area, G> as Worker>⟧.state hand.new) (result ∷ []) }
 {
     building_ends_none();
     match make_ready(rt, lock, pass, task, &mut hand.remote, &mut hand.area) {

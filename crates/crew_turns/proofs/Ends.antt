@@ -2,7 +2,7 @@
 use Rattle.std.proofs.Common.{◌≡◌, ℕ, Bool, true, false, nat_eq, nat_lt, List, [], ◌++◌, slice_get, Option, Some, IfSome, refl, sym, ap, subst, ◌∙◌}
 use Rattle.std.proofs.lemmas.Bool.{eqb-true, false≢true}
 use Rattle.mvn_shared.specs.Files.{Files}
-use Rattle.name_locks.specs.declared.mode.Mode.TheVariants.{Shared, Exclusive}
+use Rattle.build_core.specs.declared.mode.Mode.TheVariants.{Shared, Exclusive}
 use Rattle.build_core.specs.declared.ending.Device.TheVariants as device
 use Rattle.build_core.specs.declared.ending.Ending.{Ending}
 use Rattle.build_core.specs.declared.ending.Ending.TheVariants as ending
@@ -11,21 +11,21 @@ use Rattle.build_core.specs.declared.plan.Plan.{Plan}
 use Rattle.build_core.specs.declared.plan.PlanModule.{PlanModule}
 use Rattle.event_core.specs.declared.entry.Carried.TheVariants as carried
 use Rattle.event_core.specs.declared.entry.RunEntry.{RunEntry}
-use Rattle.module_scripts.specs.declared.outline.Outline.{Outline}
+use Rattle.scripts.specs.declared.outline.Outline.{Outline}
 use Rattle.event_core.specs.Enabled.{Enabled, IsEnabled, ending_in_range, may_end_so, needs_artifact}
-use Rattle.module_scripts.specs.Outlines.{outline_of}
+use Rattle.scripts.specs.Outlines.{outline_of}
 use Rattle.event_core.specs.Runs.{IsRunOf, is_quiet_event, module_by, standing_of_run}
-use Rattle.module_scripts.specs.Scripts.{Script, absent, answers, answers_left, fetches, frees, is_to_install, may_publish, publishes, reads, stage_of, step, takes, whole}
+use Rattle.scripts.specs.Scripts.{Script, absent, answers, answers_left, fetches, frees, is_to_install, may_publish, publishes, reads, stage_of, step, takes, whole}
 use Rattle.event_core.specs.SoundPlans.{IsSoundPlan}
 use Rattle.event_core.specs.Standing.{Course, course_of, goals_of, held_by, idle, module_of, off_course, on_course}
 use Rattle.event_core.specs.Worlds.{Fits, FitsEnd, HandTold, has_failed_at, is_told, is_told_by, is_too_large_at, stood}
-use Rattle.module_scripts.proofs.Climbs.{both}
+use Rattle.scripts.proofs.Climbs.{both}
 use Rattle.event_core.proofs.Ties.{some_same}
 use Rattle.run_law.proofs.LaterMoments.{front}
-use Rattle.worker_law.specs.Others.{AreOthers, HasAll}
-use Rattle.worker_law.proofs.Staying.{course_stays, gathered, goals_stay, held_stays}
-use Rattle.crew_laws.proofs.Ending.{ends}
-use Rattle.crew_laws.proofs.Leaving.{left_all}
+use Rattle.run_law.specs.Others.{AreOthers, HasAll}
+use Rattle.run_law.proofs.Staying.{course_stays, gathered, goals_stay, held_stays}
+use Rattle.run_law.proofs.Ending.{ends}
+use Rattle.run_law.proofs.Leaving.{left_all}
 use Rattle.atomic_table.specs.Seated.{TableId}
 use Rattle.board.specs.Builds.{Build, MayCome}
 use Rattle.board.specs.Logs.{is_shelf_end}

@@ -1,9 +1,9 @@
 -- The first of some files that isn't there, one place after another.
 use Rattle.std.proofs.Common.{◌≡◌, ℕ, zero, suc, ◌-◌, ◌<◌, ◌≤◌, Bool, true, false, List, [], ◌∷◌, length, drop, take, Option, Some, None, refl, arith, sym, subst}
 use Rattle.std.specs.List.{list_all, slice_index_or}
-use Rattle.module_scripts.specs.Scripts.{is_there}
+use Rattle.scripts.specs.Scripts.{is_there}
 use Rattle.run_law.proofs.Basics.{and_is}
-use Rattle.crew_laws.specs.Absent.{IsFirstAbsent}
+use Rattle.run_law.specs.Absent.{IsFirstAbsent}
 
 module _ (there : List Bool) where
   -- a file more in front that is there

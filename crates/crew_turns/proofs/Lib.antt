@@ -1,3 +1,14 @@
+pub mod Counting
+pub mod Keeping
+pub mod Owns
+pub mod Publishing
+pub mod Readings
+pub mod Results
+pub mod Askings
+pub mod Beginnings
+pub mod PathFirsts
+pub mod Needs
+pub mod Places
 pub mod Ends
 pub mod Firsts
 pub mod Logs

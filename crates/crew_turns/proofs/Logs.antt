@@ -6,11 +6,11 @@ use Rattle.build_core.specs.declared.event.Event.{Event}
 use Rattle.build_core.specs.declared.event.Event.TheVariants as event
 use Rattle.event_core.specs.declared.entry.RunEntry.{RunEntry}
 use Rattle.run_law.proofs.Basics.{and_is}
-use Rattle.run_law.proofs.Gathering.{not_nil}
+use Rattle.run_law.proofs.RunGathering.{not_nil}
 use Rattle.turn_lock.specs.Turns.{entries_of}
 use Rattle.turn_lock.specs.Turns as turns
 use Rattle.board.specs.Logs.{role, role_of}
-use Rattle.worker_law.specs.Others.{AreOthers, is_of}
+use Rattle.run_law.specs.Others.{AreOthers, is_of}
 
 -- both name the same worker of an event
 pub same_worker : (k : ℕ) (e : Event) → turns.is_of k (role_of e) ≡ is_of k e

@@ -6,25 +6,25 @@ use Rattle.std.proofs.lemmas.Bool.{false≢true}
 use Rattle.std.proofs.lemmas.List.{append_assoc, get_or-set_same}
 use Rattle.std.proofs.lemmas.List.Folds.{list_all-append}
 use Rattle.mvn_outside.specs.declared.shelf.ShelfTold.{ShelfTold}
-use Rattle.name_locks.specs.Locks.{below}
+use Rattle.build_core.specs.Locks.{below}
 use Rattle.build_core.specs.declared.event.Event.TheVariants as event
 use Rattle.build_core.specs.declared.plan.Plan.{Plan}
 use Rattle.event_core.specs.declared.entry.Carried.TheVariants as carried
 use Rattle.event_core.specs.declared.entry.RunEntry.{RunEntry}
-use Rattle.module_scripts.specs.declared.outline.Outline.{Outline}
+use Rattle.scripts.specs.declared.outline.Outline.{Outline}
 use Rattle.event_core.specs.Enabled.{Enabled}
-use Rattle.module_scripts.specs.Outlines.{is_empty, module_outline, outline_of}
+use Rattle.scripts.specs.Outlines.{is_empty, module_outline, outline_of}
 use Rattle.event_core.specs.Runs.{IsComplete, IsRunOf, events_of, module_by, standing_of_run}
-use Rattle.module_scripts.specs.Scripts.{script_of, settled, whole}
-use Rattle.module_progress.specs.HowFar.{is_ready, is_skippable}
+use Rattle.scripts.specs.Scripts.{script_of, settled, whole}
+use Rattle.event_core.specs.HowFar.{is_ready, is_skippable}
 use Rattle.event_core.specs.Standing.{Course, Standing, after, course_of, held_by, idle, is_complete, module_of, on_course, start_of}
 use Rattle.event_core.specs.Worlds.{Fits, HandTold, is_told, is_told_by}
 use Rattle.run_law.proofs.Basics.{and_is}
 use Rattle.run_law.proofs.Complete.{IsStanding, standing}
 use Rattle.run_law.proofs.LaterMoments.{front, next_is}
 use Rattle.run_law.proofs.Stored.{get_map, length_map}
-use Rattle.worker_law.specs.Others.{is_of}
-use Rattle.worker_law.proofs.Staying.{course_stays}
+use Rattle.run_law.specs.Others.{is_of}
+use Rattle.run_law.proofs.Staying.{course_stays}
 use Rattle.atomic_table.specs.Seated.{TableId}
 use Rattle.turn_lock.specs.Passes.{with_view}
 use Rattle.turn_lock.specs.Turns.{AddsOne, given, with_turn}

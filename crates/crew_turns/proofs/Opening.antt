@@ -6,14 +6,14 @@ use Rattle.std.proofs.lemmas.List.{append-nil, append_assoc, get_or-set_other, g
 use Rattle.build_core.specs.declared.event.Event.{Event}
 use Rattle.build_core.specs.declared.event.Event.TheVariants as event
 use Rattle.build_core.specs.declared.plan.Plan.{Plan}
-use Rattle.module_scripts.specs.declared.deed.Deed.TheVariants as deed
+use Rattle.scripts.specs.declared.deed.Deed.TheVariants as deed
 use Rattle.event_core.specs.declared.entry.RunEntry.{RunEntry}
-use Rattle.module_scripts.specs.declared.outline.Outline.{Outline}
-use Rattle.module_scripts.specs.Climbing.{but}
+use Rattle.scripts.specs.declared.outline.Outline.{Outline}
+use Rattle.scripts.specs.Climbing.{but}
 use Rattle.event_core.specs.Enabled.{Enabled, IsEnabled, IsRun}
-use Rattle.module_scripts.specs.Outlines.{is_empty, outline_of}
+use Rattle.scripts.specs.Outlines.{is_empty, outline_of}
 use Rattle.event_core.specs.Runs.{IsRunOf, events_of, module_by, standing_of_run}
-use Rattle.module_scripts.specs.Scripts.{settled}
+use Rattle.scripts.specs.Scripts.{settled}
 use Rattle.event_core.specs.Standing.{Course, Standing, after, after_deed, after_free, course_of, held_by, idle, module_of, on_course, start_of}
 use Rattle.event_core.proofs.Fits.{fold_more}
 use Rattle.event_core.proofs.Ties.{any_idle, deed_module, free_module, turned_module}

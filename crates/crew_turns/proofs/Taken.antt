@@ -11,16 +11,16 @@ use Rattle.build_core.specs.declared.plan.Plan.{Plan}
 use Rattle.event_core.specs.declared.entry.Carried.{Carried}
 use Rattle.event_core.specs.declared.entry.Carried.TheVariants as carried
 use Rattle.event_core.specs.declared.entry.RunEntry.{RunEntry}
-use Rattle.module_scripts.specs.declared.outline.Outline.{Outline}
+use Rattle.scripts.specs.declared.outline.Outline.{Outline}
 use Rattle.event_core.specs.Enabled.{Enabled, IsEnabled, IsRun}
-use Rattle.module_scripts.specs.Outlines.{is_listed, outline_of}
+use Rattle.scripts.specs.Outlines.{is_listed, outline_of}
 use Rattle.event_core.specs.Runs.{IsRunOf, events_of, standing_of_run}
 use Rattle.event_core.specs.Standing.{Standing, held_by}
 use Rattle.event_core.specs.Worlds.{Fits, HandTold}
 use Rattle.event_core.proofs.Runs.{run_more}
 use Rattle.run_law.proofs.Complete.{IsStanding, events_more, standing}
 use Rattle.run_law.proofs.Ready.{all_listed}
-use Rattle.worker_law.proofs.Staying.{held_stays}
+use Rattle.run_law.proofs.Staying.{held_stays}
 use Rattle.atomic_table.specs.Seated.{TableId}
 use Rattle.turn_lock.specs.Passes.{with_view}
 use Rattle.turn_lock.specs.Turns.{AddsOne, IsKnown, MayAdd, given, with_turn}

@@ -2,24 +2,24 @@
 use Rattle.std.proofs.Common.{◌≡◌, inl, inr, ℕ, Bool, true, false, nat_eq, nat_lt, List, ◌++◌, slice_get, Option, Some, IfSome, refl, sym, ap, subst, ◌∙◌}
 use Rattle.std.proofs.lemmas.Bool.{eqb-true, false≢true}
 use Rattle.mvn_outside.specs.declared.shelf.ShelfTold.{ShelfTold}
-use Rattle.name_locks.specs.declared.mode.Mode.{Mode}
-use Rattle.name_locks.specs.declared.table.Tried.{Tried}
-use Rattle.name_locks.specs.declared.table.Tried.TheVariants as tried
+use Rattle.build_core.specs.declared.mode.Mode.{Mode}
+use Rattle.build_core.specs.declared.table.Tried.{Tried}
+use Rattle.build_core.specs.declared.table.Tried.TheVariants as tried
 use Rattle.build_core.specs.declared.event.Event.TheVariants as event
 use Rattle.build_core.specs.declared.plan.Plan.{Plan}
 use Rattle.build_core.specs.declared.plan.PlanModule.{PlanModule}
-use Rattle.module_scripts.specs.declared.deed.Deed.{Deed}
+use Rattle.scripts.specs.declared.deed.Deed.{Deed}
 use Rattle.event_core.specs.declared.entry.Carried.TheVariants as carried
 use Rattle.event_core.specs.declared.entry.RunEntry.{RunEntry}
 use Rattle.event_core.specs.Causes.{stage_at}
 use Rattle.event_core.specs.Enabled.{is_due}
 use Rattle.event_core.specs.Runs.{IsRunOf, module_by, standing_of_run}
-use Rattle.module_scripts.specs.Scripts.{stage_of}
+use Rattle.scripts.specs.Scripts.{stage_of}
 use Rattle.event_core.specs.Standing.{Course, course_of, idle, module_of, off_course, on_course}
 use Rattle.event_core.specs.Worlds.{Fits, FitsTake, HandTold, is_told, is_told_by, stood}
-use Rattle.worker_law.proofs.Staying.{course_stays}
-use Rattle.crew_laws.proofs.Ending.{installable}
-use Rattle.crew_laws.specs.Absent.{IsFirstAbsent}
+use Rattle.run_law.proofs.Staying.{course_stays}
+use Rattle.run_law.proofs.Ending.{installable}
+use Rattle.run_law.specs.Absent.{IsFirstAbsent}
 use Rattle.atomic_table.specs.Seated.{TableId}
 use Rattle.turn_lock.specs.Passes.{with_view}
 use Rattle.turn_lock.specs.Turns.{AddsOne, given, with_turn}

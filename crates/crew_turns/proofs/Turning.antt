@@ -14,8 +14,8 @@ use Rattle.atomic_table.specs.Seated.{TableId}
 use Rattle.turn_lock.specs.Turns.{Begins, IsKnown, given, with_turn}
 use Rattle.board.specs.declared.kept.Opened.{Opened}
 use Rattle.board.specs.Logs.{role}
-use Rattle.worker_law.specs.Hands.{OwnFit}
-use Rattle.worker_law.proofs.Fitting as fitting
+use Rattle.run_law.specs.Hands.{OwnFit}
+use Rattle.run_law.proofs.Fitting as fitting
 use Rattle.crew_turns.specs.Came.{HasCome, given_back}
 use Rattle.crew_turns.specs.Seen.{FitsHand, Follows, IsOf, Sees, Steps, Told, seen_by, start_by, view}
 use Rattle.crew_turns.proofs.Logs.{behind}

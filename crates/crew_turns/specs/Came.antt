@@ -4,7 +4,7 @@ use Rattle.event_core.specs.declared.entry.RunEntry.{RunEntry}
 use Rattle.turn_lock.specs.Passes.{with_view}
 use Rattle.turn_lock.specs.Turns.{given, with_turn}
 use Rattle.board.specs.Logs.{role}
-use Rattle.worker_law.specs.Others.{AreOthers}
+use Rattle.run_law.specs.Others.{AreOthers}
 use Rattle.crew_turns.specs.Seen.{Told, seen_by, view}
 
 -- others' entries came since a pass looked last

@@ -1,3 +1,14 @@
+pub mod Asked
+pub mod Endings
+pub mod Hands
+pub mod Paths
+pub mod Pieces
+pub mod Stages
+pub mod Stops
+pub mod Looked
+pub use Rattle.run_law.specs.Gathered
+pub mod Asking
+pub mod Parts
 pub mod Came
 pub mod Ends
 pub mod Seen

@@ -15,8 +15,8 @@ use Rattle.turn_lock.specs.Passes.{lock_of, view_of}
 use Rattle.turn_lock.specs.Turns.{Begins}
 use Rattle.turn_lock.specs.declared.view.View.{View}
 use Rattle.board.specs.declared.kept.Opened.{Opened}
-use Rattle.worker_law.specs.Hands.{OwnFit}
-use Rattle.worker_law.specs.Others.{AreOthers}
+use Rattle.run_law.specs.Hands.{OwnFit}
+use Rattle.run_law.specs.Others.{AreOthers}
 
 -- a pass over a board, as contracts see it
 abbrev pub Told : Type 0

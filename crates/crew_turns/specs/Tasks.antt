@@ -2,12 +2,12 @@
 use Rattle.std.specs.Prelude.{◌≡◌, ℕ, true, List, [], slice_get, Option, Some, None}
 use Rattle.build_core.specs.declared.plan.Plan.{Plan}
 use Rattle.build_core.specs.declared.plan.PlanModule.{PlanModule}
-use Rattle.module_scripts.specs.Outlines.{module_outline, outline_of}
-use Rattle.module_scripts.specs.Scripts.{Script, script_of, settled}
+use Rattle.scripts.specs.Outlines.{module_outline, outline_of}
+use Rattle.scripts.specs.Scripts.{Script, script_of, settled}
 use Rattle.event_core.specs.Standing.{on_course}
 use Rattle.event_core.specs.Worlds.{Stood, stood}
-use Rattle.module_scripts.specs.declared.outline.ModuleOutline.{ModuleOutline}
-use Rattle.module_scripts.specs.declared.outline.Outline.{Outline}
+use Rattle.scripts.specs.declared.outline.ModuleOutline.{ModuleOutline}
+use Rattle.scripts.specs.declared.outline.Outline.{Outline}
 use Rattle.crew_turns.specs.Seen.{Told, course_by, names_by, seen_by, start_by, there_by}
 
 -- a worker's module, of a plan

@@ -1,13 +1,13 @@
 -- What one turn of a worker leaves, by its answer. Project rule.
 use Rattle.std.specs.Prelude.{◌≡◌, ℕ, ◌<◌, Bool, true, List, [], length, Option, None}
-use Rattle.name_locks.specs.declared.mode.Mode.{Mode}
-use Rattle.name_locks.specs.declared.table.Tried.{Tried}
-use Rattle.name_locks.specs.declared.table.Tried.TheVariants.{Taken, Busy}
+use Rattle.build_core.specs.declared.mode.Mode.{Mode}
+use Rattle.build_core.specs.declared.table.Tried.{Tried}
+use Rattle.build_core.specs.declared.table.Tried.TheVariants.{Taken, Busy}
 use Rattle.build_core.specs.declared.event.Event.TheVariants as event
 use Rattle.build_core.specs.declared.plan.Plan.{Plan}
-use Rattle.module_scripts.specs.Outlines.{outline_of}
+use Rattle.scripts.specs.Outlines.{outline_of}
 use Rattle.event_core.specs.Runs.{IsComplete}
-use Rattle.module_scripts.specs.Scripts.{settled}
+use Rattle.scripts.specs.Scripts.{settled}
 use Rattle.event_core.specs.Standing.{on_course, start_of}
 use Rattle.atomic_table.specs.Seated.{TableId}
 use Rattle.board.specs.declared.next.Next.{Next}
@@ -18,7 +18,7 @@ use Rattle.crew_turns.specs.declared.turns.Assigned.{Assigned}
 use Rattle.crew_turns.specs.declared.turns.Assigned.TheVariants as assigned
 use Rattle.crew_turns.specs.declared.turns.Reached.{Reached}
 use Rattle.crew_turns.specs.declared.turns.Reached.TheVariants as reached
-use Rattle.crew_laws.specs.Absent.{IsFirstAbsent}
+use Rattle.run_law.specs.Absent.{IsFirstAbsent}
 
 -- a worker began the module of this task
 pub record HasStarted (plan : Plan) (lock : TableId) (worker : ℕ) (t : ModuleTask) (before pass : Told) : Type 0 where

@@ -1,7 +1,7 @@
 // Looks at the board while a worker has the turn.
 ghost use Rattle.std.specs.Prelude.{◌≡◌};
 ghost use Rattle.board.specs.Builds.{standing_at};
-ghost use Rattle.crew_laws.specs.Absent.{IsFirstAbsent};
+ghost use Rattle.run_law.specs.Absent.{IsFirstAbsent};
 
 use board::Board;
 use mvn_outside::Shelf;

@@ -1,4 +1,4 @@
-// What a worker builds.
+// The module that a worker builds, with its plan.
 use build_core::{Plan, PlanModule};
 use std::marker::Model;
 

@@ -1,4 +1,4 @@
-// What a turn leaves of a worker's pass.
+// The law of what a turn leaves of a worker's pass.
 ghost use Rattle.std.specs.Prelude.{◌≡◌, ℕ, List, [], ◌∷◌, ◌++◌};
 ghost use Rattle.build_core.specs.declared.event.Event.{Event};
 ghost use Rattle.build_core.specs.declared.plan.Plan.{Plan};
@@ -13,10 +13,11 @@ ghost use Rattle.board.specs.declared.kept.Opened.{Opened};
 ghost use Rattle.crew_turns.specs.Came.{HasCome, given_back};
 ghost use Rattle.crew_turns.specs.Seen.{FitsHand, IsOf, Sees, Steps, Told, start_by, view};
 
-/// A law: what a worker knows by its pass behind a turn. While the turn is out, its log is what the pass had seen with entries of other
-/// workers behind. Given back without an entry more, the pass has seen just those; with one of the worker's, those and then that one. It
-/// is still that worker's pass of that build, and what fitted the worker's hand fits it still, with an entry that fits. The module that
-/// the lock says a worker has open is the one that it builds. Does nothing. Project rule.
+/// A law: what a worker knows by its pass after a turn. While the turn is out, its log is what the pass had seen with
+/// entries of other workers after it. Given back without an entry more, the pass has seen just those; with one of the
+/// worker's, those and then that one. It is still that worker's pass of that build, and what fitted the worker's hand
+/// fits it still, with an entry that fits. The module that the lock says a worker has open is the one that it builds.
+/// Does nothing. Project rule.
 pub fn turns_leave()
     ensures opened { (plan : Plan) (log : List RunEntry) (w : ℕ) → IsRunOf plan log
         → open_of role w log ≡ module_by plan log w }

@@ -4,9 +4,9 @@ ghost use Rattle.build_core.specs.declared.event.Event.TheVariants as event;
 ghost use Rattle.build_core.specs.declared.plan.Plan.{Plan};
 ghost use Rattle.event_core.specs.Causes.{stage_at};
 ghost use Rattle.event_core.specs.Enabled.{ending_in_range, is_due, may_end_so};
-ghost use Rattle.module_scripts.specs.declared.deed.Deed.TheVariants as deed;
+ghost use Rattle.scripts.specs.declared.deed.Deed.TheVariants as deed;
 ghost use Rattle.board.specs.Builds.{standing_at};
-ghost use Rattle.module_scripts.specs.Outlines.{is_listed};
+ghost use Rattle.scripts.specs.Outlines.{is_listed};
 ghost use Rattle.event_core.specs.Runs.{module_by};
 ghost use Rattle.event_core.specs.Worlds.{FitsEnd, FitsTake, HandTold};
 ghost use Rattle.atomic_table.specs.Seated.{TableId};
@@ -21,9 +21,8 @@ ghost use Rattle.crew_turns.specs.Turned.{IsAssigned, IsIn, IsReached, IsTold, L
 use crate::looks::first_absent;
 use crate::task::Task;
 use board::{Board, Next};
-use build_core::{Device, Ending, Plan};
+use build_core::{Device, Ending, Mode, Plan, Tried};
 use mvn_outside::Shelf;
-use name_locks::{Mode, Tried};
 use std::sync::Wait;
 use turn_lock::{Pass, Turn, TurnLock};
 
@@ -75,7 +74,7 @@ fn marked_end(ending: Ending) -> Ending
     }
 }
 
-// How one ends in which it didn't.
+// How a module ends in which the repository didn't fail.
 fn unmarked_end(ending: Ending) -> Ending
     ensures { result ≡ unmarked_end ending }
 {

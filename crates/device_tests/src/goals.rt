@@ -1,7 +1,7 @@
-// Requests and outputs of goals (`goal_types`, `goal_outputs`), and a gate in memory (`outside_mem`).
+// Tests of requests and outputs of goals (`goal_types`, `board`), and of a gate in memory (`outside_mem`).
 ghost use Rattle.goal_types.specs.Goals.{HasOwnSlots};
 
-use goal_outputs::{bytes_in, with_output};
+use board::{bytes_in, with_output};
 use goal_types::{GoalAnswer, GoalCall, GoalRequest, Need, Slot, request_line};
 use mvn_base::{Gav, Phase};
 use mvn_outside::Gate;
@@ -57,7 +57,7 @@ fn line_begins(alloc: Global, request: &GoalRequest) -> Mem<bool>
     )
 }
 
-// The same of a request without names.
+// Whether the line of a request without names begins with its artifact and its classpath.
 fn request_begins(alloc: Global) -> Mem<bool> {
     let request = request(alloc);
     line_begins(alloc, &request)
@@ -77,7 +77,7 @@ fn is_done<G: Gate>(gate: &mut G, request: &GoalRequest) -> bool
     matches!(gate.call(request), Ok(GoalAnswer::Done))
 }
 
-// The same of a request without names.
+// Whether a gate answers a request without names that it is done.
 fn request_is_done<G: Gate>(alloc: Global, gate: &mut G) -> bool {
     let request = request(alloc);
     is_done(gate, &request)

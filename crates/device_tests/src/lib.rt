@@ -1,9 +1,11 @@
-//! Tests of objects in memory and over a disk, of children in memory, of goals' requests and outputs, of a project's sources and of the
-//! summary of the generated project: each public function of the crates below once, where no row of a program calls it.
+//! Tests of objects in memory and over a disk call each public function of the crates below once, where no row of a program calls it.
+//!
+//! They are tests of children in memory, of goals' requests and outputs, of a project's sources and of the summary of the generated
+//! project too.
 #![tactic(auto)]
 
 #[cfg(test)]
-mod children;
+mod child_tests;
 #[cfg(test)]
 mod disk;
 #[cfg(test)]
@@ -11,6 +13,6 @@ mod goals;
 #[cfg(test)]
 mod memory;
 #[cfg(test)]
-mod sources;
+mod source_tests;
 #[cfg(test)]
 mod summaries;

@@ -1,8 +1,7 @@
-// Objects in memory (`outside_mem`), and calls over any object (`mvn_outside`, `local_repo`).
+// Tests of objects in memory (`outside_mem`), and of calls over any object (`mvn_outside`).
 use goal_types::SourceFile;
-use local_repo::{put, settle, stage, sweep};
 use mvn_base::{FileName, Gav, file_of, valid_group, valid_name, valid_version};
-use mvn_outside::{Area, Files, Remote, Shelf, Sink, Tree, write_all};
+use mvn_outside::{Area, Files, Remote, Shelf, Sink, Tree, put, settle, stage, sweep, write_all};
 use mvn_shared::{Bytes, List, Mem, Text};
 use outside_mem::{Calls, Failures, MemArea, MemRemote, MemShelf, MemSink, MemTree, NoFailures};
 use std::alloc::Global;
@@ -83,7 +82,7 @@ fn found_name(alloc: Global) -> Mem<Option<FileName>> {
     name_of(alloc, &gav, &Text::of(String::new(alloc)))
 }
 
-// The same, or a failure.
+// The name of the file a of a:a:a, or a failure.
 fn name(alloc: Global) -> Result<FileName, Fail> {
     match found_name(alloc)? {
         Some(name) => Ok(name),

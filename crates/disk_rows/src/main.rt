@@ -1,13 +1,16 @@
-//! Rows about the objects of the system, over the folder where the program runs, each with its answer: what they do on a disk, which no
-//! clause can say. A line of standard input is a word, which says what is asked for, and fields with a space between two of them, as they
-//! stand; the answer is printed as one line. A line that begins with `#` is printed as it stands.
+//! The program `disk_rows` answers rows about the objects of the system, over the folder where it runs: what they do on a disk, which no
+//! clause can say.
+//!
+//! A line of standard input is a word, which says what is asked for, and fields with a space between two of them, as they stand; the
+//! answer is printed as one line. A line that begins with `#` is printed as it stands.
 //!
 //! - `file PATH`, `link PATH TARGET`: makes a file of five bytes, or a link, with the folders above it
 //! - `has PATH`, `list PATH`, `read PATH`: what the tree answers, with a limit of 5 bytes
-//! - `publish FOLDER BYTES`: whether the repository in the folder takes the bytes as the POM of org.demo:a:1.0; `hidden FOLDER`: as that of
-//!   org.demo:.staging:1.0
+//! - `publish FOLDER BYTES`: whether the repository in the folder takes the bytes as the POM of org.demo:a:1.0; `hidden FOLDER`: as that
+//!   of org.demo:.staging:1.0
 //! - `sweep FOLDER`, `beside FOLDER`: whether its staging folder can be swept, and whether while another holds a piece there
-//! - `fetch FOLDER x..`, `versions FOLDER`: what a remote in the folder answers of that POM, with a limit of so many bytes, and of that artifact
+//! - `fetch FOLDER x..`, `versions FOLDER`: what a remote in the folder answers of that POM, with a limit of so many bytes, and of that
+//!   artifact
 #![tactic(auto)]
 
 mod making;
@@ -16,7 +19,7 @@ mod tree;
 
 use mvn_outside::ReadFault;
 use mvn_shared::{Bytes, Mem};
-use row_values::word;
+use row_fields::word;
 use std::alloc::Global;
 use std::fs;
 

@@ -1,5 +1,5 @@
 // Rows that make what the others look at.
-use row_values::word;
+use row_fields::word;
 use std::fs;
 use std::os::unix::fs::symlink;
 

@@ -1,12 +1,10 @@
 // Rows about repositories: what is published, and what a remote gives.
 use crate::told_of_file;
-use disk_reading::RealRemote;
-use local_repo::{put, settle, stage, sweep};
 use mvn_base::{FileName, Gav, valid_group, valid_name};
-use mvn_outside::{Area, ListFault, Remote, Shelf};
+use mvn_outside::{Area, ListFault, Remote, Shelf, put, settle, stage, sweep};
 use mvn_shared::{List, Mem, Text};
-use outside_real::{RealArea, RealShelf};
-use row_values::{file_name, gav, word};
+use outside_real::{RealArea, RealRemote, RealShelf};
+use row_fields::{file_name, gav, word};
 use std::alloc::Global;
 
 // An artifact of org.demo in version 1.0.
@@ -41,7 +39,7 @@ fn takes<S: Shelf>(shelf: &mut S, area: &mut S::Area, name: &FileName, bytes: &[
     }
 }
 
-// The same of the repository in a folder, by this area.
+// Whether the repository in a folder takes the bytes under the name, staged in this area, and settles.
 fn is_taken_by<'a>(
     rt: &'a HostRuntime,
     folder: &str,
@@ -53,7 +51,7 @@ fn is_taken_by<'a>(
     Ok(takes(&mut RealShelf::new(rt, root), area, name, bytes))
 }
 
-// The same of the repository in a folder.
+// Whether the repository in a folder takes the bytes under the name, and settles.
 fn is_taken(rt: &HostRuntime, folder: &str, name: &FileName, bytes: &[u8]) -> Mem<bool> {
     let mut area = area(rt, folder, "one")?;
     is_taken_by(rt, folder, &mut area, name, bytes)
@@ -71,7 +69,7 @@ fn is_published(rt: &HostRuntime, folder: &str, artifact: &str, bytes: &str) -> 
     }
 }
 
-/// The same in words.
+/// Whether a repository takes bytes as the POM of an artifact, in words.
 pub(crate) fn publish(rt: &HostRuntime, folder: &str, artifact: &str, bytes: &str) -> Mem<String> {
     let is_published = is_published(rt, folder, artifact, bytes)?;
     answer(rt.alloc(), is_published, "published")
@@ -90,7 +88,7 @@ fn swept_if(rt: &HostRuntime, folder: &str, is_held: bool) -> Mem<String> {
     word(rt.alloc(), "a fault")
 }
 
-/// The same while another user of the folder holds a piece there.
+/// Whether a repository's first staging folder can be swept while another user of it holds a piece there.
 pub(crate) fn swept_beside(rt: &HostRuntime, folder: &str) -> Mem<String> {
     let mut other = area(rt, folder, "two")?;
     let is_held = other.begin().is_ok();
@@ -130,7 +128,7 @@ fn versions_of<R: Remote>(alloc: Global, remote: &mut R, gav: &Gav) -> Mem<Strin
     word(alloc, "no name")
 }
 
-// The same of the remote in a folder.
+// How many versions of an artifact the remote in a folder lists.
 fn versions_in(rt: &HostRuntime, folder: &str, gav: &Gav) -> Mem<String> {
     let root = Text::from_str(rt.alloc(), folder)?;
     let mut remote = RealRemote::new(rt, root);

@@ -1,9 +1,9 @@
 // Rows about the files of a tree.
 use crate::told_of_file;
-use disk_reading::RealTree;
 use mvn_outside::{Files, ListFault, Tree};
 use mvn_shared::{List, Mem, Text};
-use row_values::word;
+use outside_real::RealTree;
+use row_fields::word;
 use std::alloc::Global;
 
 fn has<T: Files>(alloc: Global, tree: &mut T, path: &Text) -> Mem<String> {

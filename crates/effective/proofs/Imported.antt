@@ -15,14 +15,14 @@ use Rattle.pom_source.specs.Refusals.{gav_refused}
 use Rattle.pom_source.specs.Worlds.{World}
 use Rattle.pom_source.specs.declared.found.Found.{Found}
 use Rattle.pom_source.specs.declared.found.Given.{Given}
-use Rattle.pom_store.specs.Lineage.{is_in, next_poms, pom_eq}
-use Rattle.pom_store.specs.Reading.{read}
+use Rattle.lineage.specs.Lineage.{is_in, next_poms, pom_eq}
+use Rattle.lineage.specs.Reading.{read}
 use Rattle.model_steps.specs.Assembly.{model_of}
-use Rattle.module_plugins.specs.Building.{built}
+use Rattle.model_steps.specs.Building.{built}
 use Rattle.model_steps.specs.Imports.{import_gav}
-use Rattle.model_validation.specs.Validation.{model_problem, unless}
-use Rattle.model_validation.specs.declared.problem.Problem.{Problem}
-use Rattle.import_store.specs.Effective.{asked, effective, ended, entry, full, import_on, imported, imports_from, managed_of, met_import, read_found, wanted, whole}
+use Rattle.model_steps.specs.Validation.{model_problem, unless}
+use Rattle.model_steps.specs.declared.problem.Problem.{Problem}
+use Rattle.effective.specs.Effective.{asked, effective, ended, entry, full, import_on, imported, imports_from, managed_of, met_import, read_found, wanted, whole}
 use Rattle.effective.specs.Imports.{AreAmong, AreImports, IsManagedAt, IsPutTogether, import_entry, no_more, own_entry}
 
 -- what gives entries under one gives the same under another

@@ -1,2 +1,9 @@
+pub mod Asking
+pub mod Knowing
+pub mod Meeting
+pub mod Replacing
+pub mod Storing
+pub mod Importing
+pub mod Standing
 pub mod Imported
 pub mod Presence

@@ -16,10 +16,10 @@ use Rattle.model_types.specs.declared.model.RawModel.{RawModel}
 use Rattle.model_types.specs.declared.plugin.Plugin.{Plugin}
 use Rattle.pom_text.specs.Answers.{Answer, answer}
 use Rattle.pom_model.specs.Raw.{raw}
-use Rattle.pom_paths.specs.Paths.{joined}
-use Rattle.profile_activation.specs.Activation.{folder_of, is_of_project}
+use Rattle.mvn_base.specs.Paths.{joined}
+use Rattle.profiles.specs.Activation.{folder_of, is_of_project}
 use Rattle.lifecycle.specs.Bindings.{bindings}
-use Rattle.interpolate.specs.Filling.{fill}
+use Rattle.interpolation.specs.Filling.{fill}
 use Rattle.managed_deps.specs.Managed.{is_import, key_of}
 use Rattle.pom_source.specs.Answers.{Built, Says, refused, ◌>>=◌}
 use Rattle.pom_source.specs.Refusals.{gav_refused, text_refused}
@@ -28,25 +28,25 @@ use Rattle.pom_source.specs.declared.fault.BuildFault.{BuildFault}
 use Rattle.pom_source.specs.declared.fault.BuildFault.TheVariants.{Refused, Absent, Source, Memory}
 use Rattle.pom_source.specs.declared.found.Found.{Found}
 use Rattle.pom_source.specs.declared.found.Given.{Given}
-use Rattle.pom_store.specs.Beside.{at_path, at_second, found_origin, of_gav, or_at, origin_from, read_at}
-use Rattle.pom_store.specs.Lineage.{above, candidate, entered, first_of, found_or, gav_of, is_in, joined_from, joined_up, known, known_at, known_of, line, lineage, next_poms, origin_of, packed, parent_from, pom_of, put_over, text_of, unless, unmet, unstated}
-use Rattle.pom_store.specs.Reading.{elements, read, read_file, with_profiles}
-use Rattle.pom_store.specs.declared.joined.Joined.{Joined}
-use Rattle.pom_store.specs.declared.origin.Origin.{Origin}
-use Rattle.pom_store.specs.declared.origin.Origin.TheVariants.{Beside, Elsewhere}
-use Rattle.pom_store.specs.declared.origin.Candidate.{Candidate}
-use Rattle.pom_store.specs.declared.origin.Candidate.TheVariants as candidates
-use Rattle.module_plugins.specs.Building.{built, built_by}
+use Rattle.lineage.specs.Beside.{at_path, at_second, found_origin, of_gav, or_at, origin_from, read_at}
+use Rattle.lineage.specs.Lineage.{above, candidate, entered, first_of, found_or, gav_of, is_in, joined_from, joined_up, known, known_at, known_of, line, lineage, next_poms, origin_of, packed, parent_from, pom_of, put_over, text_of, unless, unmet, unstated}
+use Rattle.lineage.specs.Reading.{elements, read, read_file, with_profiles}
+use Rattle.lineage.specs.declared.joined.Joined.{Joined}
+use Rattle.lineage.specs.declared.origin.Origin.{Origin}
+use Rattle.lineage.specs.declared.origin.Origin.TheVariants.{Beside, Elsewhere}
+use Rattle.lineage.specs.declared.origin.Candidate.{Candidate}
+use Rattle.lineage.specs.declared.origin.Candidate.TheVariants as candidates
+use Rattle.model_steps.specs.Building.{built, built_by}
 use Rattle.model_steps.specs.Assembly.{model_of}
 use Rattle.model_steps.specs.Folders.{basedir_in, filled, placed_in}
 use Rattle.model_steps.specs.Imports.{gav_by, import_gav}
-use Rattle.model_validation.specs.Kinds.{kind_of}
-use Rattle.model_validation.specs.Validation.{model_problem, unless as unless_refused}
-use Rattle.model_validation.specs.declared.kind.VersionKind.{VersionKind}
-use Rattle.model_validation.specs.declared.kind.VersionKind.TheVariants.{Missing, Soft, Range, Unreadable}
-use Rattle.model_validation.specs.declared.problem.Problem.{Problem}
+use Rattle.model_steps.specs.Kinds.{kind_of}
+use Rattle.model_steps.specs.Validation.{model_problem, unless as unless_refused}
+use Rattle.model_steps.specs.declared.kind.VersionKind.{VersionKind}
+use Rattle.model_steps.specs.declared.kind.VersionKind.TheVariants.{Missing, Soft, Range, Unreadable}
+use Rattle.model_steps.specs.declared.problem.Problem.{Problem}
 use Rattle.effective.specs.Absence.{IsAbsentExactly, has_pom}
-use Rattle.import_store.specs.Effective.{asked, effective, ended, entry, full, if_there, import_found, import_on, imported, imports_from, managed_of, met_import, read_found, wanted, whole}
+use Rattle.effective.specs.Effective.{asked, effective, ended, entry, full, if_there, import_found, import_on, imported, imports_from, managed_of, met_import, read_found, wanted, whole}
 
 -- anything but that a POM is absent
 abbrev Present : {A : Type 0} → Built A → Type 0

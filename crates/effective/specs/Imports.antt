@@ -11,11 +11,11 @@ use Rattle.model_types.specs.declared.model.RawModel.{RawModel}
 use Rattle.managed_deps.specs.Managed.{is_import}
 use Rattle.pom_source.specs.Worlds.{World}
 use Rattle.pom_source.specs.declared.found.Given.{Given}
-use Rattle.pom_store.specs.Lineage.{is_in}
+use Rattle.lineage.specs.Lineage.{is_in}
 use Rattle.model_steps.specs.Assembly.{model_of}
-use Rattle.module_plugins.specs.Building.{built}
+use Rattle.model_steps.specs.Building.{built}
 use Rattle.model_steps.specs.Imports.{import_gav}
-use Rattle.import_store.specs.Effective.{asked, effective, full}
+use Rattle.effective.specs.Effective.{asked, effective, full}
 
 -- whoever is among the first is among the others
 abbrev pub AreAmong : (poms others : List PomId) → Type 0

@@ -1,5 +1,10 @@
 pub use Rattle.pom_source.specs.Answers
 pub use Rattle.pom_source.specs.Worlds
-pub use Rattle.pom_store.specs.Stores
+pub use Rattle.lineage.specs.Stores
+pub mod Effective
+pub mod Kept
+pub mod Knowing
+pub mod Lawful
+pub mod Serving
 pub mod Absence
 pub mod Imports

@@ -1,23 +1,23 @@
+//! The effective model of a POM that is asked for by its path or its coordinates.
+
 ghost use Rattle.std.specs.Prelude.{◌≡◌, [], ◌∷◌, Ok, IfOk};
 ghost use Rattle.mvn_shared.specs.Cause.{HasCause};
-ghost use Rattle.profile_activation.specs.Judging.{TellsOn};
+ghost use Rattle.profiles.specs.Judging.{TellsOn};
 ghost use Rattle.pom_source.specs.Answers.{Says, build_failed};
 ghost use Rattle.pom_source.specs.Worlds.{World};
 ghost use Rattle.pom_source.specs.declared.found.Given as givens;
-ghost use Rattle.import_store.specs.Kept.{HoldsAll};
-ghost use Rattle.import_store.specs.Lawful.{IsLawful};
+ghost use Rattle.effective.specs.Kept.{HoldsAll};
+ghost use Rattle.effective.specs.Lawful.{IsLawful};
 ghost use Rattle.effective.specs.Absence.{IsAbsentExactly, has_pom};
-ghost use Rattle.pom_store.specs.Lineage.{lineage};
-ghost use Rattle.import_store.specs.Effective.{asked, asked_path, effective, imported, whole};
+ghost use Rattle.lineage.specs.Lineage.{lineage};
+ghost use Rattle.effective.specs.Effective.{asked, asked_path, effective, imported, whole};
 
-use import_store::{RunStore, asked_gav, lineage_of};
-use model_imports::whole;
+use crate::{RunStore, asked_gav, lineage_of, whole};
+use lineage::{Joined, read_at};
 use model_types::{Model, RawModel};
 use mvn_base::PomId;
 use mvn_shared::{List, Mem, Shared, Text};
 use pom_source::{BuildFault, Given, PomSource};
-use pom_store::Joined;
-use poms_by_path::read_at;
 use std::alloc::Global;
 
 // A list of one POM.
@@ -78,7 +78,7 @@ fn asked<P: PomSource>(
 }
 
 // A POM with all that it builds on, in all further steps, where no other is being built.
-#[tactic(auto, using(pom_store::proofs::Telling::untold, model_imports::proofs::Standing::built_gives))]
+#[tactic(auto, using(lineage::proofs::Telling::untold, crate::proofs::Standing::built_gives))]
 fn from_joined<P: PomSource>(
     alloc: Global,
     store: &mut RunStore,
@@ -108,7 +108,7 @@ fn from_joined<P: PomSource>(
 }
 
 // The POM that is asked for, in all steps.
-#[tactic(auto, using(pom_store::proofs::Telling::told_both, import_store::proofs::Asking::whole_stops))]
+#[tactic(auto, using(lineage::proofs::Telling::told_both, crate::proofs::Asking::whole_stops))]
 fn modelled<P: PomSource>(
     alloc: Global,
     store: &mut RunStore,
@@ -135,9 +135,9 @@ fn modelled<P: PomSource>(
     }
 }
 
-/// The effective model of a POM, like `effective`, with a store of what was read in the run. What the store keeps is so in each world
-/// that fits the source, before the call and after it. Costs the POM, its parents and its imports, as far as they weren't read before,
-/// and the model; an import that was built before costs a copy of its entries.
+/// The effective model of a POM, like `effective`, with a store of what was read in the run. What the store keeps is so
+/// in each world that fits the source, before the call and after it. Costs the POM, its parents and its imports, as far
+/// as they weren't read before, and the model; an import that was built before costs a copy of its entries.
 #[tactic(auto, using(crate::proofs::Presence::absent_exactly))]
 pub fn effective_with<P: PomSource>(
     alloc: Global,
@@ -165,11 +165,12 @@ pub fn effective_with<P: PomSource>(
     }
 }
 
-/// The effective model of a POM, or its first refusal; absent exactly where the source has no such POM. The steps, in this order: the
-/// POM and its parents, each with its active profiles, and what is inherited; expressions and folders; managed plugins, and the goals that
-/// the packaging binds; imports; what is managed, and scopes; and what is checked in the end. In every world that fits the source the answer
-/// is this world's. `Source` only where its count of faults rose. Costs the POMs that are read, and for each what is joined, on the
-/// average. Maven Model Builder, "Model building"; POM Reference, "The Effective POM".
+/// The effective model of a POM, or its first refusal; absent exactly where the source has no such POM. The steps, in
+/// this order: the POM and its parents, each with its active profiles, and what is inherited; expressions and folders;
+/// managed plugins, and the goals that the packaging binds; imports; what is managed, and scopes; and what is checked
+/// in the end. In every world that fits the source the answer is this world's. `Source` only where its count of faults
+/// rose. Costs the POMs that are read, and for each what is joined, on the average. Maven Model Builder, "Model
+/// building"; POM Reference, "The Effective POM".
 pub fn effective<P: PomSource>(
     alloc: Global,
     source: &mut P,

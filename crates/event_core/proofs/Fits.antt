@@ -6,27 +6,27 @@ use Rattle.std.proofs.lemmas.Bool.{eqb-true, false≢true, ltb-true, lt-ltb}
 use Rattle.std.proofs.lemmas.Cmp.{nat_eq_equiv}
 use Rattle.std.proofs.lemmas.List.{get_or-set_other, get_or-set_same, length-replicate, length-set}
 use Rattle.std.proofs.lemmas.List.Elements.{All-get_or, All-replicate, All-set}
-use Rattle.name_locks.specs.declared.mode.Mode.{Mode}
-use Rattle.name_locks.specs.Locks.{hold, hold_in, with_hold}
+use Rattle.build_core.specs.declared.mode.Mode.{Mode}
+use Rattle.build_core.specs.Locks.{hold, hold_in, with_hold}
 use Rattle.build_core.specs.declared.ending.Ending.{Ending}
 use Rattle.build_core.specs.declared.event.Event.{Event}
 use Rattle.build_core.specs.declared.event.Event.TheVariants as event
-use Rattle.module_scripts.specs.declared.outline.Outline.{Outline}
-use Rattle.module_scripts.specs.declared.outline.ModuleOutline.{ModuleOutline}
-use Rattle.module_progress.specs.declared.progress.Progress.{Progress}
-use Rattle.module_progress.specs.declared.progress.Progress.TheVariants.{Waiting, Running, Skipped, Ended}
-use Rattle.module_scripts.specs.declared.deed.Deed.{Deed}
-use Rattle.module_scripts.specs.declared.deed.Deed.TheVariants as deed
+use Rattle.scripts.specs.declared.outline.Outline.{Outline}
+use Rattle.scripts.specs.declared.outline.ModuleOutline.{ModuleOutline}
+use Rattle.event_core.specs.declared.module_steps.Progress.{Progress}
+use Rattle.event_core.specs.declared.module_steps.Progress.TheVariants.{Waiting, Running, Skipped, Ended}
+use Rattle.scripts.specs.declared.deed.Deed.{Deed}
+use Rattle.scripts.specs.declared.deed.Deed.TheVariants as deed
 use Rattle.event_core.specs.EventsLeft.{course_events, events_left, waiting_events}
-use Rattle.module_scripts.specs.Bounds.{module_events, script_events, total}
-use Rattle.module_scripts.specs.Climbing.{Climbs, but}
+use Rattle.scripts.specs.Bounds.{module_events, script_events, total}
+use Rattle.scripts.specs.Climbing.{Climbs, but}
 use Rattle.event_core.specs.Enabled.{IsEnabled, is_due, may_end_so}
 use Rattle.event_core.specs.Fitting.{IsFit}
-use Rattle.module_scripts.specs.Outlines.{is_empty, is_listed}
-use Rattle.module_scripts.specs.Scripts.{settled, script_of, whole}
-use Rattle.module_progress.specs.HowFar.{is_waiting, progress_of}
+use Rattle.scripts.specs.Outlines.{is_empty, is_listed}
+use Rattle.scripts.specs.Scripts.{settled, script_of, whole}
+use Rattle.event_core.specs.HowFar.{is_waiting, progress_of}
 use Rattle.event_core.specs.Standing.{Course, Standing, after, after_deed, after_free, at_first, course_of, ended, held_by, idle, module_of, off_course, on_course, standing_of, start_of, turned_to}
-use Rattle.module_scripts.proofs.Climbs.{all_but, all_more, any_default, but_shorter, both, climbs_but, climbs_more, get_map, listed_but, listed_last, listed_more, none_beyond}
+use Rattle.scripts.proofs.Climbs.{all_but, all_more, any_default, but_shorter, both, climbs_but, climbs_more, get_map, listed_but, listed_last, listed_more, none_beyond}
 use Rattle.event_core.proofs.LockRows.{free_holds, row_in, take_holds}
 use Rattle.event_core.proofs.Weights.{cost, due_lighter, free_lighter, nothing_is, set_total, settled_lighter, waiting_gone, waiting_set}
 

@@ -6,37 +6,37 @@ use Rattle.std.proofs.lemmas.Bool.{eqb-true, false≢true, ltb-true, lt-ltb}
 use Rattle.std.proofs.lemmas.Cmp.{nat_eq_equiv}
 use Rattle.std.proofs.lemmas.List.Elements.{All-get_or}
 use Rattle.std.proofs.lemmas.List.Folds.{find-append}
-use Rattle.name_locks.specs.declared.mode.Mode.{Mode}
-use Rattle.name_locks.specs.declared.mode.Mode.TheVariants.{Shared, Exclusive}
-use Rattle.name_locks.specs.Locks.{below, blocker, blocks, excludes, hold, workers_of}
+use Rattle.build_core.specs.declared.mode.Mode.{Mode}
+use Rattle.build_core.specs.declared.mode.Mode.TheVariants.{Shared, Exclusive}
+use Rattle.build_core.specs.Locks.{below, blocker, blocks, excludes, hold, workers_of}
 use Rattle.build_core.specs.declared.ending.Ending.{Ending}
 use Rattle.build_core.specs.declared.ending.Ending.TheVariants.{Built, ClasspathTooLarge, Fault, Goal, Memory, Missing, NoArtifact, OutputTooLarge}
-use Rattle.module_progress.specs.declared.progress.Progress.{Progress}
-use Rattle.module_progress.specs.declared.progress.Progress.TheVariants.{Waiting, Running, Skipped, Ended}
+use Rattle.event_core.specs.declared.module_steps.Progress.{Progress}
+use Rattle.event_core.specs.declared.module_steps.Progress.TheVariants.{Waiting, Running, Skipped, Ended}
 use Rattle.build_core.specs.declared.event.Event.TheVariants as event
-use Rattle.module_scripts.specs.declared.outline.Outline.{Outline}
-use Rattle.module_scripts.specs.declared.outline.ModuleOutline.{ModuleOutline}
-use Rattle.module_scripts.specs.declared.deed.Deed.{Deed}
-use Rattle.module_scripts.specs.declared.deed.Deed.TheVariants as deed
-use Rattle.module_scripts.specs.declared.script_place.ScriptPlace.{ScriptPlace}
-use Rattle.module_scripts.specs.declared.script_place.ScriptPlace.TheVariants as place
+use Rattle.scripts.specs.declared.outline.Outline.{Outline}
+use Rattle.scripts.specs.declared.outline.ModuleOutline.{ModuleOutline}
+use Rattle.scripts.specs.declared.deed.Deed.{Deed}
+use Rattle.scripts.specs.declared.deed.Deed.TheVariants as deed
+use Rattle.scripts.specs.declared.script_place.ScriptPlace.{ScriptPlace}
+use Rattle.scripts.specs.declared.script_place.ScriptPlace.TheVariants as place
 use Rattle.event_core.specs.declared.course.Course.{Course as KeptCourse}
 use Rattle.event_core.specs.declared.course.Course.TheVariants as kept
-use Rattle.module_scripts.specs.Climbing.{Climbs}
+use Rattle.scripts.specs.Climbing.{Climbs}
 use Rattle.event_core.specs.Enabled.{is_due, may_end_so}
 use Rattle.event_core.specs.Fitting.{IsFit, IsTied}
 use Rattle.event_core.specs.Holders.{AllHold, CourseHolds}
-use Rattle.module_scripts.specs.HeldAt.{HoldsAt}
-use Rattle.module_scripts.specs.Outlines.{is_empty, is_listed}
+use Rattle.scripts.specs.HeldAt.{HoldsAt}
+use Rattle.scripts.specs.Outlines.{is_empty, is_listed}
 use Rattle.event_core.specs.Going.{AreOn, GoesOn, is_on}
-use Rattle.module_scripts.specs.Scripts.{Script, done, same_mode, step, takes, whole}
+use Rattle.scripts.specs.Scripts.{Script, done, same_mode, step, takes, whole}
 use Rattle.event_core.specs.Sound.{IsSound, IsSoundModule, are_below}
 use Rattle.event_core.specs.Kept.{course_at}
-use Rattle.module_scripts.specs.ScriptPlaces.{IsPlaced, rest_of}
-use Rattle.module_progress.specs.HowFar.{first_lost, first_not_built, is_done, is_lost, is_over, is_ready, is_skippable, is_waiting, progress_of, upstream_of}
+use Rattle.scripts.specs.ScriptPlaces.{IsPlaced, rest_of}
+use Rattle.event_core.specs.HowFar.{first_lost, first_not_built, is_done, is_lost, is_over, is_ready, is_skippable, is_waiting, progress_of, upstream_of}
 use Rattle.event_core.specs.Standing.{Standing, course_of, goals_of, held_by, idle, is_complete, module_of, on_course}
-use Rattle.module_scripts.proofs.Climbs.{both, get_map, none_beyond}
-use Rattle.module_scripts.proofs.Dues.{answer_yes, below_or_not, fetch_yes, lock_here, lock_yes, not_take, own_freed_none, own_freed_yes, own_here, own_yes, pom_yes, read_yes, share_here, share_yes}
+use Rattle.scripts.proofs.Climbs.{both, get_map, none_beyond}
+use Rattle.scripts.proofs.Dues.{answer_yes, below_or_not, fetch_yes, lock_here, lock_yes, not_take, own_freed_none, own_freed_yes, own_here, own_yes, pom_yes, read_yes, share_here, share_yes}
 use Rattle.event_core.proofs.Weights.{nothing_is}
 
 -- ---- numbers of lists

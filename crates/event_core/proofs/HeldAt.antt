@@ -3,14 +3,14 @@ use Rattle.std.proofs.Common.{◌≡◌, ℕ, zero, suc, ◌<◌, ◌⊎◌, inl
 use Rattle.std.proofs.lemmas.Bool.{false≢true}
 use Rattle.std.proofs.lemmas.List.{get_or-set_other, get_or-set_same, length-replicate, length-set, set-get_or}
 use Rattle.event_core.specs.Holders.{AllHold, CourseHolds, IsHeldThen}
-use Rattle.module_scripts.specs.HeldAt.{HoldsThen}
-use Rattle.module_scripts.specs.declared.outline.Outline.{Outline}
-use Rattle.module_scripts.specs.declared.deed.Deed.{Deed}
-use Rattle.module_scripts.specs.declared.deed.Deed.TheVariants as deed
+use Rattle.scripts.specs.HeldAt.{HoldsThen}
+use Rattle.scripts.specs.declared.outline.Outline.{Outline}
+use Rattle.scripts.specs.declared.deed.Deed.{Deed}
+use Rattle.scripts.specs.declared.deed.Deed.TheVariants as deed
 use Rattle.event_core.specs.declared.course.Course.{Course as KeptCourse}
 use Rattle.event_core.specs.declared.course.Course.TheVariants as kept
 use Rattle.event_core.proofs.Fits.{same_or_not}
-use Rattle.module_scripts.specs.Outlines.{is_empty}
+use Rattle.scripts.specs.Outlines.{is_empty}
 
 pub empty_is : (held : List ℕ) (b : Bool) → b ≡ is_empty held → b ≡ true → held ≡ []
 empty_is [] b e is = refl

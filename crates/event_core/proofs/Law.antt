@@ -3,21 +3,21 @@ use Rattle.std.proofs.Common.{◌≡◌, ℕ, suc, ◌-◌, ◌<◌, Bool, true,
 use Rattle.std.specs.List.{list_all}
 use Rattle.std.proofs.lemmas.Bool.{false≢true, ltb-true, lt-ltb}
 use Rattle.std.proofs.lemmas.List.Elements.{All-get_or}
-use Rattle.name_locks.specs.Locks.{blocker, hold}
+use Rattle.build_core.specs.Locks.{blocker, hold}
 use Rattle.build_core.specs.declared.event.Event.{Event}
 use Rattle.build_core.specs.declared.event.Event.TheVariants as event
-use Rattle.module_scripts.specs.declared.outline.Outline.{Outline}
-use Rattle.module_scripts.specs.declared.deed.Deed.TheVariants as deed
+use Rattle.scripts.specs.declared.outline.Outline.{Outline}
+use Rattle.scripts.specs.declared.deed.Deed.TheVariants as deed
 use Rattle.event_core.specs.declared.refused.NotEnabled.{NotEnabled}
 use Rattle.event_core.specs.declared.refused.NotEnabled.TheVariants.{Range, Module, Upstream, Worker, Lock, Unordered, Stage}
-use Rattle.module_scripts.specs.Climbing.{Climbs}
+use Rattle.scripts.specs.Climbing.{Climbs}
 use Rattle.event_core.specs.Enabled.{IsEnabled, ending_in_range, goal_in_range, is_due, may_end_so}
 use Rattle.event_core.specs.Causes.{begin_cause, by_file, cause_now, hold_cause, last_of, not_below, number_of, publish_due, read_due, stage_at, unless, where_found, wrong_end}
 use Rattle.event_core.specs.Fitting.{IsFit}
-use Rattle.module_progress.specs.HowFar.{first_lost, first_not_built, is_waiting, progress_of, state_of}
+use Rattle.event_core.specs.HowFar.{first_lost, first_not_built, is_waiting, progress_of, state_of}
 use Rattle.event_core.specs.Standing.{Standing, course_of, held_by, module_of}
-use Rattle.module_scripts.specs.Outlines.{is_empty}
-use Rattle.module_scripts.proofs.Climbs.{both}
+use Rattle.scripts.specs.Outlines.{is_empty}
+use Rattle.scripts.proofs.Climbs.{both}
 use Rattle.event_core.proofs.Weights.{nothing_is}
 
 holds_of : (b : Bool) (cause : NotEnabled) (rest : Option NotEnabled) → unless b cause rest ≡ None → (b ≡ true) × (rest ≡ None)

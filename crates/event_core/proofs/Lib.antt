@@ -1,3 +1,7 @@
+mod Below
+mod Changes
+mod Follows
+mod Fronts
 mod Firsts
 pub mod Fits
 mod Going

@@ -1,8 +1,8 @@
 -- Who holds a name after one is taken, and after one is freed.
 use Rattle.std.proofs.Common.{◌≡◌, ℕ, zero, suc, ◌⊎◌, inl, inr, true, List, [], ◌∷◌, set, Option, Some, None, is_some, unwrap_or, slice_get, refl, arith, ap}
 use Rattle.std.proofs.lemmas.Bool.{false≢true}
-use Rattle.name_locks.specs.declared.mode.Mode.{Mode}
-use Rattle.name_locks.specs.Locks.{hold_in}
+use Rattle.build_core.specs.declared.mode.Mode.{Mode}
+use Rattle.build_core.specs.Locks.{hold_in}
 
 abbrev pub row_in : List (List (Option Mode)) → ℕ → List (Option Mode)
 row_in rows name = unwrap_or (slice_get rows name) []

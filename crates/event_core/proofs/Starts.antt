@@ -1,12 +1,12 @@
 -- Where the script of a module begins.
 use Rattle.std.proofs.Common.{◌≡◌, ℕ, slice_get, Option, Some, None, refl}
 use Rattle.std.specs.Option.{option_map_or}
-use Rattle.module_scripts.specs.declared.outline.Outline.{Outline}
-use Rattle.module_scripts.specs.declared.outline.ModuleOutline.{ModuleOutline}
-use Rattle.module_scripts.specs.declared.script_place.ScriptPlace.TheVariants as place
-use Rattle.module_scripts.specs.Scripts.{script_of, whole}
-use Rattle.module_scripts.specs.ScriptPlaces.{rest_of}
-use Rattle.module_scripts.specs.Rests.{script_at}
+use Rattle.scripts.specs.declared.outline.Outline.{Outline}
+use Rattle.scripts.specs.declared.outline.ModuleOutline.{ModuleOutline}
+use Rattle.scripts.specs.declared.script_place.ScriptPlace.TheVariants as place
+use Rattle.scripts.specs.Scripts.{script_of, whole}
+use Rattle.scripts.specs.ScriptPlaces.{rest_of}
+use Rattle.scripts.specs.Rests.{script_at}
 use Rattle.event_core.specs.Standing.{start_of}
 
 -- a module begins at the first name of its batch

@@ -1,7 +1,7 @@
 -- A core's build never comes to a stand.
 use Rattle.std.proofs.Common.{◌≡◌, ℕ, List, map, sym, ap, subst}
 use Rattle.build_core.specs.declared.event.Event.{Event}
-use Rattle.module_scripts.specs.declared.outline.Outline.{Outline}
+use Rattle.scripts.specs.declared.outline.Outline.{Outline}
 use Rattle.event_core.specs.declared.standing.Standing.{Standing as KeptStanding}
 use Rattle.event_core.specs.Going.{NamesAscend, NeverLocked, NeverWaits}
 use Rattle.event_core.specs.Holders.{AllHold}

@@ -5,13 +5,13 @@ use Rattle.std.specs.Option.{option_map_or, option_to_list}
 use Rattle.std.proofs.lemmas.Bool.{cases_eq, cases_lt, false≢true, ltb-true, lt-ltb, ne_eqb, eq-eqb}
 use Rattle.std.proofs.lemmas.List.{append-nil, get_or-set_other, get_or-set_same, length-set}
 use Rattle.std.proofs.lemmas.List.Elements.{All-set, filter-append}
-use Rattle.name_locks.specs.declared.mode.Mode.{Mode}
-use Rattle.name_locks.specs.Locks.{Holds, IsSeat, hold, names_of, with_hold, workers_of}
+use Rattle.build_core.specs.declared.mode.Mode.{Mode}
+use Rattle.build_core.specs.Locks.{Holds, IsSeat, hold, names_of, with_hold, workers_of}
 use Rattle.event_core.specs.Causes.{last_of}
-use Rattle.module_scripts.specs.Climbing.{Climbs, but}
-use Rattle.module_scripts.specs.Outlines.{is_empty}
+use Rattle.scripts.specs.Climbing.{Climbs, but}
+use Rattle.scripts.specs.Outlines.{is_empty}
 use Rattle.event_core.specs.Taken.{AreStacks, IsStack, ends_freed, held_from, is_held}
-use Rattle.module_scripts.proofs.Climbs.{all_more, both, climbs_length, climbs_more}
+use Rattle.scripts.proofs.Climbs.{all_more, both, climbs_length, climbs_more}
 use Rattle.event_core.proofs.LockRows.{row_in}
 use Rattle.event_core.proofs.Law.{all_below, last_more, none_above}
 use Rattle.event_core.proofs.Ties.{row_length, rows_other, rows_same}

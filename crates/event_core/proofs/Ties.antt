@@ -4,24 +4,24 @@ use Rattle.std.specs.Option.{option_map_or}
 use Rattle.std.proofs.lemmas.Bool.{eqb-true, false≢true}
 use Rattle.std.proofs.lemmas.List.{get_or-set_other, get_or-set_same, length-replicate, length-set}
 use Rattle.std.proofs.lemmas.List.Elements.{All-replicate, All-set}
-use Rattle.name_locks.specs.declared.mode.Mode.{Mode}
-use Rattle.name_locks.specs.Locks.{hold, hold_in, with_hold}
+use Rattle.build_core.specs.declared.mode.Mode.{Mode}
+use Rattle.build_core.specs.Locks.{hold, hold_in, with_hold}
 use Rattle.build_core.specs.declared.ending.Ending.{Ending}
 use Rattle.build_core.specs.declared.event.Event.{Event}
 use Rattle.build_core.specs.declared.event.Event.TheVariants as event
-use Rattle.module_scripts.specs.declared.outline.Outline.{Outline}
-use Rattle.module_progress.specs.declared.progress.Progress.{Progress}
-use Rattle.module_progress.specs.declared.progress.Progress.TheVariants.{Waiting, Running, Skipped, Ended}
-use Rattle.module_scripts.specs.declared.deed.Deed.{Deed}
-use Rattle.module_scripts.specs.declared.deed.Deed.TheVariants as deed
-use Rattle.module_scripts.specs.Climbing.{but}
+use Rattle.scripts.specs.declared.outline.Outline.{Outline}
+use Rattle.event_core.specs.declared.module_steps.Progress.{Progress}
+use Rattle.event_core.specs.declared.module_steps.Progress.TheVariants.{Waiting, Running, Skipped, Ended}
+use Rattle.scripts.specs.declared.deed.Deed.{Deed}
+use Rattle.scripts.specs.declared.deed.Deed.TheVariants as deed
+use Rattle.scripts.specs.Climbing.{but}
 use Rattle.event_core.specs.Enabled.{IsEnabled}
 use Rattle.event_core.specs.Fitting.{IsFit, IsTied}
-use Rattle.module_scripts.specs.Outlines.{is_empty, is_listed}
-use Rattle.module_scripts.specs.Scripts.{Script, done, is_gathered, settled, wanted}
-use Rattle.module_progress.specs.HowFar.{is_over, is_waiting, progress_of}
+use Rattle.scripts.specs.Outlines.{is_empty, is_listed}
+use Rattle.scripts.specs.Scripts.{Script, done, is_gathered, settled, wanted}
+use Rattle.event_core.specs.HowFar.{is_over, is_waiting, progress_of}
 use Rattle.event_core.specs.Standing.{Course, Standing, after, after_deed, after_free, at_first, course_of, ended, goals_of, held_by, idle, module_of, off_course, on_course, start_of}
-use Rattle.module_scripts.proofs.Dues.{below_or_not}
+use Rattle.scripts.proofs.Dues.{below_or_not}
 use Rattle.event_core.proofs.Fits.{same_or_not}
 use Rattle.event_core.proofs.LockRows.{row_in}
 use Rattle.event_core.proofs.Weights.{nothing_is}

@@ -3,18 +3,18 @@ use Rattle.std.proofs.Common.{◌≡◌, ℕ, zero, suc, ◌+◌, ◌<◌, ◌�
 use Rattle.std.specs.List.{list_all}
 use Rattle.std.specs.Option.{option_map_or}
 use Rattle.std.proofs.lemmas.Bool.{false≢true}
-use Rattle.module_scripts.specs.declared.outline.Outline.{Outline}
-use Rattle.module_scripts.specs.declared.outline.ModuleOutline.{ModuleOutline}
-use Rattle.module_progress.specs.declared.progress.Progress.{Progress}
-use Rattle.module_scripts.specs.declared.deed.Deed.{Deed}
-use Rattle.module_scripts.specs.declared.deed.Deed.TheVariants as deed
-use Rattle.module_scripts.specs.Scripts.{Script, absent, answers, done, fetches, frees, is_there, is_gathered, is_wanted, may_publish, publishes, reads, settled, step, takes, wanted, whole}
-use Rattle.module_progress.specs.HowFar.{is_waiting}
+use Rattle.scripts.specs.declared.outline.Outline.{Outline}
+use Rattle.scripts.specs.declared.outline.ModuleOutline.{ModuleOutline}
+use Rattle.event_core.specs.declared.module_steps.Progress.{Progress}
+use Rattle.scripts.specs.declared.deed.Deed.{Deed}
+use Rattle.scripts.specs.declared.deed.Deed.TheVariants as deed
+use Rattle.scripts.specs.Scripts.{Script, absent, answers, done, fetches, frees, is_there, is_gathered, is_wanted, may_publish, publishes, reads, settled, step, takes, wanted, whole}
+use Rattle.event_core.specs.HowFar.{is_waiting}
 use Rattle.event_core.specs.Standing.{Course, after_deed, after_free, goals_of, idle, off_course, on_course}
-use Rattle.module_scripts.specs.Outlines.{is_empty}
+use Rattle.scripts.specs.Outlines.{is_empty}
 use Rattle.event_core.specs.Enabled.{is_due}
 use Rattle.event_core.specs.EventsLeft.{course_events, waiting_events}
-use Rattle.module_scripts.specs.Bounds.{module_events, script_events, total}
+use Rattle.scripts.specs.Bounds.{module_events, script_events, total}
 
 pub set_total : {A : Type 0} (f : A → ℕ) (xs : List A) (i : ℕ) (y d : A) → i < length xs → total f (set xs i y) + f (get_or xs i d) ≡ total f xs + f y
 set_total f [] i y d low = absurd (omega (arith, low))

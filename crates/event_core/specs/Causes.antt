@@ -1,21 +1,21 @@
 -- Why an event may not come now: the first cause that holds. Own.
 use Rattle.std.specs.Prelude.{ℕ, ◌-◌, Bool, ◌&&◌, nat_lt, slice_get, List, length, Option, Some, None, is_some, option_and_then, if◌then◌else◌}
 use Rattle.std.specs.Option.{option_map_or}
-use Rattle.name_locks.specs.Locks.{blocker, hold}
-use Rattle.name_locks.specs.declared.mode.Mode.{Mode}
+use Rattle.build_core.specs.Locks.{blocker, hold}
+use Rattle.build_core.specs.declared.mode.Mode.{Mode}
 use Rattle.build_core.specs.declared.ending.Ending.{Ending}
 use Rattle.build_core.specs.declared.ending.Ending.TheVariants as ending
 use Rattle.build_core.specs.declared.event.Event.{Event}
 use Rattle.build_core.specs.declared.event.Event.TheVariants as event
-use Rattle.module_scripts.specs.declared.deed.Deed.{Deed}
-use Rattle.module_scripts.specs.declared.deed.Deed.TheVariants as deed
-use Rattle.module_scripts.specs.declared.outline.Outline.{Outline}
+use Rattle.scripts.specs.declared.deed.Deed.{Deed}
+use Rattle.scripts.specs.declared.deed.Deed.TheVariants as deed
+use Rattle.scripts.specs.declared.outline.Outline.{Outline}
 use Rattle.event_core.specs.declared.refused.NotEnabled.{NotEnabled}
 use Rattle.event_core.specs.declared.refused.NotEnabled.TheVariants.{Range, Module, Upstream, Worker, Lock, Unordered, Stage, File}
-use Rattle.module_scripts.specs.Scripts.{Script, head, published_by, read_by, stage_of, wanted}
-use Rattle.module_progress.specs.HowFar.{first_lost, first_not_built, is_waiting, progress_of, state_of}
+use Rattle.scripts.specs.Scripts.{Script, head, published_by, read_by, stage_of, wanted}
+use Rattle.event_core.specs.HowFar.{first_lost, first_not_built, is_waiting, progress_of, state_of}
 use Rattle.event_core.specs.Standing.{Course, Standing, course_of, held_by, idle, module_of, off_course, on_course}
-use Rattle.module_scripts.specs.Outlines.{is_empty}
+use Rattle.scripts.specs.Outlines.{is_empty}
 use Rattle.event_core.specs.Enabled.{ending_in_range, goal_in_range, is_due, may_end_so}
 
 -- a cause unless this holds, and else the rest; a cause of what was found, and else the rest

@@ -3,17 +3,17 @@ use Rattle.std.specs.Prelude.{◌≡◌, ℕ, ◌<◌, Bool, true, false, ◌&&�
 use Rattle.std.specs.List.{list_all}
 use Rattle.std.specs.Option.{option_map_or}
 use Rattle.std.specs.Prelude.{slice_get}
-use Rattle.name_locks.specs.Locks.{blocker, hold}
+use Rattle.build_core.specs.Locks.{blocker, hold}
 use Rattle.build_core.specs.declared.ending.Ending.{Ending}
 use Rattle.build_core.specs.declared.ending.Ending.TheVariants as ending
 use Rattle.build_core.specs.declared.event.Event.{Event}
 use Rattle.build_core.specs.declared.event.Event.TheVariants as event
-use Rattle.module_scripts.specs.declared.deed.Deed.{Deed}
-use Rattle.module_scripts.specs.declared.deed.Deed.TheVariants as deed
-use Rattle.module_scripts.specs.declared.outline.Outline.{Outline}
-use Rattle.module_scripts.specs.declared.outline.ModuleOutline.{ModuleOutline}
-use Rattle.module_scripts.specs.Scripts.{Script, done, is_gathered, is_to_install, may_end, wanted}
-use Rattle.module_progress.specs.HowFar.{CanSkip, CanStart, fail_at_end, is_this, is_waiting, progress_of}
+use Rattle.scripts.specs.declared.deed.Deed.{Deed}
+use Rattle.scripts.specs.declared.deed.Deed.TheVariants as deed
+use Rattle.scripts.specs.declared.outline.Outline.{Outline}
+use Rattle.scripts.specs.declared.outline.ModuleOutline.{ModuleOutline}
+use Rattle.scripts.specs.Scripts.{Script, done, is_gathered, is_to_install, may_end, wanted}
+use Rattle.event_core.specs.HowFar.{CanSkip, CanStart, fail_at_end, is_this, is_waiting, progress_of}
 use Rattle.event_core.specs.Standing.{Course, Standing, course_of, goals_of, held_by, idle, module_of, off_course, on_course, standing_of}
 
 -- whether a deed is the next one of a worker's script

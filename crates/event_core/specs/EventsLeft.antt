@@ -1,10 +1,10 @@
 -- How many events a build still has at most, from where it stands. Own.
 use Rattle.std.specs.Prelude.{ℕ, suc, ◌+◌, List, [], ◌∷◌, length, if◌then◌else◌}
-use Rattle.module_scripts.specs.declared.outline.Outline.{Outline}
-use Rattle.module_scripts.specs.declared.outline.ModuleOutline.{ModuleOutline}
-use Rattle.module_scripts.specs.Bounds.{module_events, script_events, total}
-use Rattle.module_progress.specs.declared.progress.Progress.{Progress}
-use Rattle.module_progress.specs.HowFar.{is_waiting}
+use Rattle.scripts.specs.declared.outline.Outline.{Outline}
+use Rattle.scripts.specs.declared.outline.ModuleOutline.{ModuleOutline}
+use Rattle.scripts.specs.Bounds.{module_events, script_events, total}
+use Rattle.event_core.specs.declared.module_steps.Progress.{Progress}
+use Rattle.event_core.specs.HowFar.{is_waiting}
 use Rattle.event_core.specs.Standing.{Course, Standing, idle, off_course, on_course}
 
 -- what a worker has left, but for the names that it holds: its script and the end

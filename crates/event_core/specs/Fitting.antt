@@ -1,12 +1,12 @@
 -- What holds of where a build stands, after any events that were allowed.
 use Rattle.std.specs.Prelude.{◌≡◌, ℕ, ◌<◌, true, nat_lt, All, length, Some, is_some}
 use Rattle.std.specs.List.{list_all}
-use Rattle.name_locks.specs.Locks.{hold, names_of, workers_of}
-use Rattle.module_scripts.specs.declared.outline.Outline.{Outline}
-use Rattle.module_scripts.specs.Climbing.{Climbs}
-use Rattle.module_scripts.specs.Outlines.{is_listed}
-use Rattle.module_progress.specs.declared.progress.Progress.TheVariants.{Running}
-use Rattle.module_progress.specs.HowFar.{progress_of}
+use Rattle.build_core.specs.Locks.{hold, names_of, workers_of}
+use Rattle.scripts.specs.declared.outline.Outline.{Outline}
+use Rattle.scripts.specs.Climbing.{Climbs}
+use Rattle.scripts.specs.Outlines.{is_listed}
+use Rattle.event_core.specs.declared.module_steps.Progress.TheVariants.{Running}
+use Rattle.event_core.specs.HowFar.{progress_of}
 use Rattle.event_core.specs.Standing.{Standing, course_of, held_by, module_of}
 
 pub record IsFit (o : Outline) (now : Standing) : Type 0 where

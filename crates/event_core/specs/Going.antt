@@ -1,16 +1,16 @@
 -- That a build goes on: some worker has an event that is due and may come. Own.
 use Rattle.std.specs.Prelude.{◌≡◌, ℕ, ◌<◌, Bool, true, false, nat_lt, find, length, None, Some}
 use Rattle.std.specs.List.{list_all}
-use Rattle.name_locks.specs.declared.mode.Mode.{Mode}
-use Rattle.name_locks.specs.Locks.{below, blocker}
+use Rattle.build_core.specs.declared.mode.Mode.{Mode}
+use Rattle.build_core.specs.Locks.{below, blocker}
 use Rattle.build_core.specs.declared.ending.Ending.TheVariants.{Built}
 use Rattle.build_core.specs.declared.event.Event.{Event}
 use Rattle.build_core.specs.declared.event.Event.TheVariants as event
-use Rattle.module_scripts.specs.declared.outline.Outline.{Outline}
-use Rattle.module_scripts.specs.declared.deed.Deed.TheVariants as deed
+use Rattle.scripts.specs.declared.outline.Outline.{Outline}
+use Rattle.scripts.specs.declared.deed.Deed.TheVariants as deed
 use Rattle.event_core.specs.Enabled.{IsEnabled, is_due, may_end_so}
 use Rattle.event_core.specs.Sound.{IsSound}
-use Rattle.module_progress.specs.HowFar.{is_ready, is_skippable}
+use Rattle.event_core.specs.HowFar.{is_ready, is_skippable}
 use Rattle.event_core.specs.Standing.{Course, Standing, course_of, held_by, idle, is_complete, off_course, on_course}
 
 -- an event of a worker that its script wants next; a free of any name where frees are due, and the good end

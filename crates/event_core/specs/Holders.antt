@@ -1,10 +1,10 @@
 -- The program's own words: which names workers hold, by what they are at.
 use Rattle.std.specs.Prelude.{◌≡◌, ℕ, ◌<◌, true, false, List, [], ◌∷◌, ◌++◌, get_or, slice_get, Some}
-use Rattle.module_scripts.specs.declared.outline.Outline.{Outline}
-use Rattle.module_scripts.specs.declared.outline.ModuleOutline.{ModuleOutline}
-use Rattle.module_scripts.specs.declared.deed.Deed.{Deed}
-use Rattle.module_scripts.specs.declared.deed.Deed.TheVariants as deed
-use Rattle.module_scripts.specs.HeldAt.{HoldsAt}
+use Rattle.scripts.specs.declared.outline.Outline.{Outline}
+use Rattle.scripts.specs.declared.outline.ModuleOutline.{ModuleOutline}
+use Rattle.scripts.specs.declared.deed.Deed.{Deed}
+use Rattle.scripts.specs.declared.deed.Deed.TheVariants as deed
+use Rattle.scripts.specs.HeldAt.{HoldsAt}
 use Rattle.event_core.specs.declared.course.Course.{Course as KeptCourse}
 use Rattle.event_core.specs.declared.course.Course.TheVariants as kept
 

@@ -2,16 +2,16 @@
 -- left of a script; `KeptCourse` and `KeptStanding` are the program's, with a place in it.
 use Rattle.std.specs.Prelude.{◌≡◌, ℕ, ◌+◌, ◌<◌, ◌≤◌, ◌^◌, List, [], length, map}
 use Rattle.build_core.specs.declared.event.Event.{Event}
-use Rattle.module_scripts.specs.declared.outline.Outline.{Outline}
+use Rattle.scripts.specs.declared.outline.Outline.{Outline}
 use Rattle.event_core.specs.declared.course.Course.{Course as KeptCourse}
 use Rattle.event_core.specs.declared.course.Course.TheVariants.{Idle, Off, On}
 use Rattle.event_core.specs.declared.standing.Standing.{Standing as KeptStanding}
 use Rattle.event_core.specs.EventsLeft.{events_left}
 use Rattle.event_core.specs.Enabled.{IsRun}
 use Rattle.event_core.specs.Fitting.{IsFit, IsTied}
-use Rattle.module_progress.specs.Fronts.{upstreams}
+use Rattle.event_core.specs.Fronts.{upstreams}
 use Rattle.event_core.specs.Holders.{AllHold}
-use Rattle.module_scripts.specs.Rests.{script_at}
+use Rattle.scripts.specs.Rests.{script_at}
 use Rattle.event_core.specs.Standing.{Course, Standing, idle, off_course, on_course, standing_of}
 
 abbrev pub course_at : Outline → KeptCourse → Course

@@ -1,4 +1,6 @@
-pub use Rattle.name_locks.specs.Locks
+pub use Rattle.build_core.specs.Locks
+pub mod Fronts
+pub mod HowFar
 pub mod Causes
 pub mod Enabled
 pub mod EventsLeft

@@ -4,7 +4,7 @@ use Rattle.std.proofs.Common.{refl, ap}
 use Rattle.std.proofs.lemmas.Bool.{false≢true}
 use Rattle.std.specs.FinMap as finite
 use Rattle.mvn_shared.specs.Files.{Files}
-use Rattle.name_locks.specs.declared.mode.Mode.TheVariants.{Exclusive}
+use Rattle.build_core.specs.declared.mode.Mode.TheVariants.{Exclusive}
 use Rattle.mvn_base.specs.declared.gav.Gav.{Gav}
 use Rattle.mvn_base.specs.declared.phase.Phase.TheVariants.{Package}
 use Rattle.goal_types.specs.declared.goal.GoalAnswer.{GoalAnswer}

@@ -1,9 +1,9 @@
 -- Outlines of plans that can be built, as far as locks and files go. Own; Resolver, "Named Locks", for the ascending order.
 use Rattle.std.specs.Prelude.{◌≡◌, ℕ, ◌<◌, Bool, true, nat_lt, List, length, slice_get, Some}
 use Rattle.std.specs.List.{list_all}
-use Rattle.module_scripts.specs.declared.outline.Outline.{Outline}
-use Rattle.module_scripts.specs.declared.outline.ModuleOutline.{ModuleOutline}
-use Rattle.module_scripts.specs.Climbing.{Climbs}
+use Rattle.scripts.specs.declared.outline.Outline.{Outline}
+use Rattle.scripts.specs.declared.outline.ModuleOutline.{ModuleOutline}
+use Rattle.scripts.specs.Climbing.{Climbs}
 
 -- all numbers of a list are below one
 abbrev pub are_below : ℕ → List ℕ → Bool

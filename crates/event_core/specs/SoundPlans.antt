@@ -12,9 +12,9 @@ use Rattle.build_core.specs.declared.plan.Entry.{Entry}
 use Rattle.build_core.specs.declared.plan.Origin.{Origin}
 use Rattle.build_core.specs.declared.plan.Origin.TheVariants as origin
 use Rattle.build_core.specs.Slots.{slot_number}
-use Rattle.module_scripts.specs.Bounds.{total}
-use Rattle.module_scripts.specs.Climbing.{Climbs}
-use Rattle.module_scripts.specs.Outlines.{is_listed, outline_of}
+use Rattle.scripts.specs.Bounds.{total}
+use Rattle.scripts.specs.Climbing.{Climbs}
+use Rattle.scripts.specs.Outlines.{is_listed, outline_of}
 use Rattle.event_core.specs.Sound.{IsSound}
 
 -- texts that ascend, each once

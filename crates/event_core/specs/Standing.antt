@@ -2,21 +2,21 @@
 use Rattle.std.specs.Prelude.{◌≡◌, ℕ, Bool, true, ◌&&◌, List, [], ◌∷◌, ◌++◌, length, fold, replicate, slice_get, slice_set, Option, Some, None}
 use Rattle.std.specs.List.{list_all, slice_index_or}
 use Rattle.std.specs.Option.{option_map_or}
-use Rattle.name_locks.specs.declared.mode.Mode.{Mode}
-use Rattle.name_locks.specs.Locks.{Holds, none_held, with_hold}
+use Rattle.build_core.specs.declared.mode.Mode.{Mode}
+use Rattle.build_core.specs.Locks.{Holds, none_held, with_hold}
 use Rattle.build_core.specs.declared.ending.Ending.{Ending}
-use Rattle.module_progress.specs.declared.progress.Progress.{Progress}
-use Rattle.module_progress.specs.declared.progress.Progress.TheVariants.{Waiting, Running, Skipped, Ended}
+use Rattle.event_core.specs.declared.module_steps.Progress.{Progress}
+use Rattle.event_core.specs.declared.module_steps.Progress.TheVariants.{Waiting, Running, Skipped, Ended}
 use Rattle.build_core.specs.declared.event.Event.{Event}
 use Rattle.build_core.specs.declared.event.Event.TheVariants as event
-use Rattle.module_scripts.specs.declared.deed.Deed.{Deed}
-use Rattle.module_scripts.specs.declared.deed.Deed.TheVariants as deed
-use Rattle.module_scripts.specs.declared.outline.Outline.{Outline}
-use Rattle.module_scripts.specs.declared.outline.ModuleOutline.{ModuleOutline}
-use Rattle.module_progress.specs.HowFar.{is_over}
-use Rattle.module_scripts.specs.Climbing.{but}
-use Rattle.module_scripts.specs.Outlines.{is_empty}
-use Rattle.module_scripts.specs.Scripts.{Script, done, is_gathered, script_of, settled, wanted, whole}
+use Rattle.scripts.specs.declared.deed.Deed.{Deed}
+use Rattle.scripts.specs.declared.deed.Deed.TheVariants as deed
+use Rattle.scripts.specs.declared.outline.Outline.{Outline}
+use Rattle.scripts.specs.declared.outline.ModuleOutline.{ModuleOutline}
+use Rattle.event_core.specs.HowFar.{is_over}
+use Rattle.scripts.specs.Climbing.{but}
+use Rattle.scripts.specs.Outlines.{is_empty}
+use Rattle.scripts.specs.Scripts.{Script, done, is_gathered, script_of, settled, wanted, whole}
 
 -- what a worker is at: nothing; a module, with what is left of its script and the goal that was answered last; or a module whose script
 -- it left, with the file that was wanted then, and whether all files were there and no goal was answered

@@ -2,9 +2,9 @@
 use Rattle.std.specs.Prelude.{◌≡◌, ℕ, suc, ◌<◌, Bool, true, false, nat_lt, All, List, [], ◌∷◌, length, filter, get_or, is_none, is_some}
 use Rattle.std.specs.List.{list_all}
 use Rattle.std.specs.Option.{option_map_or}
-use Rattle.name_locks.specs.Locks.{Holds, hold, names_of, workers_of}
+use Rattle.build_core.specs.Locks.{Holds, hold, names_of, workers_of}
 use Rattle.event_core.specs.Causes.{last_of}
-use Rattle.module_scripts.specs.Climbing.{Climbs}
+use Rattle.scripts.specs.Climbing.{Climbs}
 
 abbrev pub is_held : Holds → ℕ → ℕ → Bool
 is_held locks worker name = is_some (hold locks name worker)

@@ -1,25 +1,24 @@
 // Why an event may not come: the first cause, in its order.
 ghost use Rattle.std.specs.Prelude.{◌≡◌, ◌&&◌, ℕ, List, nat_lt, None, Some, if◌then◌else◌};
-ghost use Rattle.name_locks.specs.Locks.{names_of, workers_of};
-ghost use Rattle.module_scripts.specs.declared.outline.Outline.{Outline};
+ghost use Rattle.build_core.specs.Locks.{names_of, workers_of};
+ghost use Rattle.scripts.specs.declared.outline.Outline.{Outline};
 ghost use Rattle.event_core.specs.declared.refused.NotEnabled.TheVariants.{Unordered, Upstream, Worker};
-ghost use Rattle.module_progress.specs.Fronts.{upstreams};
-ghost use Rattle.module_progress.specs.HowFar.{first_not_built};
+ghost use Rattle.event_core.specs.Fronts.{upstreams};
+ghost use Rattle.event_core.specs.HowFar.{first_not_built};
 ghost use Rattle.event_core.specs.Standing.{course_of, held_by, module_of};
-ghost use Rattle.module_scripts.specs.Outlines.{is_empty};
+ghost use Rattle.scripts.specs.Outlines.{is_empty};
 ghost use Rattle.event_core.specs.Standing as definition;
 ghost use Rattle.event_core.specs.Enabled.{ending_in_range, is_due, may_end_so};
 ghost use Rattle.event_core.specs.Causes.{answer_cause, begin_cause, by_file, cause_now, end_cause, file_cause, free_cause, free_end, hold_cause, last_of, not_below, number_of, skip_cause, stage_at, start_cause, take_cause, unless, where_found, wrong_end};
 ghost use Rattle.event_core.specs.Kept.{course_at, standing_in};
 
 use crate::course::Course;
+use crate::module_steps::is_waiting;
 use crate::refused::NotEnabled;
 use crate::standing::Standing;
-use build_core::{Ending, Event};
-use module_progress::progress::is_waiting;
-use module_scripts::deed::Deed;
-use module_scripts::outline::Outline;
-use name_locks::Mode;
+use build_core::{Ending, Event, Mode};
+use scripts::deed::Deed;
+use scripts::outline::Outline;
 
 // The greatest name that is held, where it isn't below this one.
 fn not_below(greatest: Option<u32>, name: u32) -> Option<u32>

@@ -1,22 +1,22 @@
 // What a worker is at, and what may come next there.
 ghost use Rattle.std.specs.Prelude.{◌≡◌, nat_lt, ℕ, List, [], true, None};
-ghost use Rattle.module_scripts.specs.declared.outline.Outline.{Outline};
-ghost use Rattle.module_scripts.specs.Scripts.{settled};
+ghost use Rattle.scripts.specs.declared.outline.Outline.{Outline};
+ghost use Rattle.scripts.specs.Scripts.{settled};
 ghost use Rattle.event_core.specs.Standing.{after_deed, after_free, goals_of, module_of, on_course, start_of};
-ghost use Rattle.module_scripts.specs.Outlines.{is_empty, is_listed};
-ghost use Rattle.module_progress.specs.HowFar.{is_this};
+ghost use Rattle.scripts.specs.Outlines.{is_empty, is_listed};
+ghost use Rattle.event_core.specs.HowFar.{is_this};
 ghost use Rattle.event_core.specs.Enabled.{goal_in_range, is_due, may_end_so, off_ends, on_ends};
 ghost use Rattle.event_core.specs.Causes.{missing_due, publish_due, read_due, stage_at};
-ghost use Rattle.module_scripts.specs.Climbing.{but};
+ghost use Rattle.scripts.specs.Climbing.{but};
 ghost use Rattle.event_core.specs.Holders.{CourseHolds, IsHeldThen};
 ghost use Rattle.event_core.specs.Kept.{course_at};
-ghost use Rattle.module_scripts.specs.Rests.{script_at};
+ghost use Rattle.scripts.specs.Rests.{script_at};
 
 use build_core::Ending;
-use module_scripts::deed::Deed;
-use module_scripts::outline::Outline;
-use module_scripts::rest::Rest;
-use module_scripts::script_place::ScriptPlace;
+use scripts::deed::Deed;
+use scripts::outline::Outline;
+use scripts::rest::Rest;
+use scripts::script_place::ScriptPlace;
 
 /// What a worker is at, as a core keeps it; the definition's course has in a place's stead what is left of the script.
 #[derive(Clone, Copy)]
@@ -197,7 +197,7 @@ impl Course {
         }
     }
 
-    // What it is at behind a deed.
+    // What the worker is at after a deed.
     pub(crate) fn after_deed(
         self,
         outline: &Outline,
@@ -228,7 +228,7 @@ impl Course {
         }
     }
 
-    // And behind a free: one that isn't due leaves the script.
+    // What the worker is at after a free: one that isn't due leaves the script.
     pub(crate) fn after_free(self, outline: &Outline, there: &[bool], empty: bool) -> Course
         ensures at { (held : List ℕ) → empty ≡ is_empty held
             → course_at outline.now result ≡ after_free outline.now there.now held

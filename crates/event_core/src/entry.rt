@@ -1,3 +1,5 @@
+//! An event of a run together with what it carries: bytes or an answer.
+
 use build_core::Event;
 use goal_types::GoalAnswer;
 use mvn_shared::Bytes;

@@ -1,14 +1,14 @@
 // Which names each worker holds, and how.
 ghost use Rattle.std.specs.Prelude.{◌≡◌, ◌<◌, ◌≤◌, ℕ, true, false, List, All, None, Some, [], ◌∷◌, ◌++◌, filter, is_some, length, map, nat_lt, replicate, slice_index_or, slice_set, vec_capacity, IfOk};
 ghost use Rattle.std.specs.List.{list_all};
-ghost use Rattle.name_locks.specs.Locks.{IsSeat, blocker, hold, none_held, with_hold};
+ghost use Rattle.build_core.specs.Locks.{IsSeat, blocker, hold, none_held, with_hold};
 ghost use Rattle.event_core.specs.Causes.{last_of};
-ghost use Rattle.module_scripts.specs.Climbing.{Climbs, but};
-ghost use Rattle.module_scripts.specs.Outlines.{is_empty};
+ghost use Rattle.scripts.specs.Climbing.{Climbs, but};
+ghost use Rattle.scripts.specs.Outlines.{is_empty};
 ghost use Rattle.event_core.specs.Taken.{ends_freed, is_held};
 
+use build_core::{LockTable, Mode};
 use mvn_shared::Mem;
-use name_locks::{LockTable, Mode};
 use std::alloc::Global;
 use std::marker::Model;
 
@@ -21,7 +21,7 @@ pub(crate) struct Holdings {
 
 impl Model for Holdings {
     ghost use Rattle.std.specs.Prelude.{◌<◌, ℕ, All, List, map, vec_capacity};
-    ghost use Rattle.name_locks.specs.Locks.{Holds, names_of};
+    ghost use Rattle.build_core.specs.Locks.{Holds, names_of};
     ghost use Rattle.event_core.specs.Taken.{AreStacks, held_from};
 
     ghost Value = { Holds × List (List ℕ) };

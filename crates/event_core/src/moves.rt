@@ -1,26 +1,25 @@
 // The steps of a build: what an event that may come changes.
 ghost use Rattle.std.specs.Prelude.{◌≡◌, ◌<◌, ℕ, false, true, None, List, [], Some, length, nat_lt, slice_set, slice_index_or, is_some};
 ghost use Rattle.std.specs.List.{list_all};
-ghost use Rattle.name_locks.specs.Locks.{IsSeat, blocker, hold};
-ghost use Rattle.module_scripts.specs.declared.outline.Outline.{Outline};
+ghost use Rattle.build_core.specs.Locks.{IsSeat, blocker, hold};
+ghost use Rattle.scripts.specs.declared.outline.Outline.{Outline};
 ghost use Rattle.event_core.specs.Enabled.{IsEnabled, is_due};
-ghost use Rattle.module_scripts.specs.declared.deed.Deed.TheVariants.{Publish, Take};
+ghost use Rattle.scripts.specs.declared.deed.Deed.TheVariants.{Publish, Take};
 ghost use Rattle.event_core.specs.declared.course.Course.{Course as KeptCourse};
 ghost use Rattle.event_core.specs.declared.course.Course.TheVariants.{Idle};
 ghost use Rattle.event_core.specs.Fitting.{IsFit, IsTied};
 ghost use Rattle.event_core.specs.Holders.{CourseHolds, IsHeldThen};
-ghost use Rattle.module_scripts.specs.Outlines.{is_listed};
-ghost use Rattle.module_progress.specs.HowFar.{is_over, progress_of};
+ghost use Rattle.scripts.specs.Outlines.{is_listed};
+ghost use Rattle.event_core.specs.HowFar.{is_over, progress_of};
 ghost use Rattle.event_core.specs.Standing.{after, after_end, after_freed, after_publish, after_skip, after_start, after_take, closed, course_of, deed_done, held_by, module_of, turned_to};
 ghost use Rattle.event_core.specs.Kept.{IsHolding, course_at, standing_in};
 
 use crate::course::Course;
+use crate::module_steps::Progress;
 use crate::standing::Standing;
-use build_core::{Ending, Event};
-use module_progress::progress::Progress;
-use module_scripts::deed::Deed;
-use module_scripts::outline::Outline;
-use name_locks::Mode;
+use build_core::{Ending, Event, Mode};
+use scripts::deed::Deed;
+use scripts::outline::Outline;
 
 fn set_course(courses: &mut Vec<Course>, at: u32, value: Course)
     ensures { courses.new.items ≡ slice_set courses.old.items at value }

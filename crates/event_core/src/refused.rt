@@ -1,3 +1,5 @@
+//! The causes for which an event may not come now.
+
 use build_core::State;
 
 /// Why an event may not come now: the first that holds, in this order. Project rule.

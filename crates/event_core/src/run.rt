@@ -1,21 +1,21 @@
-// A build, event by event.
+// A build under way: the events so far, and whether one more may come.
 ghost use Rattle.std.specs.Prelude.{◌≡◌, ◌<◌, ◌≤◌, ◌^◌, vec_capacity, [], ◌∷◌, ◌++◌, ◌↔◌, None, Some, find, length, IfErr, IfOk, OnOk};
-ghost use Rattle.name_locks.specs.Locks.{below};
-ghost use Rattle.module_scripts.specs.Bounds.{most_events};
+ghost use Rattle.build_core.specs.Locks.{below};
+ghost use Rattle.scripts.specs.Bounds.{most_events};
 ghost use Rattle.event_core.specs.Causes.{cause_now};
 ghost use Rattle.event_core.specs.Enabled.{Enabled, IsRun};
 ghost use Rattle.event_core.specs.Fitting.{IsFit};
 ghost use Rattle.event_core.specs.Going.{NamesAscend, NeverLocked, NeverWaits};
-ghost use Rattle.module_scripts.specs.Outlines.{outline_of};
-ghost use Rattle.module_scripts.specs.Scripts.{is_there};
-ghost use Rattle.module_progress.specs.HowFar.{is_ready, is_skippable, state_of};
+ghost use Rattle.scripts.specs.Outlines.{outline_of};
+ghost use Rattle.scripts.specs.Scripts.{is_there};
+ghost use Rattle.event_core.specs.HowFar.{is_ready, is_skippable, state_of};
 ghost use Rattle.event_core.specs.Standing.{course_of, is_complete, module_of, standing_of};
 
 use crate::refused::NotEnabled;
 use crate::standing::Standing;
 use build_core::{Event, Plan, State};
-use module_scripts::outline::Outline;
 use mvn_shared::{List, Mem};
+use scripts::outline::Outline;
 use std::alloc::Global;
 use std::marker::Model;
 
@@ -39,7 +39,7 @@ fn note(history: &mut Vec<Event>, event: Event)
 impl Model for Core {
     ghost use Rattle.std.specs.Prelude.{List, vec_capacity};
     ghost use Rattle.build_core.specs.declared.event.Event.{Event};
-    ghost use Rattle.module_scripts.specs.declared.outline.Outline.{Outline};
+    ghost use Rattle.scripts.specs.declared.outline.Outline.{Outline};
     ghost use Rattle.event_core.specs.Kept.{IsCore};
 
     ghost Value = { Outline × List Event };
@@ -122,10 +122,11 @@ impl Core {
         }
     }
 
-    /// A law: where the plan is sound and no worker has left its script, a build never comes to a stand. Behind a worker whose due name
-    /// is excluded by another's hold (`lock`), and where nothing may begin or be skipped and not all is over (`wait`), some other, or
-    /// some, worker has an event that is due and may come. It rests on names being taken in ascending order (`names`, which needs no
-    /// worker on its script). Does nothing. Resolver, "Named Locks"; own as a law.
+    /// A law: where the plan is sound and no worker has left its script, a build never comes to a stand. Where a
+    /// worker's due name is excluded by another's hold (`lock`), some other worker has an event that is due and may
+    /// come; and where nothing may begin or be skipped and not all is over (`wait`), some worker has one. It rests on
+    /// names being taken in ascending order (`names`, which needs no worker on its script). Does nothing. Resolver,
+    /// "Named Locks"; a project rule as a law.
     pub fn never_stuck(&self)
         ensures lock { NeverLocked self.now.0 (standing_of self.now.0 self.now.1) }
         ensures wait { NeverWaits self.now.0 (standing_of self.now.0 self.now.1) }

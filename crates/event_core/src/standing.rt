@@ -1,17 +1,17 @@
 // Where a build stands, and each step of it.
 ghost use Rattle.std.specs.Prelude.{◌≡◌, ◌<◌, ◌^◌, slice_index_or, length, IfOk};
-ghost use Rattle.module_scripts.specs.declared.outline.Outline.{Outline};
-ghost use Rattle.module_progress.specs.Fronts.{upstreams};
+ghost use Rattle.scripts.specs.declared.outline.Outline.{Outline};
+ghost use Rattle.event_core.specs.Fronts.{upstreams};
 ghost use Rattle.event_core.specs.Standing.{at_first, course_of, held_by};
-ghost use Rattle.module_scripts.specs.Outlines.{is_empty};
+ghost use Rattle.scripts.specs.Outlines.{is_empty};
 ghost use Rattle.event_core.specs.declared.course.Course.TheVariants.{Idle};
 ghost use Rattle.event_core.specs.Kept.{IsHolding, course_at, standing_in};
 
 use crate::course::Course;
 use crate::holdings::Holdings;
-use module_progress::modules::Modules;
-use module_scripts::outline::Outline;
+use crate::modules::Modules;
 use mvn_shared::Mem;
+use scripts::outline::Outline;
 use std::alloc::Global;
 
 /// Where a build stands, as a core keeps it: how far each module is, what each worker is at, which names it holds and how, and which files

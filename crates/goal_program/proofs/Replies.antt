@@ -7,11 +7,11 @@ use Rattle.std.proofs.lemmas.Str as text
 use Rattle.std.proofs.lemmas.List.{take_all}
 use Rattle.mvn_shared.specs.Told.{gains, IsCut}
 use Rattle.mvn_shared.proofs.Told.{gains_nothing}
-use Rattle.gate_builtin.specs.Builtin.{builtin}
+use Rattle.gates.specs.Builtin.{builtin}
 use Rattle.goal_types.specs.declared.goal.GoalRequest.{GoalRequest}
 use Rattle.goal_types.specs.Answers.{answer_text}
 use Rattle.goal_types.specs.Lines.{line_of}
-use Rattle.goal_requests.specs.Requests.{most_request, request_in, request_from}
+use Rattle.goal_program.specs.Requests.{most_request, request_in, request_from}
 use Rattle.goal_program.specs.Answering.{reply_to, reply_from}
 use Rattle.goal_program.specs.Running.{Answered, Refused, WritesPart}
 use Rattle.goal_program.proofs.Steps.{whole}

@@ -4,7 +4,7 @@ use Rattle.std.specs.Option.{option_map}
 use Rattle.std.proofs.Math.Seq.{take-add, drop-drop}
 use Rattle.std.proofs.lemmas.List.{take_all}
 use Rattle.std.proofs.lemmas.Bool.Decides.{nat_tests}
-use Rattle.goal_requests.specs.Requests.{most_request}
+use Rattle.goal_program.specs.Requests.{most_request}
 use Rattle.goal_program.specs.Reading.{ReadsMore, ReadsUpTo, most_read}
 
 -- what was read so far of a stream, where it tells its bytes

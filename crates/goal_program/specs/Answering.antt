@@ -1,10 +1,10 @@
 -- What the goal program writes for bytes. Own rule.
 use Rattle.std.specs.Prelude.{ℕ, List, Option, None, option_map, if◌then◌else◌}
 use Rattle.std.specs.Str.{is_utf8}
-use Rattle.gate_builtin.specs.Builtin.{builtin}
+use Rattle.gates.specs.Builtin.{builtin}
 use Rattle.goal_types.specs.Answers.{answer_text}
 use Rattle.goal_types.specs.Lines.{line_of}
-use Rattle.goal_requests.specs.Requests.{request_in, request_from}
+use Rattle.goal_program.specs.Requests.{request_in, request_from}
 
 -- the bytes of the built-in goals' answer to the request that bytes are
 unfoldable pub reply_to : List ℕ → Option (List ℕ)

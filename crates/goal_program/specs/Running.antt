@@ -2,9 +2,9 @@
 use Rattle.std.specs.Prelude.{◌≡◌, ◌⊎◌, ℕ, Bool, true, false, List, Option, None, IsSomeAnd, MatchOption}
 use Rattle.mvn_shared.specs.Cause.{HasRisen}
 use Rattle.mvn_shared.specs.Told.{gains, IsCut}
-use Rattle.gate_builtin.specs.Builtin.{builtin}
+use Rattle.gates.specs.Builtin.{builtin}
 use Rattle.goal_types.specs.Answers.{answer_text}
-use Rattle.goal_requests.specs.Requests.{request_from}
+use Rattle.goal_program.specs.Requests.{request_from}
 
 -- answered, no request, a fault, or want of memory
 abbrev pub IsStatus : ℕ → Type 0

@@ -2,11 +2,11 @@
 ghost use Rattle.std.specs.Prelude.{◌≡◌, option_map, IfOk, IfSome};
 ghost use Rattle.goal_types.specs.Answers.{answer_text};
 ghost use Rattle.goal_types.specs.Goals.{HasOwnSlots};
-ghost use Rattle.gate_builtin.specs.Builtin.{builtin};
+ghost use Rattle.gates.specs.Builtin.{builtin};
 ghost use Rattle.goal_program.specs.Answering.{reply_to};
 
-use gate_builtin::Builtin;
-use goal_requests::read_request;
+use crate::read_request;
+use gates::Builtin;
 use goal_types::{GoalAnswer, GoalRequest, answer_bytes};
 use mvn_outside::Gate;
 use mvn_shared::{Bytes, Mem, OutOfMemory};

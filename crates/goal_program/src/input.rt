@@ -2,11 +2,11 @@
 ghost use Rattle.std.specs.Prelude.{◌≡◌, ◌<◌, nat_le, length, Some, None, IfOk, IfSome, if◌then◌else◌};
 ghost use Rattle.mvn_shared.specs.Cause.{HasCause};
 ghost use Rattle.mvn_outside.specs.Faults.{device_failed};
-ghost use Rattle.goal_requests.specs.Requests.{most_request};
+ghost use Rattle.goal_program.specs.Requests.{most_request};
 ghost use Rattle.goal_program.specs.Reading.{ReadsMore, ReadsUpTo, most_read};
 
-use child_outside::Source;
-use goal_requests::MOST_REQUEST;
+use crate::MOST_REQUEST;
+use children::Source;
 use mvn_outside::DeviceFault;
 use mvn_shared::Bytes;
 use std::alloc::Global;
@@ -14,7 +14,7 @@ use std::alloc::Global;
 /// How many bytes are asked for at a time.
 const PART: usize = 65536;
 
-// Reads once, and puts behind `bytes` what came. Says whether the stream has ended.
+// Reads once, and puts what came after `bytes`. Says whether the stream has ended.
 #[tactic(auto, using(crate::proofs::Steps::read_none, crate::proofs::Steps::read_some))]
 fn read_more<I: Source>(
     input: &mut I,

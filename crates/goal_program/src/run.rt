@@ -1,3 +1,5 @@
+//! The run of the program: a request is read, its answer is written, and a status says how it ended.
+
 ghost use Rattle.std.specs.Prelude.{◌≡◌, ◌==◌, IfOk, IfSome};
 ghost use Rattle.mvn_shared.specs.Cause.{HasCause};
 ghost use Rattle.mvn_outside.specs.Faults.{device_failed};
@@ -7,7 +9,7 @@ ghost use Rattle.goal_program.specs.Running.{IsStatus, Answered, Refused, Writes
 
 use crate::answering::reply_to;
 use crate::input::read_all;
-use child_outside::Source;
+use children::Source;
 use mvn_outside::{DeviceFault, Sink, write_all};
 use mvn_shared::Bytes;
 use std::alloc::Global;

@@ -72,7 +72,7 @@ fn push_spaces(bytes: &mut Vec<u8>, count: u32) -> Mem<()> {
     Ok(())
 }
 
-// An answer with so many spaces behind it.
+// An answer with so many spaces after it.
 fn spaced_answer(alloc: Global, spaces: u32) -> Mem<Vec<u8>> {
     let mut bytes = Vec::from_slice(alloc, "{\"answer\":\"done\"}".as_bytes())?;
     push_spaces(&mut bytes, spaces)?;
@@ -80,7 +80,7 @@ fn spaced_answer(alloc: Global, spaces: u32) -> Mem<Vec<u8>> {
     Ok(bytes)
 }
 
-/// The same of an answer with so many spaces behind it.
+/// The answer that bytes are read as where so many spaces stand after it.
 pub(crate) fn spaced(alloc: Global, count: &str) -> Mem<Bytes> {
     let bytes = spaced_answer(alloc, count.parse::<u32>().unwrap_or(0))?;
     told(alloc, bytes.as_slice())

@@ -2,12 +2,12 @@
 ghost use Rattle.std.specs.Prelude.{IfOk};
 ghost use Rattle.goal_types.specs.Goals.{HasOwnSlots};
 
-use gate_builtin::Builtin;
+use gates::Builtin;
 use goal_types::{GoalAnswer, GoalCall, GoalRequest, Need, Slot, SourceFile};
 use mvn_base::Phase;
 use mvn_outside::{DeviceFault, Gate};
 use mvn_shared::{Bytes, List, Mem, Text};
-use row_values::gav;
+use row_fields::gav;
 use std::alloc::Global;
 
 // The goal surefire:test without settings.

@@ -1,12 +1,14 @@
-//! Rows about goals, each with its answer: their table, what they are asked and what they answer, as bytes. A line of standard input is a
-//! word, which says what is asked for, and fields with a space between two of them, spelled as `row_fields` says; the answer is printed as
-//! one line. In it all bytes but the printed ones of ASCII are spelled `\xNN`. A line that begins with `#` is printed as it stands.
+//! The program `goal_rows` answers rows about goals: their table, what they are asked and what they answer, as bytes.
+//!
+//! A line of standard input is a word, which says what is asked for, and fields with a space between two of them, spelled as
+//! `row_fields` says; the answer is printed as one line. In it all bytes but the printed ones of ASCII are spelled `\xNN`. A line that
+//! begins with `#` is printed as it stands.
 //!
 //! - `goal SLOT PATH BYTES ..`: what the built-in goal surefire:test answers to sources, with an output where the slot is `main`
 //! - `rule GROUP PLUGIN GOAL`: phase, slot and classpath of a goal
-//! - `line BYTES`: the line, and what stands in front of its line feed and behind it
-//! - `written KIND BYTES`: the bytes of an answer; `read BYTES`: the answer that bytes are read as; `spaced N`: the same of an answer with
-//!   so many spaces behind it
+//! - `line BYTES`: the line, and what stands in front of its line feed and after it
+//! - `written KIND BYTES`: the bytes of an answer; `read BYTES`: the answer that bytes are read as; `spaced N`: the same of an answer
+//!   with so many spaces after it
 //! - `request bare`, `request full`: the bytes of a request without lists, and with an item in each
 #![tactic(auto)]
 

@@ -1,4 +1,5 @@
-// A goal's answer as bytes, for goals that run in programs of their own.
+//! A goal's answer as bytes, for goals that run in programs of their own.
+
 ghost use Rattle.std.specs.Prelude.{◌≡◌, ◌==◌, false, unwrap_or, IfOk, IsUtf8, None};
 ghost use Rattle.std.specs.Option.{option_map};
 ghost use Rattle.std.specs.String.{string_bytes};
@@ -42,7 +43,7 @@ fn answer_line(alloc: Global, answer: &GoalAnswer) -> Mem<String>
     Ok(value.to_string(alloc)?)
 }
 
-/// An answer as bytes: one line of compact JSON, and behind it the bytes of an output. Own format. Costs the time and
+/// An answer as bytes: one line of compact JSON, and after it the bytes of an output. Project rule. Costs the time and
 /// memory of what it gives.
 pub fn answer_bytes(alloc: Global, answer: &GoalAnswer) -> Mem<Bytes>
     ensures { IfOk result (λ bytes. bytes ≡ answer_text answer.now) }
@@ -86,7 +87,7 @@ fn has_number(value: &Value, key: &str, number: u64) -> bool
     }
 }
 
-// The answer of a line's value, with what stands behind the line.
+// The answer of a line's value, with what stands after the line.
 #[tactic(auto, unfolding(crate::specs::Answers::answer_of))]
 fn answer_of(alloc: Global, value: &Value, rest: &[u8]) -> Mem<Option<GoalAnswer>>
     ensures { IfOk result (λ found. found ≡ answer_of (view value.now) rest.now) }
@@ -111,8 +112,9 @@ fn answer_of(alloc: Global, value: &Value, rest: &[u8]) -> Mem<Option<GoalAnswer
     Ok(None)
 }
 
-/// The answer that bytes are: a line of at most 65,536 bytes that is JSON with exactly the keys of an answer, and exactly
-/// the bytes of an output of at most `MOST_OUTPUT` bytes. None where they are no answer. Own format. Costs one pass.
+/// The answer that bytes are: a line of at most 65,536 bytes that is JSON with exactly the keys of an answer, and
+/// exactly the bytes of an output of at most `MOST_OUTPUT` bytes. None where they are no answer. Project rule. Costs
+/// one pass.
 #[tactic(auto, unfolding(crate::specs::Answers::answer_in))]
 pub fn read_answer(alloc: Global, bytes: &[u8]) -> Mem<Option<GoalAnswer>>
     // A line that isn't UTF-8 is no answer.

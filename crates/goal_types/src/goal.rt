@@ -1,4 +1,5 @@
-// What a goal is asked and what it answers. Introduction to the Build Lifecycle.
+//! What a goal is asked and what it answers. Introduction to the Build Lifecycle.
+
 ghost use Rattle.std.specs.Prelude.{◌≡◌, IfOk};
 
 use mvn_base::{FileName, Gav, Phase, Setting};

@@ -1,4 +1,5 @@
-// What each of Maven's goals does by default.
+//! What each of Maven's goals does by default.
+
 ghost use Rattle.std.specs.Prelude.{◌≡◌, map, find, unwrap_or};
 ghost use Rattle.std.specs.Option.{option_map};
 ghost use Rattle.goal_types.specs.GoalRules.{goal_rule, is_row, row_view, maven_goals};

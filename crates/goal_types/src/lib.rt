@@ -1,4 +1,5 @@
-//! What a goal is asked and what it answers, their bytes, and what each of Maven's goals does by default.
+//! Defines what a goal is asked and what it answers, how both are written as bytes, and what each of Maven's goals does
+//! by default.
 #![tactic(auto)]
 
 pub mod answer;

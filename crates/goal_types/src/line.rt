@@ -1,4 +1,5 @@
-// The first line of bytes.
+//! The first line of bytes, and what follows it.
+
 ghost use Rattle.std.specs.Prelude.{◌≡◌, ◌≤◌, length};
 ghost use Rattle.std.specs.List.{prefix_len};
 ghost use Rattle.std.specs.Option.{option_map};
@@ -24,7 +25,7 @@ pub fn line_of(bytes: &[u8]) -> &[u8]
     &bytes[..line_len(bytes)]
 }
 
-/// The bytes before the first line feed, and those behind it; none where there is no line feed. Costs one pass over the
+/// The bytes before the first line feed, and those after it; none where there is no line feed. Costs one pass over the
 /// line, no memory.
 pub fn split_line(bytes: &[u8]) -> Option<(&[u8], &[u8])>
     ensures { option_map parts result ≡ split_line bytes.now }

@@ -1,4 +1,5 @@
-// A goal's request as bytes: what a goal in a program of its own reads, and what the built-in goals digest.
+//! A goal's request as bytes: what a goal in a program of its own reads, and what the built-in goals digest.
+
 ghost use Rattle.std.specs.Prelude.{◌≡◌, ◌++◌, List, map, flat_map, codes, IfOk, OnOk};
 ghost use Rattle.std.specs.String.{string_bytes};
 ghost use Rattle.serde_json.specs.Data.{string, put as with_member};
@@ -196,7 +197,7 @@ fn put_configuration(map: &mut Map<String, Value>, alloc: Global, settings: &[Se
     Ok(put(map, alloc, "configuration", values)?)
 }
 
-// The members of a request's line behind `groupId`, the last first.
+// The members of a request's line after `groupId`, the last first.
 fn put_last(
     map: &mut Map<String, Value>,
     alloc: Global,
@@ -250,8 +251,8 @@ fn request_value(alloc: Global, request: &GoalRequest) -> Mem<Value>
     Ok(Value::Object(map))
 }
 
-/// The line that a request begins with: compact JSON, and a line feed. Own format. Costs the time and memory of what it
-/// gives.
+/// The line that a request begins with: compact JSON, and a line feed. Project rule. Costs the time and
+/// memory of what it gives.
 pub fn request_line(alloc: Global, request: &GoalRequest) -> Mem<Bytes>
     ensures { IfOk result (λ line. line ≡ request_line request.now) }
 {
@@ -293,7 +294,7 @@ fn push_entries(bytes: &mut Vec<u8>, entries: &[PathEntry]) -> Mem<()>
 }
 
 /// A goal's request as bytes: one line of compact JSON, a line feed, and the bytes of the sources, of the module's own
-/// outputs and of the entries of the classpath. Own format. Costs the time and memory of what it gives.
+/// outputs and of the entries of the classpath. Project rule. Costs the time and memory of what it gives.
 pub fn request_bytes(alloc: Global, request: &GoalRequest) -> Mem<Bytes>
     requires { HasOwnSlots request.now.own }
     ensures { IfOk result (λ bytes. bytes ≡ request_text request.now) }

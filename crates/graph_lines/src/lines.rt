@@ -1,6 +1,6 @@
 // What lines say of a project and of libraries.
+use crate::MemLibraries;
 use crate::models::{base, build, dependency, gav, model, word};
-use lookup_mem::MemLibraries;
 use model_types::{Build, Dependency, ModelBase};
 use mvn_base::Gav;
 use mvn_shared::{List, Mem, Shared, Text};

@@ -5,8 +5,8 @@ use Rattle.std.proofs.lemmas.Bool.{false≢true}
 use Rattle.mvn_base.specs.declared.key.Key.{Key}
 use Rattle.model_types.specs.declared.plugin.Execution.{Execution}
 use Rattle.model_types.specs.declared.plugin.Plugin.{Plugin}
-use Rattle.keyed_lists.specs.Keyed.{others, overlaid, settled, with_others}
-use Rattle.keyed_lists.specs.Keys.{key_of_plugin}
+use Rattle.model_merge.specs.Keyed.{others, overlaid, settled, with_others}
+use Rattle.model_merge.specs.Keys.{key_of_plugin}
 use Rattle.model_merge.specs.Merging.{merged_plugin}
 use Rattle.inheritance.specs.Placing.{handed_on, inheritable, inherited_plugins, leading}
 use Rattle.inheritance.proofs.Leading.{nothing_behind}

@@ -3,10 +3,10 @@ use Rattle.std.proofs.Common.{◌≡◌, ℕ, suc, length, arith, Bool, true, fa
 use Rattle.std.specs.Option.{option_eq, option_map_or}
 use Rattle.mvn_base.specs.declared.key.Key.{Key}
 use Rattle.model_types.specs.declared.plugin.Plugin.{Plugin}
-use Rattle.keyed_lists.specs.Keyed.{item_of, overlaid, same_key, settled}
-use Rattle.keyed_lists.specs.Keys.{key_of_plugin}
+use Rattle.model_merge.specs.Keyed.{item_of, overlaid, same_key, settled}
+use Rattle.model_merge.specs.Keys.{key_of_plugin}
 use Rattle.model_merge.specs.Merging.{merged_plugin}
-use Rattle.keyed_lists.proofs.UnderKeys.{same_key_is}
+use Rattle.model_merge.proofs.UnderKeys.{same_key_is}
 use Rattle.inheritance.specs.Placing.{inheritable, is_shared, leading, next_shared, placed}
 
 abbrev one_of : Bool → Plugin → List Plugin → List Plugin

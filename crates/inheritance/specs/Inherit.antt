@@ -7,8 +7,8 @@ use Rattle.model_types.specs.declared.build.Sources.{Sources}
 use Rattle.model_types.specs.declared.model.Coordinates.{Coordinates}
 use Rattle.model_types.specs.declared.model.ModelBase.{ModelBase}
 use Rattle.model_types.specs.declared.model.RawModel.{RawModel}
-use Rattle.keyed_lists.specs.Keyed.{with_others}
-use Rattle.keyed_lists.specs.Keys.{key_of_dependency, key_of_extension, key_of_pair}
+use Rattle.model_merge.specs.Keyed.{with_others}
+use Rattle.model_merge.specs.Keys.{key_of_dependency, key_of_extension, key_of_pair}
 use Rattle.model_merge.specs.Stated.{stated_or}
 use Rattle.inheritance.specs.Placing.{inherited_plugins}
 

@@ -1,3 +1,4 @@
+pub mod SuperPom
 pub mod Inherit
 pub mod Others
 pub mod Placing

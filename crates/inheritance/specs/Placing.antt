@@ -5,8 +5,8 @@ use Rattle.std.specs.Option.{option_eq}
 use Rattle.mvn_base.specs.declared.key.Key.{Key}
 use Rattle.model_types.specs.declared.plugin.Execution.{Execution}
 use Rattle.model_types.specs.declared.plugin.Plugin.{Plugin}
-use Rattle.keyed_lists.specs.Keyed.{overlaid, same_key}
-use Rattle.keyed_lists.specs.Keys.{key_of_plugin}
+use Rattle.model_merge.specs.Keyed.{overlaid, same_key}
+use Rattle.model_merge.specs.Keys.{key_of_plugin}
 use Rattle.model_merge.specs.Merging.{merged_plugin, settled_plugins}
 
 -- a parent's plugin as a child takes it over: without the executions that aren't inherited

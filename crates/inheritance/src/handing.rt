@@ -1,9 +1,11 @@
+//! A parent's plugin as its children inherit it: without the executions that aren't inherited.
+
 ghost use Rattle.std.specs.Prelude.{◌≡◌, filter, IfOk};
 ghost use Rattle.std.specs.List.{list_all};
 ghost use Rattle.model_types.specs.declared.plugin.Execution as runs;
 ghost use Rattle.inheritance.specs.Placing.{handed_on};
 
-use keyed_lists::copies;
+use model_merge::copies;
 use model_types::{Dependency, Execution, Plugin};
 use mvn_base::Setting;
 use mvn_shared::{List, Mem, Shared, Text};

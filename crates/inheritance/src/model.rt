@@ -1,11 +1,12 @@
+//! A POM with what it inherits from its parent, part by part.
+
 ghost use Rattle.std.specs.Prelude.{◌≡◌, IfOk};
-ghost use Rattle.keyed_lists.specs.Keyed.{with_others};
-ghost use Rattle.keyed_lists.specs.Keys.{key_of_pair};
+ghost use Rattle.model_merge.specs.Keyed.{with_others};
+ghost use Rattle.model_merge.specs.Keys.{key_of_pair};
 ghost use Rattle.inheritance.specs.Inherit.{inherit, inherit_base, inherit_build, inherit_build_base, inherit_coordinates, inherit_outputs, inherit_sources};
 
 use crate::placing::inherited_plugins;
-use keyed_lists::{Item, settled, with_others};
-use model_merge::{stated, stated_list};
+use model_merge::{Item, settled, stated, stated_list, with_others};
 use model_types::{Build, BuildBase, Coordinates, ModelBase, Outputs, RawModel, Sources};
 use mvn_base::Pair;
 use mvn_shared::{List, Mem, Shared};
@@ -33,7 +34,8 @@ fn inherit_coordinates(
     Shared::new(alloc, both)
 }
 
-// A child's items, and then its parent's whose keys it hasn't, each list settled. A child without one has its parent's alone.
+// A child's items, and then its parent's whose keys it hasn't, each list settled. A child without one has its parent's
+// alone.
 fn taken_over<T: Item>(alloc: Global, child: &[T], parent: &[T]) -> Mem<List<T>>
     ensures { IfOk result (λ list. list ≡ with_others T.key_of child.now parent.now) }
 {
@@ -171,7 +173,8 @@ fn inherit_build(alloc: Global, child: &Build, parent: &Build) -> Mem<Build>
     })
 }
 
-/// A POM with what it takes over from the one that it builds on. Costs both, on the average. POM Reference, "Inheritance".
+/// A POM with what it takes over from the one that it builds on. Costs both, on the average. POM Reference,
+/// "Inheritance".
 #[tactic(auto, unfolding(crate::specs::Inherit::inherit))]
 pub fn inherit(alloc: Global, child: &RawModel, parent: &RawModel) -> Mem<RawModel>
     ensures { IfOk result (λ model. model ≡ inherit child.now parent.now) }

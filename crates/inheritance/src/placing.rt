@@ -1,17 +1,18 @@
+//! The order of a child's plugins among those that it inherits.
+
 ghost use Rattle.std.specs.Prelude.{◌≡◌, List as Items, [], ◌∷◌, ◌++◌, ◌||◌, map, filter, flat_map, Some, None, if◌then◌else◌, IfOk, OnOk};
 ghost use Rattle.std.specs.HashSet.{contains};
 ghost use Rattle.std.specs.List.{list_any};
 ghost use Rattle.mvn_base.specs.declared.key.Key as names;
 ghost use Rattle.model_types.specs.declared.plugin.Plugin as plugins;
-ghost use Rattle.keyed_lists.specs.Keyed.{overlaid, same_key, settled};
-ghost use Rattle.keyed_lists.specs.Keys.{key_of_plugin};
+ghost use Rattle.model_merge.specs.Keyed.{overlaid, same_key, settled};
+ghost use Rattle.model_merge.specs.Keys.{key_of_plugin};
 ghost use Rattle.model_merge.specs.Merging.{merged_plugin, settled_plugins};
 ghost use Rattle.inheritance.specs.Placing.{handed_on, inheritable, inherited_plugins, is_shared, leading, placed};
 ghost use Rattle.inheritance.specs.Others.{Stands, HasKeys, listed};
 
 use crate::handing::handed;
-use keyed_lists::{Keyed, settled};
-use model_merge::{each_settled, merged_over, settled_plugins};
+use model_merge::{Keyed, each_settled, merged_over, settled, settled_plugins};
 use model_types::Plugin;
 use mvn_base::Key;
 use mvn_shared::{List, Mem, Shared};
@@ -59,7 +60,7 @@ struct Others {
     last: Vec<Shared<Plugin>>,
 }
 
-// Plugins, one list behind the other.
+// Plugins, one list after the other.
 fn appended(first: Vec<Shared<Plugin>>, second: Vec<Shared<Plugin>>) -> Mem<Vec<Shared<Plugin>>>
     ensures { IfOk result (λ list. list.items ≡ first.items ++ second.items) }
 {
@@ -146,7 +147,7 @@ fn others_of(alloc: Global, parent: &[Shared<Plugin>], child: List<Shared<Plugin
     Ok(others)
 }
 
-// Copies of plugins, behind a list.
+// Copies of plugins, after a list.
 fn push_copies(list: &mut List<Shared<Plugin>>, plugins: &[Shared<Plugin>]) -> Mem<()>
     ensures { OnOk result (list.new ≡ list.old ++ plugins.now) }
 {
@@ -156,7 +157,7 @@ fn push_copies(list: &mut List<Shared<Plugin>>, plugins: &[Shared<Plugin>]) -> M
     Ok(())
 }
 
-// Copies of what stands under a key, behind a list.
+// Copies of what stands under a key, after a list.
 fn push_listed(
     list: &mut List<Shared<Plugin>>,
     before: &HashMap<Key, Vec<Shared<Plugin>>>,
@@ -170,7 +171,7 @@ fn push_listed(
     }
 }
 
-// A parent's plugin, behind the child's others that stand in front of it.
+// A parent's plugin, after the child's others that stand in front of it.
 fn push_placed(
     alloc: Global,
     list: &mut List<Shared<Plugin>>,
@@ -185,7 +186,7 @@ fn push_placed(
     list.push(plugin)
 }
 
-// A parent's plugins, each behind the child's others that stand in front of it.
+// A parent's plugins, each after the child's others that stand in front of it.
 fn in_place(
     alloc: Global,
     before: &HashMap<Key, Vec<Shared<Plugin>>>,
@@ -218,9 +219,9 @@ fn placed(
     Ok(list)
 }
 
-/// The plugins of a child and of its parent, each settled: in the parent's order those that it passes on, each merged with the child's
-/// of its name, and the child's others in front of the shared one that follows them, or at the end. Costs both, on the average. POM
-/// Reference, "Plugins", of `inherited`; the places are an own rule.
+/// The plugins of a child and of its parent, each settled: in the parent's order those that it passes on, each merged
+/// with the child's of its name, and the child's others in front of the shared one that follows them, or at the end.
+/// Costs both, on the average. POM Reference, "Plugins", of `inherited`; the places are a project rule.
 #[tactic(auto, unfolding(crate::specs::Placing::inherited_plugins), using(crate::proofs::Alone::plugins_alone))]
 pub fn inherited_plugins(
     alloc: Global,

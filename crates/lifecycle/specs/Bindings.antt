@@ -8,8 +8,8 @@ use Rattle.mvn_base.specs.declared.phase.Phase.TheVariants as phase
 use Rattle.mvn_base.specs.Limits.{maven_plugins}
 use Rattle.model_types.specs.declared.plugin.Execution.{Execution}
 use Rattle.model_types.specs.declared.plugin.Plugin.{Plugin}
-use Rattle.keyed_lists.specs.Keyed.{others, overlaid, settled, underlaid}
-use Rattle.keyed_lists.specs.Keys.{key_of_name, key_of_plugin}
+use Rattle.model_merge.specs.Keyed.{others, overlaid, settled, underlaid}
+use Rattle.model_merge.specs.Keys.{key_of_name, key_of_plugin}
 use Rattle.model_merge.specs.Merging.{merged_plugin, settled_plugins}
 use denote.Ref.{Bor}
 

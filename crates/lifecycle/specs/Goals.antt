@@ -10,7 +10,7 @@ use Rattle.goal_types.specs.GoalRules.{goal_rule}
 use Rattle.goal_types.specs.declared.goal.GoalCall.{GoalCall}
 use Rattle.model_types.specs.declared.plugin.Execution.{Execution}
 use Rattle.model_types.specs.declared.plugin.Plugin.{Plugin}
-use Rattle.settings_merge.specs.Configuration.{merged_configuration}
+use Rattle.model_merge.specs.Configuration.{merged_configuration}
 use Rattle.lifecycle.specs.Bindings.{Binding, bindings_of, bound_id}
 
 -- an execution and its plugin

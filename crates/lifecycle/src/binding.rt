@@ -1,14 +1,15 @@
+//! The plugins that a packaging binds, merged with those that a POM declares.
+
 ghost use Rattle.std.specs.Prelude.{◌≡◌, [], ◌∷◌, map, filter, option_map, IfOk};
 ghost use Rattle.std.specs.Str.{bytes_eq};
-ghost use Rattle.keyed_lists.specs.Keyed as keyed;
-ghost use Rattle.keyed_lists.specs.Keyed.{others, overlaid, underlaid};
-ghost use Rattle.keyed_lists.specs.Keys.{key_of_plugin};
+ghost use Rattle.model_merge.specs.Keyed as keyed;
+ghost use Rattle.model_merge.specs.Keyed.{others, overlaid, underlaid};
+ghost use Rattle.model_merge.specs.Keys.{key_of_plugin};
 ghost use Rattle.model_merge.specs.Merging.{merged_plugin, settled_plugins};
 ghost use Rattle.lifecycle.specs.Bindings.{bindings, bound_execution, bound_id, bound_plugin, bound_plugins, bound_to, row_view};
 
 use crate::table::{Row, rows_of};
-use keyed_lists::{appended, others_than, settled};
-use model_merge::{each_settled, merged_over, merged_under};
+use model_merge::{appended, each_settled, merged_over, merged_under, others_than, settled};
 use model_types::{Execution, Plugin};
 use mvn_base::{MAVEN_PLUGINS, Setting};
 use mvn_shared::{List, Mem, Shared, Text};
@@ -56,7 +57,7 @@ fn bound_execution(alloc: Global, row: &Row) -> Mem<Shared<Execution>>
     Shared::new(alloc, execution)
 }
 
-// Those of a plugin.
+// The executions that bindings give to a plugin.
 fn bound_executions(alloc: Global, rows: &[Row], name: &Text) -> Mem<List<Shared<Execution>>>
     ensures { IfOk result (λ list.
         list ≡ map bound_execution
@@ -114,8 +115,9 @@ fn bound_plugins(alloc: Global, rows: &[Row]) -> Mem<List<Shared<Plugin>>>
     Ok(plugins)
 }
 
-/// The plugins that a packaging binds, in the order of its bindings, each with an execution `default-goal` for each goal; none exactly
-/// where the packaging is unknown. Constant cost. Introduction to the Build Lifecycle, "Built-in Lifecycle Bindings".
+/// The plugins that a packaging binds, in the order of its bindings, each with an execution `default-goal` for each
+/// goal; none exactly where the packaging is unknown. Constant cost. Introduction to the Build Lifecycle, "Built-in
+/// Lifecycle Bindings".
 pub fn bindings(alloc: Global, packaging: &Text) -> Mem<Option<List<Shared<Plugin>>>>
     ensures { IfOk result (λ plugins. plugins ≡ bindings packaging.now) }
 {
@@ -155,9 +157,9 @@ fn others_below(
     merged_over(alloc, managed.as_slice(), further)
 }
 
-/// Declared plugins, each in its place and merged as child with the bound one of its name, and then the other bound ones, each merged
-/// as parent with its managed entry; all of them settled. Costs all lists, on the average. Introduction to the Build Lifecycle; the
-/// places are an own rule.
+/// Declared plugins, each in its place and merged as child with the bound one of its name, and then the other bound
+/// ones, each merged as parent with its managed entry; all of them settled. Costs all lists, on the average.
+/// Introduction to the Build Lifecycle; the places are a project rule.
 pub fn bind(
     alloc: Global,
     plugins: &[Shared<Plugin>],

@@ -1,16 +1,18 @@
+//! The call of a goal: its phase, and its configuration over that of its plugin.
+
 ghost use Rattle.std.specs.Prelude.{◌≡◌, ◌++◌, [], unwrap_or, option_to_list, IfOk, OnOk};
 ghost use Rattle.std.specs.List.{list_any};
 ghost use Rattle.std.specs.Str.{bytes_eq};
-ghost use Rattle.settings_merge.specs.Configuration.{merged_configuration};
+ghost use Rattle.model_merge.specs.Configuration.{merged_configuration};
 ghost use Rattle.lifecycle.specs.Bindings.{bound_id, row_view};
 ghost use Rattle.lifecycle.specs.Goals.{call_at, call_in, calls_of, is_bound_by, is_free, is_install, phase_at};
 
 use crate::table::Row;
 use goal_types::{GoalCall, Need, Slot, goal_rule};
+use model_merge::merged_configuration;
 use model_types::{Execution, Plugin};
 use mvn_base::{MAVEN_PLUGINS, Phase, Setting, phase_of};
 use mvn_shared::{List, Mem, Text};
-use settings_merge::merged_configuration;
 use std::alloc::Global;
 
 /// What the id of a bound execution begins with.
@@ -196,7 +198,7 @@ fn call_at(
     Ok(call_of(named, called, phase, rule.slot, rule.need))
 }
 
-// A goal's call, where it ever runs, behind a list.
+// A goal's call, where it ever runs, after a list.
 fn push_call(
     alloc: Global,
     calls: &mut List<GoalCall>,
@@ -219,7 +221,7 @@ fn push_call(
     calls.push(call_at(alloc, plugin, execution, goal, phase)?)
 }
 
-/// The calls of an execution, behind a list.
+/// The calls of an execution, after a list.
 pub(crate) fn push_calls(
     alloc: Global,
     calls: &mut List<GoalCall>,

@@ -1,3 +1,5 @@
+//! The goals of a model up to a phase, in the order in which they run.
+
 ghost use Rattle.std.specs.Prelude.{◌≡◌, ◌++◌, ◌+◌, [], ◌∷◌, nat_eq, map, filter, flat_map, IfOk, OnOk};
 ghost use Rattle.std.specs.List.{list_any};
 ghost use Rattle.mvn_base.specs.Phase.{phase_number};
@@ -24,7 +26,7 @@ pub struct GoalList {
     pub installs: bool,
 }
 
-// The calls of an execution that a binding gives, behind a list.
+// The calls of an execution that a binding gives, after a list.
 fn push_bound_one(
     alloc: Global,
     calls: &mut List<GoalCall>,
@@ -43,7 +45,7 @@ fn push_bound_one(
     push_calls(alloc, calls, plugin, execution)
 }
 
-// Those among a plugin's.
+// The calls that a binding gives among a plugin's executions, after a list.
 #[tactic(auto, using(crate::proofs::Walking::flat_filter))]
 fn push_bound_in(alloc: Global, calls: &mut List<GoalCall>, row: &Row, plugin: &Plugin) -> Mem<()>
     ensures { OnOk result
@@ -56,7 +58,7 @@ fn push_bound_in(alloc: Global, calls: &mut List<GoalCall>, row: &Row, plugin: &
     Ok(())
 }
 
-// Those among all.
+// The calls that a binding gives among all plugins' executions, after a list.
 #[tactic(auto, using(crate::proofs::Walking::flat_filter))]
 fn push_bound(
     alloc: Global,
@@ -74,7 +76,7 @@ fn push_bound(
     Ok(())
 }
 
-// Those of all bindings, in their order.
+// The calls that all bindings give, in their order.
 #[tactic(auto, using(crate::proofs::Walking::flat_more))]
 fn push_all_bound(
     alloc: Global,
@@ -105,7 +107,7 @@ fn is_free(rows: &[Row], plugin: &Plugin, execution: &Execution) -> bool
     true
 }
 
-// The calls of an execution that no binding gives, behind a list.
+// The calls of an execution that no binding gives, after a list.
 fn push_free_one(
     alloc: Global,
     calls: &mut List<GoalCall>,
@@ -124,7 +126,7 @@ fn push_free_one(
     push_calls(alloc, calls, plugin, execution)
 }
 
-// Those among a plugin's.
+// The calls that no binding gives among a plugin's executions, after a list.
 #[tactic(auto, using(crate::proofs::Walking::flat_filter))]
 fn push_free_in(alloc: Global, calls: &mut List<GoalCall>, rows: &[Row], plugin: &Plugin) -> Mem<()>
     ensures { OnOk result
@@ -138,7 +140,7 @@ fn push_free_in(alloc: Global, calls: &mut List<GoalCall>, rows: &[Row], plugin:
     Ok(())
 }
 
-// Those among all.
+// The calls that no binding gives among all plugins' executions, after a list.
 #[tactic(auto, using(crate::proofs::Walking::flat_filter))]
 fn push_free(
     alloc: Global,
@@ -191,7 +193,7 @@ fn copy(call: &GoalCall) -> Mem<GoalCall>
     Ok(call.clone()?)
 }
 
-// The calls of a phase, behind a list.
+// The calls of a phase, after a list.
 fn push_phase(list: &mut List<GoalCall>, calls: &[GoalCall], number: u32) -> Mem<()>
     ensures { OnOk result
         (list.new ≡ list.old
@@ -266,9 +268,10 @@ fn installs(phase: Phase, plugins: &[Shared<Plugin>]) -> bool
     false
 }
 
-/// The goals of a model that run up to a phase, phase by phase: in each the executions that the packaging binds, in the order of its
-/// bindings, and then the others by plugin, execution and goal, each with its execution's configuration over its plugin's. Costs them,
-/// and a look at each goal for each of the 23 phases and for each of at most eight bindings. Introduction to the Build Lifecycle.
+/// The goals of a model that run up to a phase, phase by phase: in each the executions that the packaging binds, in the
+/// order of its bindings, and then the others by plugin, execution and goal, each with its execution's configuration
+/// over its plugin's. Costs them, and a look at each goal for each of the 23 phases and for each of at most eight
+/// bindings. Introduction to the Build Lifecycle.
 #[tactic(auto, unfolding(crate::specs::Goals::calls_through))]
 pub fn goals(alloc: Global, model: &Model, phase: Phase) -> Mem<GoalList>
     ensures calls { IfOk result (λ list.

@@ -1,4 +1,8 @@
-//! Which goals a packaging binds to which phases, and which goals run up to a phase.
+//! Gives the goals that a packaging binds, and those that run up to a phase of the default lifecycle, in their order.
+//!
+//! 1. `table::rows_of` gives the built-in bindings of a packaging.
+//! 2. `binding::bindings` makes plugins of them, and `binding::bind` merges these with the declared and managed ones.
+//! 3. `goal_list::goals` lists the goals that run up to a phase, phase by phase.
 #![tactic(auto)]
 
 mod binding;

@@ -1,4 +1,5 @@
-// Which goals a packaging binds. Introduction to the Build Lifecycle, "Built-in Lifecycle Bindings".
+//! Which goals a packaging binds. Introduction to the Build Lifecycle, "Built-in Lifecycle Bindings".
+
 ghost use Rattle.std.specs.Prelude.{◌≡◌, map, option_map};
 ghost use Rattle.lifecycle.specs.Bindings.{bindings_of, row_view};
 

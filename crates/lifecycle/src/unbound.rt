@@ -1,3 +1,5 @@
+//! The goals of a model that have no phase, by name.
+
 ghost use Rattle.std.specs.Prelude.{◌≡◌, ◌++◌, map, filter, flat_map, if◌then◌else◌, [], ◌∷◌, IfOk, OnOk};
 ghost use Rattle.lifecycle.specs.Goals.{executions_of, is_unbound, unbound, unbound_of, unbound_text};
 
@@ -20,7 +22,7 @@ fn is_unbound(plugin: &Plugin, execution: &Execution, goal: &Text) -> bool
         .is_none()
 }
 
-// How a goal without a phase is told.
+// How a goal without a phase is shown.
 fn unbound_text(alloc: Global, plugin: &Plugin, execution: &Execution, goal: &Text) -> Mem<Text>
     ensures { IfOk result (λ text. text ≡ unbound_text (plugin.now, execution.now) goal.now) }
 {
@@ -29,7 +31,7 @@ fn unbound_text(alloc: Global, plugin: &Plugin, execution: &Execution, goal: &Te
     Ok(Text::of(format!(in alloc; "{artifact}:{goal} {id}")?))
 }
 
-// A goal, behind a list where it has no phase.
+// A goal, after a list where it has no phase.
 fn push_goal(
     alloc: Global,
     list: &mut List<Text>,
@@ -48,7 +50,7 @@ fn push_goal(
     list.push(unbound_text(alloc, plugin, execution, goal)?)
 }
 
-// Those of an execution.
+// The goals of an execution that have no phase.
 fn push_execution(
     alloc: Global,
     list: &mut List<Text>,
@@ -63,7 +65,7 @@ fn push_execution(
     Ok(())
 }
 
-// Those of a plugin.
+// The goals of a plugin that have no phase.
 #[tactic(auto, using(crate::proofs::Walking::flat_more))]
 fn push_plugin(alloc: Global, list: &mut List<Text>, plugin: &Plugin) -> Mem<()>
     ensures { OnOk result (list.new ≡ list.old ++ flat_map unbound_of (executions_of plugin.now)) }
@@ -74,8 +76,8 @@ fn push_plugin(alloc: Global, list: &mut List<Text>, plugin: &Plugin) -> Mem<()>
     Ok(())
 }
 
-/// The goals that have no phase, by plugin, execution and goal, each as `artifact:goal execution`. Costs their texts and a look at each
-/// goal.
+/// The goals that have no phase, by plugin, execution and goal, each as `artifact:goal execution`. Costs their texts
+/// and a look at each goal.
 #[tactic(auto, using(crate::proofs::Walking::flat_more))]
 pub(crate) fn unbound(alloc: Global, plugins: &[Shared<Plugin>]) -> Mem<List<Text>>
     ensures { IfOk result (λ list. list ≡ unbound plugins.now) }

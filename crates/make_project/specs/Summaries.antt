@@ -1,8 +1,8 @@
 -- What is told of a build of the generated project, in place of the report. Project rule.
 use Rattle.std.specs.Prelude.{ℕ, List, ◌++◌, codes}
 use Rattle.std.specs.Fmt.{decimal}
-use Rattle.run_report.specs.declared.row.ReportRow.{ReportRow}
-use Rattle.run_report.specs.Report.{line, total_text}
+use Rattle.report.specs.declared.row.ReportRow.{ReportRow}
+use Rattle.report.specs.Report.{line, total_text}
 
 -- the number of POMs, the line of totals, the entries of all classpaths for tests, and the files in the repository
 unfoldable pub summary_with : (poms : ℕ) → (total : List ℕ) → (entries files : ℕ) → List ℕ

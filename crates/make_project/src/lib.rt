@@ -1,5 +1,11 @@
-//! The generated project: modules of which each stands on another and on a library, of any number, with the remote repository that they
-//! need; and what a build of it tells in place of the report. Project rules.
+//! A project of any size up to 1,024 POMs is generated in memory, with the remote repository that it needs.
+//!
+//! 1. `tree::generated` gives the files of the project: a root, and modules (`poms::module_pom`) each of which
+//!    stands on another and on a library.
+//! 2. `repository::remote_files` gives the files of the libraries.
+//! 3. `told::summary` gives what a build of it tells in place of the report.
+//!
+//! All of this is a project rule.
 #![tactic(auto)]
 
 mod poms;

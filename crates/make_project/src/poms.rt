@@ -39,7 +39,7 @@ fn push_dependency(alloc: Global, out: &mut Vec<u8>, group: &str, artifact: &str
     push_element(out, "dependency", &named)
 }
 
-// A POM with this content behind the version of the model.
+// A POM with this content after the version of the model.
 fn pom(alloc: Global, content: &[u8]) -> Mem<Bytes>
     ensures { IfOk result (λ bytes. bytes ≡ pom content.now) }
 {

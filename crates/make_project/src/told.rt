@@ -1,64 +1,14 @@
 // What is told of a build of the generated project.
 ghost use Rattle.std.specs.Prelude.{◌≡◌, ◌++◌, IfOk, OnOk};
 ghost use Rattle.std.specs.Fmt.{decimal};
-ghost use Rattle.std.specs.String.{string_bytes};
-ghost use Rattle.run_report.specs.Report.{count_of, is_built, is_failed, is_skipped, line, total_text};
+ghost use Rattle.report.specs.Report.{line};
 ghost use Rattle.make_project.specs.Summaries.{summary_text, summary_with};
 
 use mvn_shared::{Bytes, Mem};
-use run_report::{ReportRow, RowEnd};
+use report::{ReportRow, total_line};
 use std::alloc::Global;
 
-fn count_built(rows: &[ReportRow]) -> usize
-    ensures { result ≡ count_of is_built rows.now }
-{
-    let mut count = 0;
-    for row in rows {
-        if let RowEnd::Built = row.end {
-            count += 1;
-        }
-    }
-    count
-}
-
-fn count_skipped(rows: &[ReportRow]) -> usize
-    ensures { result ≡ count_of is_skipped rows.now }
-{
-    let mut count = 0;
-    for row in rows {
-        if let RowEnd::Skipped(_) = row.end {
-            count += 1;
-        }
-    }
-    count
-}
-
-fn count_failed(rows: &[ReportRow]) -> usize
-    ensures { result ≡ count_of is_failed rows.now }
-{
-    let mut count = 0;
-    for row in rows {
-        match row.end {
-            RowEnd::Built | RowEnd::Skipped(_) => {}
-            _ => count += 1,
-        }
-    }
-    count
-}
-
-// The line of totals, as the report has it.
-#[tactic(auto, unfolding(run_report::specs::Report::total_text))]
-fn total_line(alloc: Global, rows: &[ReportRow]) -> Mem<String>
-    ensures { IfOk result (λ text. string_bytes text ≡ total_text rows.now) }
-{
-    let total = rows.len();
-    let built = count_built(rows);
-    let failed = count_failed(rows);
-    let skipped = count_skipped(rows);
-    Ok(format!(in alloc; "total {total} built {built} failed {failed} skipped {skipped}\n")?)
-}
-
-// A line with a label and a number behind it.
+// A line with a label and a number after it.
 fn push_line(alloc: Global, text: &mut Vec<u8>, label: &str, number: u64) -> Mem<()>
     ensures { OnOk result (text.new.items ≡ text.old.items ++ line (label.now ++ decimal number)) }
 {

@@ -7,8 +7,8 @@ use Rattle.std.proofs.lemmas.Bool.{false≢true}
 use Rattle.indexmap.specs.IndexSet.{insert_key}
 use Rattle.mvn_base.specs.declared.key.Key.{Key}
 use Rattle.model_types.specs.declared.dependency.Dependency.{Dependency}
-use Rattle.keyed_lists.specs.Keyed.{keyed}
-use Rattle.keyed_lists.proofs.UnderKeys.{find_keyed, same_key_is, values_keyed}
+use Rattle.model_merge.specs.Keyed.{keyed}
+use Rattle.model_merge.proofs.UnderKeys.{find_keyed, same_key_is, values_keyed}
 use Rattle.managed_deps.specs.Managed.{add, find_entry, find_pair, first_of_each, key_of, same_key}
 
 -- a pair's answer, behind the answer of those before it

@@ -1,7 +1,7 @@
 -- Which dependency is managed under a key, and what a declaration takes from it. Introduction to the Dependency Mechanism,
 -- "Dependency Management".
-pub use Rattle.keyed_lists.specs.Keyed.{same_key}
-pub use Rattle.keyed_lists.specs.Keys.{key_of_dependency as key_of}
+pub use Rattle.model_merge.specs.Keyed.{same_key}
+pub use Rattle.model_merge.specs.Keys.{key_of_dependency as key_of}
 use Rattle.std.specs.Prelude.{ℕ, Bool, false, not, List, [], ◌∷◌, ◌++◌, map, flat_map, filter, fold, codes, Option, Some, None, is_some, if◌then◌else◌}
 use Rattle.std.specs.Map.{lookup}
 use Rattle.std.specs.Option.{option_or}
@@ -10,8 +10,8 @@ use Rattle.mvn_base.specs.declared.key.Key.{Key}
 use Rattle.model_types.specs.declared.dependency.Dependency.{Dependency}
 use Rattle.model_types.specs.declared.dependency.Exclusion.{Exclusion}
 use Rattle.model_types.specs.declared.plugin.Plugin.{Plugin}
-use Rattle.keyed_lists.specs.Keyed.{underlaid}
-use Rattle.keyed_lists.specs.Keys.{key_of_plugin}
+use Rattle.model_merge.specs.Keyed.{underlaid}
+use Rattle.model_merge.specs.Keys.{key_of_plugin}
 use Rattle.model_merge.specs.Merging.{merged_plugin, settled_plugins}
 
 -- an entry that stands for what another POM manages

@@ -1,10 +1,11 @@
+//! Declared dependencies and plugins with what is managed for them.
+
 ghost use Rattle.std.specs.Prelude.{◌≡◌, map, Some, IfOk};
 ghost use Rattle.std.specs.Option.{option_copied, option_or};
 ghost use Rattle.managed_deps.specs.Managed.{apply_one, apply_plugins, exclusions_of, find_pair, key_of, with_managed};
 
 use crate::set::ManagedSet;
-use keyed_lists::Keyed;
-use model_merge::{each_settled, merged_under, settled_plugins, stated};
+use model_merge::{Keyed, each_settled, merged_under, settled_plugins, stated};
 use model_types::{Dependency, Exclusion, Plugin};
 use mvn_base::Key;
 use mvn_shared::{List, Mem, Shared, Text};
@@ -96,7 +97,7 @@ fn with_managed(alloc: Global, own: &Dependency, managed: &Dependency) -> Mem<De
     Ok(declared(key, taken))
 }
 
-// So of one that is shared.
+// A shared declaration with what it takes from a managed one.
 fn replaced(alloc: Global, own: &Dependency, managed: &Dependency) -> Mem<Shared<Dependency>>
     ensures { IfOk result (λ value. value ≡ with_managed own.now (Some managed.now)) }
 {
@@ -131,9 +132,9 @@ fn applied(
     }
 }
 
-/// Declarations, each with the version, the scope and the exclusions that are managed under its key where it states none. `optional`
-/// isn't managed. Costs a look-up each, and the texts of those that are managed; the others are shared. Introduction to the
-/// Dependency Mechanism, "Dependency Management".
+/// Declarations, each with the version, the scope and the exclusions that are managed under its key where it states
+/// none. `optional` isn't managed. Costs a look-up each, and the texts of those that are managed; the others are
+/// shared. Introduction to the Dependency Mechanism, "Dependency Management".
 pub fn apply(
     alloc: Global,
     dependencies: &[Shared<Dependency>],
@@ -148,8 +149,8 @@ pub fn apply(
     Ok(list)
 }
 
-/// Plugins, each merged as child with the managed one of its name, all of them settled; of equal names in one list the later counts.
-/// Costs both, on the average. POM Reference, "Plugin Management".
+/// Plugins, each merged as child with the managed one of its name, all of them settled; of equal names in one list the
+/// later counts. Costs both, on the average. POM Reference, "Plugin Management".
 pub fn apply_plugins(
     alloc: Global,
     plugins: &[Shared<Plugin>],

@@ -1,3 +1,5 @@
+//! A managed dependency as a row of a table, found by its key.
+
 ghost use Rattle.std.specs.Prelude.{◌≡◌};
 ghost use Rattle.managed_deps.specs.Managed.{key_of, same_key};
 
@@ -67,7 +69,7 @@ impl Eq for Row {
 impl Hash for Row {
     ghost use Rattle.std.proofs.Common.{ap};
     ghost use Rattle.managed_deps.specs.Managed.{key_of};
-    ghost use Rattle.keyed_lists.proofs.UnderKeys.{same_key_is};
+    ghost use Rattle.model_merge.proofs.UnderKeys.{same_key_is};
 
     ghost hash_input = { λ d. ⟦<Key as Hash>⟧.hash_input (key_of d) };
 
@@ -86,7 +88,7 @@ impl Equivalent<Row> for &Key {
     ghost use Rattle.std.proofs.Common.{ap};
     ghost use Rattle.managed_deps.specs.Keys.{same_key_equiv};
     ghost use Rattle.managed_deps.specs.Managed.{key_of, same_key};
-    ghost use Rattle.keyed_lists.proofs.UnderKeys.{same_key_is};
+    ghost use Rattle.model_merge.proofs.UnderKeys.{same_key_is};
 
     ghost equivalent = { λ key d. same_key key.now (key_of d) };
 

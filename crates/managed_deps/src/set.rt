@@ -1,6 +1,8 @@
+//! `ManagedSet`: managed dependencies, the first entry of each key.
+
 ghost use Rattle.std.specs.Prelude.{◌≡◌, [], map, find, fold, IfOk, OnOk};
 ghost use Rattle.std.specs.Option.{option_copied};
-ghost use Rattle.keyed_lists.specs.Keyed.{keyed};
+ghost use Rattle.model_merge.specs.Keyed.{keyed};
 ghost use Rattle.mvn_base.specs.declared.key.Key as keys;
 ghost use Rattle.managed_deps.specs.Managed.{add, all_entries, find_entry, find_pair, first_of_each, is_import, key_of, own_entries, same_key};
 
@@ -21,7 +23,7 @@ pub struct ManagedSet {
 impl Model for ManagedSet {
     ghost use Rattle.std.specs.Prelude as logic;
     ghost use Rattle.std.specs.Coded.{coded_list};
-    ghost use Rattle.keyed_lists.specs.Keyed.{keyed};
+    ghost use Rattle.model_merge.specs.Keyed.{keyed};
     ghost use Rattle.mvn_base.specs.declared.key.Key as keys;
     ghost use Rattle.managed_deps.specs.Managed.{key_of};
     ghost use Rattle.model_types.specs.declared.dependency.Dependency as dependencies;
@@ -79,7 +81,7 @@ fn entries_of(alloc: Global, rows: &[Row]) -> Mem<List<Shared<Dependency>>>
 }
 
 impl ManagedSet {
-    // Nothing is managed yet, with room for a number.
+    // An empty set, with room for a number of entries.
     fn with_room(alloc: Global, room: usize) -> Mem<ManagedSet>
         ensures { IfOk result (λ set. set ≡ []) }
     {
@@ -87,8 +89,8 @@ impl ManagedSet {
         Ok(ManagedSet { rows })
     }
 
-    /// What is managed under a key. Constant time on the average, besides the key, and without it where nothing is managed; takes
-    /// no memory.
+    /// What is managed under a key. Constant time on the average, besides the key, and without it where nothing is
+    /// managed; takes no memory.
     #[tactic(auto, using(crate::proofs::Entries::nothing))]
     pub fn find(&self, key: &Key) -> Option<&Shared<Dependency>>
         ensures { option_copied result ≡ find_pair self.now key.now }
@@ -126,7 +128,7 @@ fn add_all(set: &mut ManagedSet, entries: &[Shared<Dependency>]) -> Mem<()>
     Ok(())
 }
 
-// So of those that are no imports.
+// The entries that are no imports, each where none is there under its key.
 fn add_own(set: &mut ManagedSet, entries: &[Shared<Dependency>]) -> Mem<()>
     ensures { OnOk result (set.new ≡ fold add set.old (own_entries entries.now)) }
 {
@@ -154,9 +156,9 @@ fn firsts(
     Ok(set)
 }
 
-/// What is managed: the first entry of each key among the own ones without their imports, and then those of the imports in order.
-/// Costs their number and keys, on the average; the entries are shared. Introduction to the Dependency Mechanism, "Importing
-/// Dependencies".
+/// What is managed: the first entry of each key among the own ones without their imports, and then those of the imports
+/// in order. Costs their number and keys, on the average; the entries are shared. Introduction to the Dependency
+/// Mechanism, "Importing Dependencies".
 pub fn managed(
     alloc: Global,
     own: &[Shared<Dependency>],

@@ -5,13 +5,13 @@ use Rattle.std.specs.Prelude.{codes, nat_lt, OnOk}
 use Rattle.std.proofs.lemmas.List.Elements.{All-push}
 use Rattle.mvn_base.specs.declared.rule.Rule.TheVariants.{GraphTooLarge}
 use Rattle.collector.specs.declared.edge.Edge.{Edge}
-use Rattle.library_lookup.specs.declared.fault.MediationFault.{MediationFault}
-use Rattle.library_lookup.specs.declared.fault.MediationFault.TheVariants.{Refused, Lookup, Memory}
+use Rattle.mediation.specs.declared.fault.MediationFault.{MediationFault}
+use Rattle.mediation.specs.declared.fault.MediationFault.TheVariants.{Refused, Lookup, Memory}
 use Rattle.mediation.specs.declared.winner.Winner.{Winner}
-use Rattle.library_lookup.specs.Faults.{Reason, Says}
-use Rattle.library_lookup.specs.Libraries.{Libraries, chosen, gav_of, most_winners, picked}
+use Rattle.mediation.specs.Faults.{Reason, Says}
+use Rattle.mediation.specs.Libraries.{Libraries, chosen, gav_of, most_winners, picked}
 use Rattle.mediation.specs.Rows.{Adds, Grows, IsPicked, Leads, first_reason, paths_of, reason, reason_at, row_of, won_by}
-use Rattle.winner_law.specs.Winners.{Path, firsts, is_won, winner_of}
+use Rattle.collector.specs.Winners.{Path, firsts, is_won, winner_of}
 use Rattle.mediation.proofs.Paths.{above_is, has_path, length_paths, path_more}
 
 firsts_joined : (won xs ys : List Path) → firsts won (xs ++ ys) ≡ firsts won xs ++ firsts (won ++ firsts won xs) ys

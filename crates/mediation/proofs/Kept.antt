@@ -5,11 +5,11 @@ use Rattle.std.specs.List.{list_any, position_or_len}
 use Rattle.std.proofs.lemmas.Bool.{false≢true}
 use Rattle.std.proofs.lemmas.List.Folds.{find_at}
 use Rattle.indexmap.specs.IndexSet.{insert_key}
-use Rattle.keyed_lists.specs.Keyed.{same_key}
+use Rattle.model_merge.specs.Keyed.{same_key}
 use Rattle.mvn_base.specs.declared.key.Key.{Key}
 use Rattle.mediation.specs.declared.winner.Winner.{Winner}
 use Rattle.mediation.specs.Rows.{place_of, row_of}
-use Rattle.library_lookup.specs.Libraries.{most_winners}
+use Rattle.mediation.specs.Libraries.{most_winners}
 
 -- where a test has a first place, what it finds stands there
 found_there : (p : Winner → Bool) (rows : List Winner) (b : Bool) → IfSome (cond b (Some (position_or_len p rows)) None) (λ i. slice_get rows i ≡ find p rows)

@@ -4,12 +4,12 @@ use Rattle.std.specs.Option.{option_or, option_to_list}
 use Rattle.std.proofs.lemmas.List.{drop_all}
 use Rattle.std.proofs.lemmas.List.Elements.{All-nil}
 use Rattle.collector.specs.declared.edge.Edge.{Edge}
-use Rattle.library_lookup.specs.declared.fault.MediationFault.{MediationFault}
-use Rattle.library_lookup.specs.declared.fault.MediationFault.TheVariants.{Refused, Lookup, Memory}
+use Rattle.mediation.specs.declared.fault.MediationFault.{MediationFault}
+use Rattle.mediation.specs.declared.fault.MediationFault.TheVariants.{Refused, Lookup, Memory}
 use Rattle.mediation.specs.declared.winner.Winner.{Winner}
-use Rattle.library_lookup.specs.Libraries.{Libraries}
+use Rattle.mediation.specs.Libraries.{Libraries}
 use Rattle.mediation.specs.Rows.{Adds, Grows, IsPicked, IsWhole, Resolves, first_reason, paths_of}
-use Rattle.winner_law.specs.Winners.{Graph, Path, firsts, level, longer, winners}
+use Rattle.collector.specs.Winners.{Graph, Path, firsts, level, longer, winners}
 use Rattle.mediation.proofs.Growing.{reasons_behind}
 use Rattle.mediation.proofs.Paths.{length_paths}
 

@@ -1,3 +1,6 @@
+pub mod Greatest
+pub mod Telling
+pub mod Unmanaged
 pub mod Kept
 pub mod Paths
 pub mod Growing

@@ -6,18 +6,18 @@ use Rattle.collector.specs.Edges.{direct_edges}
 use Rattle.collector.specs.declared.edge.Edge.{Edge}
 use Rattle.model_types.specs.declared.dependency.Dependency.{Dependency}
 use Rattle.mvn_base.specs.declared.key.Key.{Key}
-use Rattle.keyed_lists.specs.Keyed.{same_key}
+use Rattle.model_merge.specs.Keyed.{same_key}
 use Rattle.mediation.specs.declared.winner.Winner.{Winner}
 use Rattle.mediation.specs.Counting.{Counts, IsMediated, Wins}
-use Rattle.library_lookup.specs.Faults.{Reason}
-use Rattle.library_lookup.specs.Libraries.{Libraries, declarations, gav_of, graph_of, leads_to, picked}
+use Rattle.mediation.specs.Faults.{Reason}
+use Rattle.mediation.specs.Libraries.{Libraries, declarations, gav_of, graph_of, leads_to, picked}
 use Rattle.mediation.specs.Rows.{IsWhole, paths_of}
-use Rattle.winner_law.specs.Winners.{Ascends, Graph, IsAtMost, IsOrdered, Path, SharesNone, counting, ends_at, is_won, level, longer, next_edges, winner_of, winners}
-use Rattle.winner_law.proofs.Apart.{one_winner}
-use Rattle.winner_law.proofs.Ascends.{least}
-use Rattle.winner_law.proofs.Direct.{direct_stands}
-use Rattle.winner_law.proofs.Firsts.{first_counts}
-use Rattle.winner_law.proofs.Positions.{direct_ascends, transitive_ascends}
+use Rattle.collector.specs.Winners.{Ascends, Graph, IsAtMost, IsOrdered, Path, SharesNone, counting, ends_at, is_won, level, longer, next_edges, winner_of, winners}
+use Rattle.collector.proofs.Apart.{one_winner}
+use Rattle.collector.proofs.Ascends.{least}
+use Rattle.collector.proofs.Direct.{direct_stands}
+use Rattle.collector.proofs.Firsts.{first_counts}
+use Rattle.collector.proofs.Positions.{direct_ascends, transitive_ascends}
 use Rattle.mediation.proofs.Within.{IsIn, counts_next, found_alone, found_in, in_from, in_to, level_front, level_of, level_wins, same_self, winners_kept}
 
 find_any : (test : Path → Bool) (xs : List Path) (k : ℕ) (d : Path) → k < length xs → test (slice_index_or xs k d) ≡ true → is_some (find test xs) ≡ true

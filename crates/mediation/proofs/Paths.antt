@@ -2,13 +2,13 @@
 use Rattle.std.proofs.Common.{◌≡◌, ◌≤◌, ◌<◌, drop, get_or, ℕ, zero, suc, ◌+◌, Bool, true, false, ◌||◌, List, [], ◌∷◌, ◌++◌, fold, length, slice_get, Option, Some, None, is_some, unwrap_or, refl, sym, ap, ◌∙◌, cond, arith, length-append}
 use Rattle.std.specs.Option.{option_or}
 use Rattle.std.proofs.lemmas.List.{drop_all, drop_more}
-use Rattle.keyed_lists.specs.Keyed.{same_key}
+use Rattle.model_merge.specs.Keyed.{same_key}
 use Rattle.mvn_base.specs.declared.key.Key.{Key}
 use Rattle.collector.specs.declared.edge.Edge.{Edge}
 use Rattle.mediation.specs.declared.winner.Winner.{Winner}
 use Rattle.mediation.specs.Rows.{Leads, add_path, path_above, paths_of, row_of}
-use Rattle.winner_law.specs.Winners.{Path, winner_of}
-use Rattle.winner_law.proofs.Firsts.{found_behind}
+use Rattle.collector.specs.Winners.{Path, winner_of}
+use Rattle.collector.proofs.Firsts.{found_behind}
 
 folded : (paths : List Path) (rows : List Winner) (w : Winner) → fold add_path paths (rows ++ w ∷ []) ≡ add_path (fold add_path paths rows) w
 folded paths [] w = refl

@@ -8,13 +8,13 @@ use Rattle.std.proofs.lemmas.Option.{get_or_from_slice_get, slice_get_past, slic
 use Rattle.model_types.specs.declared.dependency.Dependency.{Dependency}
 use Rattle.mvn_base.specs.declared.key.Key.{Key}
 use Rattle.collector.specs.declared.edge.Edge.{Edge}
-use Rattle.library_lookup.specs.declared.fault.MediationFault.{MediationFault}
+use Rattle.mediation.specs.declared.fault.MediationFault.{MediationFault}
 use Rattle.mediation.specs.declared.winner.Winner.{Winner}
-use Rattle.library_lookup.specs.Faults.{Reason}
+use Rattle.mediation.specs.Faults.{Reason}
 use Rattle.collector.specs.Edges.{transitive_edges}
-use Rattle.library_lookup.specs.Libraries.{Libraries, declarations, graph_of, leads_to, picked}
+use Rattle.mediation.specs.Libraries.{Libraries, declarations, graph_of, leads_to, picked}
 use Rattle.mediation.specs.Rows.{Adds, Grows, IsPicked, Leads, add_path, edges_below, path_above, paths_of}
-use Rattle.winner_law.specs.Winners.{Graph, Path, firsts, longer}
+use Rattle.collector.specs.Winners.{Graph, Path, firsts, longer}
 use Rattle.mediation.proofs.Paths.{got_more, length_more, length_paths}
 use Rattle.mediation.proofs.Growing.{add_more, refused_early, same_rows}
 use Rattle.mediation.proofs.Lengths.{next_drop}

@@ -5,7 +5,7 @@ use Rattle.std.proofs.lemmas.Bool.{false≢true}
 use Rattle.std.proofs.lemmas.Bool.Decides.{nat_tests}
 use Rattle.std.proofs.lemmas.Grind.{flat_map-append}
 use Rattle.std.proofs.lemmas.List.{take_more}
-use Rattle.keyed_lists.specs.Keyed.{same_key}
+use Rattle.model_merge.specs.Keyed.{same_key}
 use Rattle.mvn_base.specs.declared.key.Key.{Key}
 use Rattle.collector.specs.declared.edge.Edge.{Edge}
 use Rattle.mediation.specs.declared.winner.Winner.{Winner}

@@ -5,8 +5,8 @@ use Rattle.std.proofs.lemmas.List.Elements.{All-contains, Contains-append_left, 
 use Rattle.std.proofs.lemmas.Slice.Eq.{bytes_eq-Decides}
 use Rattle.collector.specs.declared.edge.Edge.{Edge}
 use Rattle.mvn_base.specs.declared.key.Key.{Key}
-use Rattle.keyed_lists.specs.Keyed.{same_key}
-use Rattle.winner_law.specs.Winners.{Graph, Path, SharesNone, ends_at, firsts, is_won, level, longer, next_edges, shares_end, winner_of, winners}
+use Rattle.model_merge.specs.Keyed.{same_key}
+use Rattle.collector.specs.Winners.{Graph, Path, SharesNone, ends_at, firsts, is_won, level, longer, next_edges, shares_end, winner_of, winners}
 
 -- an item stands in a list
 abbrev pub IsIn : {A : Type 0} → List A → A → Type 0

@@ -3,7 +3,7 @@
 use Rattle.std.specs.Prelude.{◌≡◌, true, List, [], ◌∷◌, Contains, Some}
 use Rattle.std.specs.Bool.{⊤}
 use Rattle.mvn_base.specs.declared.key.Key.{Key}
-use Rattle.winner_law.specs.Winners.{Graph, IsAtMost, Path, SharesNone, is_won, next_edges, winner_of}
+use Rattle.collector.specs.Winners.{Graph, IsAtMost, Path, SharesNone, is_won, next_edges, winner_of}
 
 -- a path is the project alone, or the winner of its key
 abbrev pub Wins : List Path → Path → Type 0

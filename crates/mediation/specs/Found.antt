@@ -1,11 +1,11 @@
 -- What is found of a project: its winners with what is declared, or the first refusal.
 use Rattle.std.specs.Prelude.{List, Result, Ok, Err}
-use Rattle.library_lookup.specs.declared.fault.MediationFault.{MediationFault}
+use Rattle.mediation.specs.declared.fault.MediationFault.{MediationFault}
 use Rattle.mediation.specs.declared.levels.DependencyGraph.{DependencyGraph}
 use Rattle.mediation.specs.declared.winner.Winner.{Winner}
-use Rattle.library_lookup.specs.Libraries.{Libraries}
+use Rattle.mediation.specs.Libraries.{Libraries}
 use Rattle.mediation.specs.Rows.{Resolves}
-use Rattle.winner_law.specs.Winners.{Graph}
+use Rattle.collector.specs.Winners.{Graph}
 
 -- the winners alone
 abbrev pub winners_in : Result DependencyGraph MediationFault → Result (List Winner) MediationFault

@@ -1,3 +1,7 @@
+pub mod Faults
+pub mod Libraries
+pub mod Telling
+pub mod Jars
 pub mod Rows
 pub mod Found
 pub mod Counting

@@ -1,17 +1,17 @@
 -- Winners as they are kept: each with its edge, its version and the place of the winner that it stands below.
 use Rattle.std.specs.Prelude.{◌≡◌, ◌≤◌, ℕ, suc, List, [], ◌∷◌, ◌++◌, fold, find, length, map, position, slice_get, unwrap_or, Option, Some, None, Result, Ok, Err, All}
 use Rattle.std.specs.Option.{option_or}
-use Rattle.keyed_lists.specs.Keyed.{same_key}
+use Rattle.model_merge.specs.Keyed.{same_key}
 use Rattle.mvn_base.specs.declared.key.Key.{Key}
 use Rattle.model_types.specs.declared.dependency.Dependency.{Dependency}
 use Rattle.collector.specs.Edges.{transitive_edges}
 use Rattle.collector.specs.declared.edge.Edge.{Edge}
 use Rattle.mediation.specs.declared.winner.Winner.{Winner}
-use Rattle.library_lookup.specs.declared.fault.MediationFault.{MediationFault}
-use Rattle.library_lookup.specs.declared.fault.MediationFault.TheVariants.{Refused, Lookup, Memory}
-use Rattle.library_lookup.specs.Faults.{Reason}
-use Rattle.library_lookup.specs.Libraries.{Libraries, chosen, declarations, gav_of, picked}
-use Rattle.winner_law.specs.Winners.{Graph, Path, firsts, winners}
+use Rattle.mediation.specs.declared.fault.MediationFault.{MediationFault}
+use Rattle.mediation.specs.declared.fault.MediationFault.TheVariants.{Refused, Lookup, Memory}
+use Rattle.mediation.specs.Faults.{Reason}
+use Rattle.mediation.specs.Libraries.{Libraries, chosen, declarations, gav_of, picked}
+use Rattle.collector.specs.Winners.{Graph, Path, firsts, winners}
 
 -- the winner of a key
 abbrev pub row_of : List Winner → Key → Option Winner

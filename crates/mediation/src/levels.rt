@@ -1,21 +1,23 @@
+//! The search for winners through the dependency graph, level by level.
+
 ghost use Rattle.std.specs.Prelude.{◌≡◌, ◌*◌, ◌<◌, ◌≤◌, ◌∷◌, ◌++◌, [], None, Some, drop, take, length, map, flat_map, slice_get, Ok, All, nat_lt, IfOk, OnOk, if◌then◌else◌};
 ghost use Rattle.std.specs.Prelude as logic;
 ghost use Rattle.std.specs.Option.{option_to_list};
 ghost use Rattle.mvn_shared.specs.Cause.{HasCause};
 ghost use Rattle.model_types.specs.declared.dependency.Dependency as dependencies;
-ghost use Rattle.library_lookup.specs.Faults.{Says, is_faulty};
+ghost use Rattle.mediation.specs.Faults.{Says, is_faulty};
 ghost use Rattle.collector.specs.Edges.{direct_edges, transitive_edges};
 ghost use Rattle.collector.specs.declared.edge.Edge as edge_rows;
 ghost use Rattle.mediation.specs.declared.winner.Winner as rows;
-ghost use Rattle.library_lookup.specs.Telling.{TellsOn};
-ghost use Rattle.library_lookup.specs.Libraries.{Libraries, declarations, gav_of, graph_of, most_winners};
+ghost use Rattle.mediation.specs.Telling.{TellsOn};
+ghost use Rattle.mediation.specs.Libraries.{Libraries, declarations, gav_of, graph_of, most_winners};
 ghost use Rattle.mediation.specs.Rows.{Adds, ArePlaced, IsPicked, IsPrefix, Leads, Resolves, edges_below, paths_of, place_of, row_of, won_by};
 ghost use Rattle.mediation.specs.Found.{ResolvesGraph, left_in};
-ghost use Rattle.winner_law.specs.Winners.{Path, longer};
+ghost use Rattle.collector.specs.Winners.{Path, longer};
 
 use crate::winner::{Winner, Winners};
+use crate::{Known, Lookup, MOST_WINNERS, MediationFault, ask_model, chosen};
 use collector::{Edge, Exclusions, direct_edges};
-use library_lookup::{Known, Lookup, MOST_WINNERS, MediationFault, ask_model, chosen};
 use managed_deps::ManagedSet;
 use model_types::Dependency;
 use mvn_base::{Gav, Key};
@@ -97,7 +99,7 @@ fn add_winner<L: Lookup>(
 }
 
 // One declaration of a key that has no winner, which wins.
-#[tactic(auto, using(library_lookup::proofs::Telling::untold, library_lookup::proofs::Telling::told_both, crate::proofs::Prefixes::whole))]
+#[tactic(auto, using(crate::proofs::Telling::untold, crate::proofs::Telling::told_both, crate::proofs::Prefixes::whole))]
 fn add_new<L: Lookup>(
     alloc: Global,
     lookup: &mut L,
@@ -123,7 +125,7 @@ fn add_new<L: Lookup>(
 }
 
 // The place of the winner of a declaration's key; the declaration wins where there is none yet.
-#[tactic(auto, using(library_lookup::proofs::Telling::untold, crate::proofs::Prefixes::whole))]
+#[tactic(auto, using(crate::proofs::Telling::untold, crate::proofs::Prefixes::whole))]
 fn decide<L: Lookup>(
     alloc: Global,
     lookup: &mut L,
@@ -152,7 +154,7 @@ fn decide<L: Lookup>(
 }
 
 // The declarations of one end, each with the place of its winner.
-#[tactic(auto, using(library_lookup::proofs::Telling::untold, library_lookup::proofs::Telling::told_both))]
+#[tactic(auto, using(crate::proofs::Telling::untold, crate::proofs::Telling::told_both))]
 fn add_edges<L: Lookup>(
     alloc: Global,
     lookup: &mut L,
@@ -183,7 +185,7 @@ fn add_edges<L: Lookup>(
 }
 
 // What is known of the POM of a version.
-#[tactic(auto, using(library_lookup::proofs::Telling::untold))]
+#[tactic(auto, using(crate::proofs::Telling::untold))]
 fn known_at<L: Lookup>(lookup: &mut L, key: &Key, version: &Text) -> Result<Known, MediationFault>
     ensures says { (libraries : Libraries) → L.fits lookup.old libraries
         → Says (Ok (libraries.at (gav_of key.now version.now))) result }
@@ -210,7 +212,7 @@ fn coordinate(key: &Key, version: &Text) -> Mem<Gav>
     })
 }
 
-// Nothing.
+// An empty list of edges.
 fn no_edges(alloc: Global) -> Mem<Shared<List<Edge>>>
     ensures { IfOk result (λ list. list ≡ []) }
 {
@@ -234,7 +236,8 @@ fn edges_of(
     }
 }
 
-// What the POM of a winner leads to: its dependencies as `edges` of the collector gives them, none where the POM is missing or refused.
+// What the POM of a winner leads to: its dependencies as `edges` of the collector gives them, none where the POM is
+// missing or refused.
 fn edges_below(alloc: Global, managed: &ManagedSet, winner: &Winner) -> Mem<Shared<List<Edge>>>
     ensures { IfOk result (λ list. list ≡ edges_below managed.now winner.now) }
 {
@@ -242,7 +245,7 @@ fn edges_below(alloc: Global, managed: &ManagedSet, winner: &Winner) -> Mem<Shar
 }
 
 // The paths one edge longer than a winner's, and what its POM leads to.
-#[tactic(auto, using(library_lookup::proofs::Telling::untold, crate::proofs::Prefixes::whole, crate::proofs::Standing::none_placed))]
+#[tactic(auto, using(crate::proofs::Telling::untold, crate::proofs::Prefixes::whole, crate::proofs::Standing::none_placed))]
 fn expand<L: Lookup>(
     alloc: Global,
     lookup: &mut L,
@@ -278,8 +281,9 @@ fn expand<L: Lookup>(
     }
 }
 
-// The paths one edge longer than those of the winners from a place on, before another; what the POM of each leads to is kept.
-#[tactic(auto, using(library_lookup::proofs::Telling::untold, library_lookup::proofs::Telling::told_both))]
+// The paths one edge longer than those of the winners from a place on, before another; what the POM of each leads to is
+// kept.
+#[tactic(auto, using(crate::proofs::Telling::untold, crate::proofs::Telling::told_both))]
 fn add_level<L: Lookup>(
     alloc: Global,
     lookup: &mut L,
@@ -319,7 +323,8 @@ fn add_level<L: Lookup>(
     Ok(())
 }
 
-// The room to begin with for the winners of a project, by the number of its declarations: a guess, and no more than there may be.
+// The room to begin with for the winners of a project, by the number of its declarations: a guess, and no more than
+// there may be.
 fn room_for(declared: usize) -> usize
     ensures { result ≡ (if nat_lt declared 1024 then 16 * declared else most_winners) }
 {
@@ -337,8 +342,9 @@ fn with_room<T>(alloc: Global, room: usize) -> Mem<List<T>>
     Ok(List::of(Vec::with_capacity(alloc, room)?))
 }
 
-// Fills what is empty with the winners of a project that declares these edges, with what each of them leads to, and with the places.
-#[tactic(auto, using(library_lookup::proofs::Telling::untold, library_lookup::proofs::Telling::told_both))]
+// Fills what is empty with the winners of a project that declares these edges, with what each of them leads to, and
+// with the places.
+#[tactic(auto, using(crate::proofs::Telling::untold, crate::proofs::Telling::told_both))]
 fn add_levels<L: Lookup>(
     alloc: Global,
     lookup: &mut L,
@@ -390,16 +396,16 @@ pub struct DependencyGraph {
     pub places: List<usize>,
 }
 
-/// The winners of a project: of each key the nearest declaration, and of those the first. A project's own declaration so
-/// wins always. A winner leads to what its POM declares, at the version that is picked for it; a POM that is missing or
-/// refused leads to nothing. Refused by the first winner, by length and positions, that has no version or for which there
-/// is no room: where a range admits no available version, where what is required of the version is no requirement, where
-/// more than 4,096 versions are available, and at the 16,385th winner, whose versions aren't looked up. `Lookup` comes
-/// only where the look-up failed. Costs a look-up for each winner, and the texts of each declaration on the average; for
-/// each winner with a range one look-up more, and each available version is parsed once. Begins with room for 16 times as
-/// many winners and places as the project has declarations, at most for 16,384. Introduction to the Dependency Mechanism,
-/// "Dependency mediation".
-#[tactic(auto, using(library_lookup::proofs::Telling::untold, library_lookup::proofs::Telling::told_both))]
+/// The winners of a project: of each key the nearest declaration, and of those the first. A project's own declaration
+/// so wins always. A winner leads to what its POM declares, at the version that is picked for it; a POM that is missing
+/// or refused leads to nothing. Refused by the first winner, by length and positions, that has no version or for which
+/// there is no room: where a range admits no available version, where what is required of the version is no
+/// requirement, where more than 4,096 versions are available, and at the 16,385th winner, whose versions aren't looked
+/// up. `Lookup` comes only where the look-up failed. Costs a look-up for each winner, and the texts of each declaration
+/// on the average; for each winner with a range one look-up more, and each available version is parsed once. Begins
+/// with room for 16 times as many winners and places as the project has declarations, at most for 16,384. Introduction
+/// to the Dependency Mechanism, "Dependency mediation".
+#[tactic(auto, using(crate::proofs::Telling::untold, crate::proofs::Telling::told_both))]
 pub fn find_winners<L: Lookup>(
     alloc: Global,
     direct: &[Shared<Dependency>],

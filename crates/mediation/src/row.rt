@@ -1,3 +1,5 @@
+//! A winner as a row of the table of winners, found by its key.
+
 ghost use Rattle.std.specs.Prelude.{◌≡◌, fold};
 ghost use Rattle.mediation.specs.Keys.{is_usual, key_input};
 
@@ -14,7 +16,8 @@ fn is_usual(key: &Key) -> bool
     key.classifier.len() == 0 && key.kind.as_str() == "jar"
 }
 
-// Feeds a key to a hasher; the type and the classifier of a usual one are left out, since hashing them costs as much as the others.
+// Feeds a key to a hasher; the type and the classifier of a usual one are left out, since hashing them costs as much as
+// the others.
 fn feed<H: Hasher>(key: &Key, state: &mut H)
     ensures { state.new ≡ fold H.write state.old (key_input key.now) }
 {
@@ -26,7 +29,8 @@ fn feed<H: Hasher>(key: &Key, state: &mut H)
     }
 }
 
-// A winner in the table of a project's, which tells it from others by its key alone: so the table holds no key beside it.
+// A winner in the table of a project's, which tells it from others by its key alone: so the table holds no key beside
+// it.
 #[derive(Drop)]
 pub struct Row {
     pub(crate) winner: Winner,
@@ -47,7 +51,7 @@ impl Model for Row {
 impl PartialEq for Row {
     ghost use Rattle.std.specs.Cmp.{on_equiv, partial_equiv_from_equiv};
     ghost use Rattle.mediation.specs.Keys.{same_key_equiv};
-    ghost use Rattle.keyed_lists.specs.Keyed.{same_key};
+    ghost use Rattle.model_merge.specs.Keyed.{same_key};
 
     ghost eq = { λ a b. same_key a.edge.key b.edge.key };
 
@@ -68,7 +72,7 @@ impl Eq for Row {
 impl Hash for Row {
     ghost use Rattle.std.proofs.Common.{ap};
     ghost use Rattle.mediation.specs.Keys.{key_input};
-    ghost use Rattle.keyed_lists.proofs.UnderKeys.{same_key_is};
+    ghost use Rattle.model_merge.proofs.UnderKeys.{same_key_is};
 
     ghost hash_input = { λ w. key_input w.edge.key };
 
@@ -88,7 +92,7 @@ pub struct Sought<'a> {
 impl<'a> PartialEq for Sought<'a> {
     ghost use Rattle.std.specs.Cmp.{on_equiv, partial_equiv_from_equiv};
     ghost use Rattle.mediation.specs.Keys.{same_key_equiv};
-    ghost use Rattle.keyed_lists.specs.Keyed.{same_key};
+    ghost use Rattle.model_merge.specs.Keyed.{same_key};
 
     ghost eq = { λ a b. same_key a.key.now b.key.now };
 
@@ -109,7 +113,7 @@ impl<'a> Eq for Sought<'a> {
 impl<'a> Hash for Sought<'a> {
     ghost use Rattle.std.proofs.Common.{ap};
     ghost use Rattle.mediation.specs.Keys.{key_input};
-    ghost use Rattle.keyed_lists.proofs.UnderKeys.{same_key_is};
+    ghost use Rattle.model_merge.proofs.UnderKeys.{same_key_is};
 
     ghost hash_input = { λ s. key_input s.key.now };
 
@@ -123,8 +127,8 @@ impl<'a> Hash for Sought<'a> {
 impl<'a> Equivalent<Row> for Sought<'a> {
     ghost use Rattle.std.proofs.Common.{ap};
     ghost use Rattle.mediation.specs.Keys.{key_input, same_key_equiv};
-    ghost use Rattle.keyed_lists.proofs.UnderKeys.{same_key_is};
-    ghost use Rattle.keyed_lists.specs.Keyed.{same_key};
+    ghost use Rattle.model_merge.proofs.UnderKeys.{same_key_is};
+    ghost use Rattle.model_merge.specs.Keyed.{same_key};
 
     ghost equivalent = { λ s w. same_key s.key.now w.edge.key };
 

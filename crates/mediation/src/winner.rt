@@ -1,12 +1,14 @@
+//! `Winner` and `Winners`: the declarations that win, in the order in which they are found.
+
 ghost use Rattle.std.specs.Prelude.{◌≡◌, ◌<◌, ◌≤◌, [], ◌∷◌, ◌++◌, None, Some, length, slice_get, IfOk, IfSome, OnOk};
 ghost use Rattle.std.specs.Option.{option_copied};
 ghost use Rattle.mediation.specs.Rows.{place_of, row_of};
-ghost use Rattle.library_lookup.specs.Libraries.{most_winners};
+ghost use Rattle.mediation.specs.Libraries.{most_winners};
 
+use crate::Known;
 use crate::row::{Row, Sought};
 use collector::Edge;
 use indexmap::IndexSet;
-use library_lookup::Known;
 use mvn_base::Key;
 use mvn_shared::{Mem, Text};
 use std::alloc::Global;
@@ -36,7 +38,7 @@ impl Model for Winners {
     ghost use Rattle.std.specs.Prelude.{◌≤◌, length};
     ghost use Rattle.std.specs.Coded.{codes};
     ghost use Rattle.mvn_base.specs.contracts.setting.Setting as settings;
-    ghost use Rattle.library_lookup.specs.Libraries.{most_winners};
+    ghost use Rattle.mediation.specs.Libraries.{most_winners};
     ghost use Rattle.mediation.specs.declared.winner.Winner as winners;
 
     ghost Value = { logic.List winners.Winner };

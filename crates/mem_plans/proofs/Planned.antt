@@ -6,11 +6,11 @@ use Rattle.mvn_outside.specs.Shelf.{files_now}
 use Rattle.mvn_outside.specs.declared.shelf.ShelfTold.{ShelfTold}
 use Rattle.cli_words.specs.declared.command_line.CommandLine.{CommandLine}
 use Rattle.build_core.specs.declared.plan.Plan.{Plan}
-use Rattle.module_scripts.specs.Scripts.{is_there}
+use Rattle.scripts.specs.Scripts.{is_there}
 use Rattle.event_core.specs.SoundPlans.{IsSoundPlan}
 use Rattle.run_law.specs.Given.{IsPresent}
-use Rattle.plan_parts.specs.Plans.{is_present, present_in}
-use Rattle.plan_files.specs.declared.selected.Planned.{Planned}
+use Rattle.module_plan.specs.Plans.{is_present, present_in}
+use Rattle.module_plan.specs.declared.selected.Planned.{Planned}
 use Rattle.build_plan.specs.Planning.{IsPlan, KnowsFiles}
 
 -- what is planned is sound

@@ -1,4 +1,4 @@
-//! Plans of projects over objects in memory, for programs of rows and measurements.
+//! A project over repositories in memory is planned, for programs of rows and measurements.
 #![tactic(auto)]
 
 pub mod planning;

@@ -8,13 +8,13 @@ ghost use Rattle.outside_mem.specs.Shelf.{shelf_told};
 ghost use Rattle.build_plan.specs.Planning.{IsPlan, KnowsFiles};
 
 use build_core::Plan;
-use build_plan::{Planning, plan_build};
+use build_plan::{PlanFault, Planning, plan_build};
 use cli_words::CommandLine;
 use goal_types::SourceFile;
-use mvn_base::{Choice, Machine, Phase};
+use module_plan::Planned;
+use mvn_base::{Choice, FailMode, Machine, Phase};
 use mvn_shared::{List, Mem, OutOfMemory, Text};
 use outside_mem::{MemFile, MemRemote, MemShelf, MemTree, NoFailures};
-use plan_files::Planned;
 use pom_source::Given;
 use std::alloc::Global;
 
@@ -60,6 +60,7 @@ fn given(alloc: Global) -> Given {
         machine: machine(alloc),
         defines: List::new(alloc),
         choice: choice(alloc),
+        ci: List::new(alloc),
     }
 }
 
@@ -74,6 +75,8 @@ fn install(alloc: Global, workers: u32) -> CommandLine {
         also_make: false,
         also_make_dependents: false,
         from: None,
+        mode: FailMode::AtEnd,
+        tree: false,
         full: false,
         generated: None,
     }
@@ -86,7 +89,7 @@ fn planning(
     shelf: &mut MemShelf<NoFailures>,
     remote: &mut MemRemote<NoFailures>,
     line: &CommandLine,
-) -> Planning
+) -> Planning<Result<Planned, PlanFault>>
     requires workers { (1 ≤ line.now.workers) × (line.now.workers ≤ 16) }
     ensures made { IfOk result.answer (IsPlan line.now) }
     ensures present { IfOk result.answer (KnowsFiles (Some (shelf_told shelf.old))) }
@@ -155,7 +158,7 @@ fn plan_of(
     plan_over(alloc, tree, &mut shelf, remote, workers)
 }
 
-// The same, with the remote repository made from its files.
+// The plan of a project for so many workers, with the remote repository made from its files.
 fn over_tree(
     alloc: Global,
     tree: &mut MemTree<NoFailures>,

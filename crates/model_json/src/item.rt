@@ -1,3 +1,5 @@
+//! The items of lists as JSON: texts, coordinates, dependencies, executions and plugins.
+
 ghost use Rattle.std.specs.Prelude.{◌≡◌, map, IfOk, OnOk};
 ghost use Rattle.serde_json.specs.Data.{no_members};
 ghost use Rattle.serde_json.specs.View.{members_view, view};
@@ -16,7 +18,7 @@ use std::alloc::Global;
 pub(crate) trait Item: Sized {
     ghost use Rattle.serde_json.specs.Data.{Data};
 
-    /// Its value.
+    /// The JSON value of the item.
     ghost json: { Self → Data };
 
     fn value(&self, alloc: Global) -> Mem<Value>

@@ -1,3 +1,5 @@
+//! A whole model as JSON.
+
 ghost use Rattle.std.specs.Prelude.{◌≡◌, fold, IfOk, OnOk};
 ghost use Rattle.serde_json.specs.Data.{no_members};
 ghost use Rattle.serde_json.specs.View.{members_view, view};

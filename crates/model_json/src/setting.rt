@@ -1,3 +1,5 @@
+//! The settings of a configuration as JSON.
+
 ghost use Rattle.std.specs.Prelude.{◌≡◌, map, IfOk, OnOk};
 ghost use Rattle.serde_json.specs.View.{members_view, view};
 ghost use Rattle.goal_types.specs.Requests.{setting_data, setting_object};

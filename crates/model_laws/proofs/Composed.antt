@@ -8,12 +8,12 @@ use Rattle.model_types.specs.declared.dependency.Dependency.{Dependency}
 use Rattle.model_types.specs.declared.model.ModelBase.{ModelBase}
 use Rattle.model_types.specs.declared.model.RawModel.{RawModel}
 use Rattle.model_types.specs.declared.plugin.Plugin.{Plugin}
-use Rattle.keyed_lists.specs.Keyed.{item_of, overlaid, settled, underlaid}
-use Rattle.keyed_lists.specs.Keys.{key_of_dependency, key_of_pair, key_of_plugin}
+use Rattle.model_merge.specs.Keyed.{item_of, overlaid, settled, underlaid}
+use Rattle.model_merge.specs.Keys.{key_of_dependency, key_of_pair, key_of_plugin}
 use Rattle.model_merge.specs.Merging.{merged_plugin, settled_plugin, settled_plugins}
 use Rattle.inheritance.specs.Inherit.{inherit, inherit_base, inherit_coordinates}
 use Rattle.managed_deps.specs.Managed.{apply_one, apply_plugins, find_pair, with_managed}
-use Rattle.profile_injection.specs.Injection.{inject, inject_base, inject_build, inject_build_base}
+use Rattle.profiles.specs.Injection.{inject, inject_base, inject_build, inject_build_base}
 use Rattle.lifecycle.specs.Bindings.{bound_to, undeclared}
 use Rattle.model_laws.specs.Keys.{IsJoin, has}
 use Rattle.model_laws.specs.Stated.{IsStatedFirst, Stays, settled_base, settled_build, settled_model}

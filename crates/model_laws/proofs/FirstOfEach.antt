@@ -2,9 +2,9 @@
 use Rattle.std.proofs.Common.{◌≡◌, Bool, true, false, ◌||◌, List, [], ◌∷◌, ◌++◌, map, fold, is_some, refl, sym, ap, ◌∙◌, if◌then◌else◌}
 use Rattle.mvn_base.specs.declared.key.Key.{Key}
 use Rattle.model_types.specs.declared.dependency.Dependency.{Dependency}
-use Rattle.keyed_lists.specs.Keyed.{keyed, same_key}
-use Rattle.keyed_lists.specs.Keys.{key_of_dependency}
-use Rattle.keyed_lists.proofs.UnderKeys.{find_keyed, same_key_is, values_keyed}
+use Rattle.model_merge.specs.Keyed.{keyed, same_key}
+use Rattle.model_merge.specs.Keys.{key_of_dependency}
+use Rattle.model_merge.proofs.UnderKeys.{find_keyed, same_key_is, values_keyed}
 use Rattle.managed_deps.specs.Managed.{add, first_of_each}
 use Rattle.model_laws.specs.Keys.{each_once, has}
 use Rattle.model_laws.proofs.Keys.{has_found, once_append}

@@ -6,10 +6,10 @@ use Rattle.mvn_base.specs.declared.key.Key.{Key}
 use Rattle.model_types.specs.declared.model.RawModel.{RawModel}
 use Rattle.model_types.specs.declared.plugin.Plugin.{Plugin}
 use Rattle.model_types.specs.declared.profile.Profile.{Profile}
-use Rattle.keyed_lists.specs.Keyed.{same_key}
-use Rattle.keyed_lists.specs.Keys.{key_of_dependency, key_of_pair, key_of_plugin}
+use Rattle.model_merge.specs.Keyed.{same_key}
+use Rattle.model_merge.specs.Keys.{key_of_dependency, key_of_pair, key_of_plugin}
 use Rattle.model_merge.specs.Merging.{merged_plugin, settled_plugin, settled_plugins}
-use Rattle.profile_injection.specs.Injection.{inject, inject_base, inject_build, inject_build_base, plugins_in, profiles_at, with_items, with_plugins}
+use Rattle.profiles.specs.Injection.{inject, inject_base, inject_build, inject_build_base, plugins_in, profiles_at, with_items, with_plugins}
 use Rattle.model_laws.specs.Injected.{HasKeysOfBoth, IsStatedByProfiles}
 use Rattle.model_laws.specs.Keys.{HasFirst, IsJoin, has, last_of}
 use Rattle.model_laws.proofs.Keys.{has_append, has_map, has_settled, item_settled, once_settled}

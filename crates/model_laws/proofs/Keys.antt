@@ -5,8 +5,8 @@ use Rattle.std.specs.Str.{bytes_eq}
 use Rattle.std.proofs.lemmas.Bool.{false≢true}
 use Rattle.std.proofs.lemmas.Slice.Eq.{bytes_eq-Decides}
 use Rattle.mvn_base.specs.declared.key.Key.{Key}
-use Rattle.keyed_lists.specs.Keyed.{item_of, others, put, same_key, settled, with_others}
-use Rattle.keyed_lists.proofs.UnderKeys.{and_left, and_right, same_key_is}
+use Rattle.model_merge.specs.Keyed.{item_of, others, put, same_key, settled, with_others}
+use Rattle.model_merge.proofs.UnderKeys.{and_left, and_right, same_key_is}
 use Rattle.model_laws.specs.Keys.{each_once, has, last_of}
 
 text_self : (t : List ℕ) → bytes_eq t t ≡ true

@@ -3,8 +3,8 @@ use Rattle.std.proofs.Common.{◌≡◌, Bool, true, false, not, ◌&&◌, ◌||
 use Rattle.std.specs.List.{list_all}
 use Rattle.std.specs.Option.{option_or, option_map, option_map_or}
 use Rattle.mvn_base.specs.declared.key.Key.{Key}
-use Rattle.keyed_lists.specs.Keyed.{absorb, item_of, merged_lists, others, overlaid, put, same_key, settled, underlaid, with_others}
-use Rattle.keyed_lists.proofs.UnderKeys.{and_left, and_right, same_key_is}
+use Rattle.model_merge.specs.Keyed.{absorb, item_of, merged_lists, others, overlaid, put, same_key, settled, underlaid, with_others}
+use Rattle.model_merge.proofs.UnderKeys.{and_left, and_right, same_key_is}
 use Rattle.model_laws.specs.Keys.{IsJoin, both, each_once, has, last_of}
 use Rattle.model_laws.proofs.Keys.{both_true, has_append, has_others, has_put, has_settled, has_map, item_append, item_others, item_settled, once_append, once_map, once_others, once_put, once_settled, same_key_flip}
 

@@ -10,20 +10,20 @@ use Rattle.model_types.specs.declared.dependency.Dependency.{Dependency}
 use Rattle.model_types.specs.declared.model.Model.{Model}
 use Rattle.model_types.specs.declared.model.RawModel.{RawModel}
 use Rattle.model_types.specs.declared.plugin.Plugin.{Plugin}
-use Rattle.keyed_lists.specs.Keyed.{item_of, overlaid, same_key, settled, underlaid}
-use Rattle.keyed_lists.specs.Keys.{key_of_dependency, key_of_execution, key_of_extension, key_of_plugin}
+use Rattle.model_merge.specs.Keyed.{item_of, overlaid, same_key, settled, underlaid}
+use Rattle.model_merge.specs.Keys.{key_of_dependency, key_of_execution, key_of_extension, key_of_plugin}
 use Rattle.model_merge.specs.Merging.{merged_plugin, settled_plugin, settled_plugins}
-use Rattle.keyed_lists.proofs.UnderKeys.{and_left, and_right}
+use Rattle.model_merge.proofs.UnderKeys.{and_left, and_right}
 use Rattle.managed_deps.specs.Managed.{all_entries, apply_one, apply_plugins}
 use Rattle.lifecycle.specs.Bindings.{bindings, bound_to, undeclared}
-use Rattle.profile_activation.specs.Activation.{is_of_project}
+use Rattle.profiles.specs.Activation.{is_of_project}
 use Rattle.pom_source.specs.Answers.{Built}
 use Rattle.pom_source.specs.Chains.{ok_is}
 use Rattle.pom_source.specs.Worlds.{World}
 use Rattle.pom_source.specs.declared.found.Given.{Given}
 use Rattle.model_steps.specs.Assembly.{completed, is_dropped, kept_as, managed_set, model_of, plugins_as, with_scope}
-use Rattle.module_plugins.specs.Building.{bound_base, built, built_by}
-use Rattle.import_store.specs.Effective.{effective}
+use Rattle.model_steps.specs.Building.{bound_base, built, built_by}
+use Rattle.effective.specs.Effective.{effective}
 use Rattle.effective.proofs.Imported.{put_together}
 use Rattle.model_laws.specs.Keys.{IsSettled, each_once, goals_once, has}
 use Rattle.model_laws.specs.Once.{ArePluginsOnce, HasKeysOnce, parts_once}

@@ -4,10 +4,10 @@ use Rattle.std.specs.Option.{option_eq}
 use Rattle.std.proofs.lemmas.Bool.{false≢true}
 use Rattle.mvn_base.specs.declared.key.Key.{Key}
 use Rattle.model_types.specs.declared.plugin.Plugin.{Plugin}
-use Rattle.keyed_lists.specs.Keyed.{overlaid, same_key}
-use Rattle.keyed_lists.specs.Keys.{key_of_plugin}
+use Rattle.model_merge.specs.Keyed.{overlaid, same_key}
+use Rattle.model_merge.specs.Keys.{key_of_plugin}
 use Rattle.model_merge.specs.Merging.{merged_plugin, settled_plugin, settled_plugins}
-use Rattle.keyed_lists.proofs.UnderKeys.{and_left, and_right, same_key_is}
+use Rattle.model_merge.proofs.UnderKeys.{and_left, and_right, same_key_is}
 use Rattle.inheritance.specs.Placing.{handed_on, inheritable, inherited_plugins, is_shared, leading, next_shared, placed}
 use Rattle.model_laws.specs.Keys.{IsJoin, each_once, has}
 use Rattle.model_laws.proofs.Keys.{both_true, has_map, has_settled, not_true, once_map, once_settled, same_key_flip, same_key_self}

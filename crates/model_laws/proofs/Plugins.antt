@@ -4,10 +4,10 @@ use Rattle.std.specs.List.{list_all}
 use Rattle.std.specs.Option.{option_map_or}
 use Rattle.model_types.specs.declared.plugin.Execution.{Execution}
 use Rattle.model_types.specs.declared.plugin.Plugin.{Plugin}
-use Rattle.keyed_lists.specs.Keyed.{item_of, others, overlaid, settled}
-use Rattle.keyed_lists.specs.Keys.{key_of_dependency, key_of_execution, key_of_name, key_of_plugin}
+use Rattle.model_merge.specs.Keyed.{item_of, others, overlaid, settled}
+use Rattle.model_merge.specs.Keys.{key_of_dependency, key_of_execution, key_of_name, key_of_plugin}
 use Rattle.model_merge.specs.Merging.{merged_execution, merged_plugin, settled_execution, settled_plugin}
-use Rattle.keyed_lists.proofs.UnderKeys.{and_left, and_right}
+use Rattle.model_merge.proofs.UnderKeys.{and_left, and_right}
 use Rattle.model_laws.specs.Keys.{IsSettled, goals_once}
 use Rattle.model_laws.proofs.Keys.{both_true, once_settled}
 use Rattle.model_laws.proofs.Merges.{all_append, all_map, all_others, all_settled, join_merged, join_with_others, settled_kept}

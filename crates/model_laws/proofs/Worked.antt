@@ -2,7 +2,7 @@
 use Rattle.std.proofs.Common.{◌≡◌, ℕ, true, List, [], ◌∷◌, codes, Some, None, refl}
 use Rattle.model_types.specs.declared.plugin.Execution.{Execution}
 use Rattle.model_types.specs.declared.plugin.Plugin.{Plugin}
-use Rattle.settings_merge.specs.Configuration.{merged_configuration}
+use Rattle.model_merge.specs.Configuration.{merged_configuration}
 use Rattle.model_merge.specs.Merging.{merged_execution, merged_plugin, settled_execution, settled_plugin}
 use Rattle.inheritance.specs.Placing.{inherited_plugins}
 use Rattle.managed_deps.specs.Managed.{apply_plugins}

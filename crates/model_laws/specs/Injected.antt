@@ -5,7 +5,7 @@ use Rattle.model_types.specs.declared.model.RawModel.{RawModel}
 use Rattle.model_types.specs.declared.plugin.Plugin.{Plugin}
 use Rattle.model_types.specs.declared.profile.Profile.{Profile}
 use Rattle.mvn_base.specs.declared.machine.Pair.{Pair}
-use Rattle.keyed_lists.specs.Keys.{key_of_dependency, key_of_pair, key_of_plugin}
+use Rattle.model_merge.specs.Keys.{key_of_dependency, key_of_pair, key_of_plugin}
 use Rattle.model_laws.specs.Keys.{HasFirst, IsJoin}
 
 -- what some profiles state, one behind another

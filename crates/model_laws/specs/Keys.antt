@@ -5,8 +5,8 @@ use Rattle.std.specs.Option.{option_or}
 use Rattle.mvn_base.specs.declared.key.Key.{Key}
 use Rattle.model_types.specs.declared.plugin.Execution.{Execution}
 use Rattle.model_types.specs.declared.plugin.Plugin.{Plugin}
-use Rattle.keyed_lists.specs.Keyed.{item_of, merged_lists, same_key}
-use Rattle.keyed_lists.specs.Keys.{key_of_dependency, key_of_execution, key_of_name}
+use Rattle.model_merge.specs.Keyed.{item_of, merged_lists, same_key}
+use Rattle.model_merge.specs.Keys.{key_of_dependency, key_of_execution, key_of_name}
 use Rattle.model_merge.specs.Merging.{merged_execution}
 
 module _ {T : Type 0} (key : T → Key) where

@@ -1,3 +1,15 @@
+pub use Rattle.pom_text.specs.Texts
+pub use Rattle.pom_model.specs.Faults
+pub use Rattle.pom_model.specs.Fields
+pub use Rattle.pom_model.specs.Raw
+pub mod Breaks
+pub mod Refused
+pub mod Examples
+pub use Rattle.lineage.specs.Lineage
+pub use Rattle.lineage.specs.Reading
+pub mod Lines
+pub use Rattle.build_plan.specs.Planning
+pub mod Selected
 pub mod Injected
 pub mod Keys
 pub mod Once

@@ -3,7 +3,7 @@ use Rattle.std.specs.Prelude.{◌≡◌, Bool, true, ◌&&◌, List}
 use Rattle.std.specs.List.{list_all}
 use Rattle.model_types.specs.declared.model.Model.{Model}
 use Rattle.model_types.specs.declared.plugin.Plugin.{Plugin}
-use Rattle.keyed_lists.specs.Keys.{key_of_dependency, key_of_execution, key_of_extension, key_of_plugin}
+use Rattle.model_merge.specs.Keys.{key_of_dependency, key_of_execution, key_of_extension, key_of_plugin}
 use Rattle.model_laws.specs.Keys.{each_once, goals_once}
 
 -- whether a plugin has one dependency of each key and one execution of each id, which names each goal once

@@ -7,8 +7,8 @@ use Rattle.model_types.specs.declared.dependency.Dependency.{Dependency}
 use Rattle.model_types.specs.declared.model.ModelBase.{ModelBase}
 use Rattle.model_types.specs.declared.model.RawModel.{RawModel}
 use Rattle.model_types.specs.declared.plugin.Plugin.{Plugin}
-use Rattle.keyed_lists.specs.Keyed.{item_of, settled}
-use Rattle.keyed_lists.specs.Keys.{key_of_dependency, key_of_pair, key_of_plugin}
+use Rattle.model_merge.specs.Keyed.{item_of, settled}
+use Rattle.model_merge.specs.Keys.{key_of_dependency, key_of_pair, key_of_plugin}
 use Rattle.model_merge.specs.Merging.{settled_plugins}
 use Rattle.managed_deps.specs.Managed.{first_of_each}
 use Rattle.model_laws.specs.Keys.{HasFirst, has}

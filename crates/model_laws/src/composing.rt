@@ -1,14 +1,16 @@
+//! Laws of inheritance, profiles, managed dependencies and plugins, and bindings.
+
 ghost use Rattle.std.specs.Prelude.{◌≡◌, ℕ, true, List, [], ◌++◌, Some};
 ghost use Rattle.model_types.specs.declared.dependency.Dependency as dependencies;
 ghost use Rattle.model_types.specs.declared.model.RawModel as models;
 ghost use Rattle.model_types.specs.declared.plugin.Plugin as plugins;
-ghost use Rattle.keyed_lists.specs.Keyed.{item_of};
-ghost use Rattle.keyed_lists.specs.Keys.{key_of_dependency, key_of_plugin};
+ghost use Rattle.model_merge.specs.Keyed.{item_of};
+ghost use Rattle.model_merge.specs.Keys.{key_of_dependency, key_of_plugin};
 ghost use Rattle.model_merge.specs.Merging.{merged_plugin, settled_plugins};
 ghost use Rattle.inheritance.specs.Inherit.{inherit};
 ghost use Rattle.inheritance.specs.Placing.{inheritable, inherited_plugins};
 ghost use Rattle.managed_deps.specs.Managed.{apply_one, apply_plugins, first_of_each};
-ghost use Rattle.profile_injection.specs.Injection.{inject, profiles_at};
+ghost use Rattle.profiles.specs.Injection.{inject, profiles_at};
 ghost use Rattle.lifecycle.specs.Bindings.{bound_to, undeclared};
 ghost use Rattle.model_laws.specs.Injected.{HasKeysOfBoth, IsStatedByProfiles};
 ghost use Rattle.model_laws.specs.Keys.{IsJoin, each_once};

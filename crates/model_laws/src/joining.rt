@@ -1,14 +1,16 @@
+//! Laws of lists, executions and plugins that are joined.
+
 ghost use Rattle.std.specs.Prelude.{◌≡◌, List};
 ghost use Rattle.model_types.specs.declared.plugin.Execution as executions;
 ghost use Rattle.model_types.specs.declared.plugin.Plugin as plugins;
-ghost use Rattle.keyed_lists.specs.Keyed.{with_others};
+ghost use Rattle.model_merge.specs.Keyed.{with_others};
 ghost use Rattle.model_merge.specs.Merging.{merged_plugin, settled_plugin};
 ghost use Rattle.model_laws.specs.Keys.{HasFirst, HasMerged, IsJoin, IsSettled, merged_executions};
-ghost use Rattle.keyed_lists.specs.Keys.{key_of_execution};
+ghost use Rattle.model_merge.specs.Keys.{key_of_execution};
 
 /// A law of lists whose items are told apart by a key: a list joined with the others of a second has the keys of both, each once, and
 /// under a key the last of the first list's, or else the last of the second's.
-use keyed_lists::Keyed;
+use model_merge::Keyed;
 
 pub fn lists_join<T: Keyed>()
     ensures keys { (first second : List T)

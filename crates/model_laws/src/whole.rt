@@ -1,3 +1,5 @@
+//! Laws that in a model each key stands once.
+
 ghost use Rattle.std.specs.Prelude.{◌≡◌, List, Ok};
 ghost use Rattle.mvn_base.specs.declared.refusal.PomId as poms;
 ghost use Rattle.model_types.specs.declared.build.BuildBase as bases;
@@ -7,8 +9,8 @@ ghost use Rattle.model_types.specs.declared.model.RawModel as models;
 ghost use Rattle.pom_source.specs.Worlds.{World};
 ghost use Rattle.pom_source.specs.declared.found.Given as givens;
 ghost use Rattle.model_steps.specs.Assembly.{model_of};
-ghost use Rattle.module_plugins.specs.Building.{built};
-ghost use Rattle.import_store.specs.Effective.{effective};
+ghost use Rattle.model_steps.specs.Building.{built};
+ghost use Rattle.effective.specs.Effective.{effective};
 ghost use Rattle.model_laws.specs.Once.{HasKeysOnce};
 
 /// A law of models that are put together from a filled POM, its plugins and what its imports manage: of dependencies, of managed

@@ -1,1 +1,3 @@
+mod Pairing
+pub mod UnderKeys
 mod Singles

@@ -5,9 +5,9 @@ use Rattle.std.proofs.lemmas.Bool.{ltb-true}
 use Rattle.mvn_base.specs.declared.key.Key.{Key}
 use Rattle.model_types.specs.declared.plugin.Execution.{Execution}
 use Rattle.model_types.specs.declared.plugin.Plugin.{Plugin}
-use Rattle.keyed_lists.specs.Keyed.{settled}
-use Rattle.keyed_lists.proofs.UnderKeys.{and_left, and_right}
-use Rattle.keyed_lists.specs.Keys.{key_of_dependency, key_of_execution, key_of_name}
+use Rattle.model_merge.specs.Keyed.{settled}
+use Rattle.model_merge.proofs.UnderKeys.{and_left, and_right}
+use Rattle.model_merge.specs.Keys.{key_of_dependency, key_of_execution, key_of_name}
 use Rattle.model_merge.specs.Merging.{settled_execution, settled_plugin}
 use Rattle.model_merge.specs.Singles.{has_single_goal, is_single}
 

@@ -4,9 +4,9 @@ use Rattle.std.specs.Prelude.{◌&&◌, List, map}
 use Rattle.std.specs.Option.{option_or}
 use Rattle.model_types.specs.declared.plugin.Execution.{Execution}
 use Rattle.model_types.specs.declared.plugin.Plugin.{Plugin}
-use Rattle.settings_merge.specs.Configuration.{merged_configuration}
-use Rattle.keyed_lists.specs.Keys.{key_of_dependency, key_of_execution, key_of_name, key_of_plugin}
-use Rattle.keyed_lists.specs.Keyed.{merged_lists, settled, with_others}
+use Rattle.model_merge.specs.Configuration.{merged_configuration}
+use Rattle.model_merge.specs.Keys.{key_of_dependency, key_of_execution, key_of_name, key_of_plugin}
+use Rattle.model_merge.specs.Keyed.{merged_lists, settled, with_others}
 
 -- an execution that names each of its goals once
 unfoldable pub settled_execution : Execution → Execution

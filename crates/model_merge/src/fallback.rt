@@ -1,3 +1,5 @@
+//! Texts and lists that are stated, or else inherited.
+
 ghost use Rattle.std.specs.Prelude.{◌≡◌, IfOk};
 ghost use Rattle.std.specs.Option.{option_or};
 ghost use Rattle.model_merge.specs.Stated.{stated_or};

@@ -1,9 +1,11 @@
+//! Lists of mergeable items joined: a child's over a parent's, under it, or item by item.
+
 ghost use Rattle.std.specs.Prelude.{◌≡◌, List, map, IfOk, OnOk};
-ghost use Rattle.keyed_lists.specs.Keyed.{absorb, absorbed, keyed, merged_lists, merged_over, merged_under, overlaid, underlaid};
+ghost use Rattle.model_merge.specs.Keyed.{absorb, absorbed, keyed, merged_lists, merged_over, merged_under, overlaid, underlaid};
 
 use crate::mergeable::Mergeable;
+use crate::{appended, index_of, items_of, partner, put, settled_others};
 use indexmap::IndexMap;
-use keyed_lists::{appended, index_of, items_of, partner, put, settled_others};
 use mvn_base::Key;
 use mvn_shared::{List, Mem, Shared};
 use std::alloc::Global;
@@ -31,7 +33,7 @@ fn overlaid<T: Mergeable>(
     }
 }
 
-// So of each of a list.
+// Each of a parent's items, with the child's of its key.
 fn all_overlaid<T: Mergeable>(
     alloc: Global,
     index: &IndexMap<Key, Shared<T>>,
@@ -62,7 +64,7 @@ fn underlaid<T: Mergeable>(
     }
 }
 
-// So of each of a list.
+// Each of a child's items, with the parent's of its key.
 fn all_underlaid<T: Mergeable>(
     alloc: Global,
     index: &IndexMap<Key, Shared<T>>,
@@ -78,8 +80,8 @@ fn all_underlaid<T: Mergeable>(
     Ok(list)
 }
 
-/// A child's items in order, each merged with the parent's of its key, the parent's list settled. Costs both, on the average, besides
-/// the merging.
+/// A child's items in order, each merged with the parent's of its key, the parent's list settled. Costs both, on the
+/// average, besides the merging.
 pub fn merged_under<T: Mergeable>(
     alloc: Global,
     child: &[Shared<T>],
@@ -104,8 +106,8 @@ fn absorb<T: Mergeable>(
     put(alloc, index, merged)
 }
 
-/// A settled list, and then further items one by one: each merged, as the child, with the one of its key, in its place, or else at the
-/// end. Costs both, on the average, besides the merging. Own rule of order.
+/// A settled list, and then further items one by one: each merged, as the child, with the one of its key, in its place,
+/// or else at the end. Costs both, on the average, besides the merging. Project rule of order.
 pub fn absorbed<T: Mergeable>(
     alloc: Global,
     items: &[Shared<T>],
@@ -120,8 +122,8 @@ pub fn absorbed<T: Mergeable>(
     items_of(alloc, index)
 }
 
-/// A parent's items, each merged with the child's of its key, the child's list settled. Costs both, on the average, besides the
-/// merging.
+/// A parent's items, each merged with the child's of its key, the child's list settled. Costs both, on the average,
+/// besides the merging.
 pub fn merged_over<T: Mergeable>(
     alloc: Global,
     child: &[Shared<T>],
@@ -133,7 +135,7 @@ pub fn merged_over<T: Mergeable>(
     all_overlaid(alloc, &children, parent)
 }
 
-// So of a parent's items under their keys.
+// A parent's items under their keys, each merged with the child's.
 fn indexed_over<T: Mergeable>(
     alloc: Global,
     child: &[Shared<T>],
@@ -146,8 +148,8 @@ fn indexed_over<T: Mergeable>(
     merged_over(alloc, child, items)
 }
 
-/// A parent's items in order, each merged with the child's of its key, and then the child's others, each list settled. Costs both,
-/// on the average, besides the merging. Own rule of order.
+/// A parent's items in order, each merged with the child's of its key, and then the child's others, each list settled.
+/// Costs both, on the average, besides the merging. Project rule of order.
 pub fn merged_lists<T: Mergeable>(
     alloc: Global,
     child: &[Shared<T>],

@@ -1,6 +1,8 @@
+//! `Mergeable`: an item that is merged with the one of its key.
+
 ghost use Rattle.std.specs.Prelude.{◌≡◌, IfOk};
 
-use keyed_lists::Keyed;
+use crate::Keyed;
 use mvn_shared::{Mem, Shared};
 use std::alloc::Global;
 

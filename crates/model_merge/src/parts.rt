@@ -1,3 +1,5 @@
+//! Plugins and executions put together from their parts.
+
 ghost use Rattle.std.specs.Prelude.{◌≡◌};
 
 use model_types::{Dependency, Execution, Plugin};

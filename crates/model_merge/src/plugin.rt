@@ -1,8 +1,10 @@
+//! A plugin and an execution, each merged with the one that it builds on.
+
 ghost use Rattle.std.specs.Prelude.{◌≡◌, IfOk};
 ghost use Rattle.std.specs.Option.{option_or};
-ghost use Rattle.settings_merge.specs.Configuration.{merged_configuration};
-ghost use Rattle.keyed_lists.specs.Keyed.{merged_lists, with_others};
-ghost use Rattle.keyed_lists.specs.Keys.{key_of_dependency, key_of_execution, key_of_name};
+ghost use Rattle.model_merge.specs.Configuration.{merged_configuration};
+ghost use Rattle.model_merge.specs.Keyed.{merged_lists, with_others};
+ghost use Rattle.model_merge.specs.Keys.{key_of_dependency, key_of_execution, key_of_name};
 ghost use Rattle.model_merge.specs.Merging.{merged_execution, merged_plugin, settled_execution, settled_plugin};
 
 use crate::fallback::stated;
@@ -12,11 +14,10 @@ use crate::parts::{
     ExecutionLists, ExecutionName, PluginLists, PluginName, execution_of, plugin_of,
 };
 use crate::settling::{settled_execution, settled_plugin};
-use keyed_lists::with_others;
+use crate::{merged_configuration, with_others};
 use model_types::{Execution, Plugin};
 use mvn_base::Setting;
 use mvn_shared::{List, Mem, Shared};
-use settings_merge::merged_configuration;
 use std::alloc::Global;
 
 // A child's configuration over the parent's, for any number of owners.
@@ -62,9 +63,9 @@ fn merged_execution_lists(
     })
 }
 
-/// An execution, merged with the one of its id that it builds on: its phase where it has one, the parent's goals and then its
-/// others, and its configuration over the parent's. Costs both, on the average. POM Reference, "Executions"; the order of goals is
-/// an own rule.
+/// An execution, merged with the one of its id that it builds on: its phase where it has one, the parent's goals and
+/// then its others, and its configuration over the parent's. Costs both, on the average. POM Reference, "Executions";
+/// the order of goals is a project rule.
 #[tactic(auto, unfolding(crate::specs::Merging::merged_execution))]
 pub fn merged_execution(alloc: Global, child: &Execution, parent: &Execution) -> Mem<Execution>
     ensures { IfOk result (λ merged. merged ≡ merged_execution child.now parent.now) }
@@ -134,9 +135,9 @@ fn merged_plugin_lists(alloc: Global, child: &Plugin, parent: &Plugin) -> Mem<Pl
     })
 }
 
-/// A plugin, merged with the one of its name that it builds on: its version where it has one, dependencies and executions merged by
-/// their keys, and its configuration over the parent's. Costs both, on the average. POM Reference, "Plugins"; the order of merged
-/// lists is an own rule.
+/// A plugin, merged with the one of its name that it builds on: its version where it has one, dependencies and
+/// executions merged by their keys, and its configuration over the parent's. Costs both, on the average. POM Reference,
+/// "Plugins"; the order of merged lists is a project rule.
 #[tactic(auto, unfolding(crate::specs::Merging::merged_plugin))]
 pub fn merged_plugin(alloc: Global, child: &Plugin, parent: &Plugin) -> Mem<Plugin>
     ensures { IfOk result (λ merged. merged ≡ merged_plugin child.now parent.now) }

@@ -1,7 +1,9 @@
+//! Plugins and executions whose own lists name each key once.
+
 ghost use Rattle.std.specs.Prelude.{◌≡◌, map, IfOk};
 ghost use Rattle.std.specs.List.{list_all};
-ghost use Rattle.keyed_lists.specs.Keyed.{settled};
-ghost use Rattle.keyed_lists.specs.Keys.{key_of_dependency, key_of_execution, key_of_name};
+ghost use Rattle.model_merge.specs.Keyed.{settled};
+ghost use Rattle.model_merge.specs.Keys.{key_of_dependency, key_of_execution, key_of_name};
 ghost use Rattle.model_merge.specs.Merging.{settled_execution, settled_plugin, settled_plugins};
 ghost use Rattle.model_merge.specs.Singles.{has_single_goal, is_single};
 
@@ -9,7 +11,7 @@ use crate::mergeable::Mergeable;
 use crate::parts::{
     ExecutionLists, ExecutionName, PluginLists, PluginName, execution_of, plugin_of,
 };
-use keyed_lists::settled;
+use crate::settled;
 use model_types::{Execution, Plugin};
 use mvn_shared::{List, Mem, Shared};
 use std::alloc::Global;
@@ -51,8 +53,8 @@ fn with_goals_once(alloc: Global, execution: &Execution) -> Mem<Execution>
     Ok(execution_of(name, execution.inherited, lists))
 }
 
-/// An execution that names each of its goals once: of equal ones the last, at the place of the first. Costs its goals, on the average;
-/// with at most one it is shared. Own rule.
+/// An execution that names each of its goals once: of equal ones the last, at the place of the first. Costs its goals,
+/// on the average; with at most one it is shared. Project rule.
 #[tactic(auto, using(crate::proofs::Singles::execution_kept))]
 pub(crate) fn settled_execution(
     alloc: Global,
@@ -141,7 +143,8 @@ fn have_single_goals(executions: &[Shared<Execution>]) -> bool
     executions.iter().all(|execution| execution.goals.len() < 2)
 }
 
-// Whether nothing in a plugin can stand twice: it has at most one dependency and one execution, and this at most one goal.
+// Whether nothing in a plugin can stand twice: it has at most one dependency and one execution, and this at most one
+// goal.
 fn is_single(plugin: &Plugin) -> bool
     ensures { result ≡ is_single plugin.now }
 {
@@ -150,8 +153,9 @@ fn is_single(plugin: &Plugin) -> bool
         && have_single_goals(plugin.executions.as_slice())
 }
 
-/// A plugin with one dependency of each key, one execution of each id and each of an execution's goals once: of equal ones the last, at
-/// the place of the first. Costs what it has, on the average; where nothing can stand twice, it is shared. Own rule.
+/// A plugin with one dependency of each key, one execution of each id and each of an execution's goals once: of equal
+/// ones the last, at the place of the first. Costs what it has, on the average; where nothing can stand twice, it is
+/// shared. Project rule.
 #[tactic(auto, using(crate::proofs::Singles::plugin_kept))]
 pub fn settled_plugin(alloc: Global, plugin: &Shared<Plugin>) -> Mem<Shared<Plugin>>
     ensures { IfOk result (λ settled. settled ≡ settled_plugin plugin.now) }
@@ -162,7 +166,8 @@ pub fn settled_plugin(alloc: Global, plugin: &Shared<Plugin>) -> Mem<Shared<Plug
     Shared::new(alloc, with_parts_once(alloc, plugin)?)
 }
 
-/// One plugin of each name, each settled: of equal names the last, at the place of the first. Costs them, on the average. Own rule.
+/// One plugin of each name, each settled: of equal names the last, at the place of the first. Costs them, on the
+/// average. Project rule.
 pub fn settled_plugins(alloc: Global, plugins: &[Shared<Plugin>]) -> Mem<List<Shared<Plugin>>>
     ensures { IfOk result (λ list. list ≡ settled_plugins plugins.now) }
 {

@@ -1,3 +1,4 @@
+pub mod Composing
 pub use Rattle.mvn_shared.specs.Cause
 pub use Rattle.mvn_shared.specs.Files
 pub use Rattle.mvn_base.specs.FileName

@@ -1,4 +1,5 @@
-// One device asked for a POM. Once a device failed, none is asked any more.
+//! One device asked for a POM. Once a device failed, none is asked any more.
+
 ghost use Rattle.std.specs.Prelude.{◌≡◌, ◌≤◌, ℕ, Bool, List as Items, Option, true, [], codes, length, is_some, IfOk, IfSome};
 ghost use Rattle.std.specs.Option.{option_map, option_or};
 ghost use Rattle.mvn_shared.specs.Cause.{HasCause};
@@ -46,8 +47,8 @@ fn read_so(
     }
 }
 
-/// The POM at a path of the project's folder; of one that is too long a text that is refused for it. The tree isn't asked if a device
-/// failed before. Costs the file.
+/// The POM at a path of the project's folder; of one that is too long a text that is refused for it. The tree isn't
+/// asked if a device failed before. Costs the file.
 #[tactic(auto, using(crate::proofs::Counting::counted_tree, crate::proofs::Counting::counted_still, crate::proofs::Counting::counts_on, crate::proofs::Counting::counts_still))]
 pub fn ask_tree<T: Tree>(
     alloc: Global,

@@ -1,3 +1,5 @@
+//! `Failures`: how many calls of devices failed, and which device failed first.
+
 ghost use Rattle.std.specs.Prelude.{◌≡◌, None};
 ghost use Rattle.mvn_shared.specs.Cause.{HasRisen};
 ghost use Rattle.model_resolver.specs.Noting.{first_noted};
@@ -18,7 +20,7 @@ pub struct Failures {
 }
 
 impl Failures {
-    /// None so far.
+    /// No failures so far.
     pub fn none() -> Failures
         ensures { (result.count ≡ 0) × (result.first ≡ None) }
     {

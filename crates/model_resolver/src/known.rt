@@ -1,4 +1,5 @@
-// What is known of a POM without asking a device.
+//! What is known of a POM without asking a device.
+
 ghost use Rattle.std.specs.Prelude.{◌≡◌, find, replicate, IfOk};
 ghost use Rattle.std.specs.Option.{option_copied, option_map};
 ghost use Rattle.std.specs.Str.{bytes_eq};
@@ -12,7 +13,7 @@ use mvn_shared::{Bytes, Mem, Text};
 use pom_source::Found;
 use std::alloc::Global;
 
-// So many spaces.
+// A number of spaces.
 fn spaces(alloc: Global, count: usize) -> Mem<Bytes>
     ensures { IfOk result (λ bytes. bytes ≡ replicate count 32) }
 {

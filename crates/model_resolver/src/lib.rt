@@ -1,4 +1,10 @@
-//! The POMs that a project builds on, looked up in its folder, in the local repository and in a remote one.
+//! Looks POMs up for a project: by path in its folder, and by coordinates among its own POMs and in two repositories.
+//!
+//! 1. `known::project_at` and `known::project_of` find a POM among those of the project, without asking a device.
+//! 2. `asking::ask_tree` asks the project's folder for a path.
+//! 3. `repositories::find_in_repositories` asks the local repository for coordinates, and then the remote one.
+//!
+//! Once a device failed, `failures::Failures` names it, and none is asked any more.
 #![tactic(auto)]
 
 mod asking;

@@ -1,4 +1,5 @@
-// The project's POMs, with the place of the first of each coordinates.
+//! The project's POMs, with the place of the first of each coordinates.
+
 ghost use Rattle.std.specs.Prelude.{◌≡◌, find, slice_get, Some, IfOk, OnOk, if◌then◌else◌};
 ghost use Rattle.std.specs.HashMap.{get};
 ghost use Rattle.std.specs.Option.{option_copied};
@@ -13,7 +14,8 @@ use std::alloc::Global;
 use std::collections::HashMap;
 use std::marker::Model;
 
-/// The project's POMs that were read, in their order, where coordinates are found at once. Contracts see them as the list. Project rule.
+/// The project's POMs that were read, in their order, where coordinates are found at once. Contracts see them as the
+/// list. Project rule.
 #[derive(Drop)]
 pub struct ProjectPoms<'p> {
     poms: &'p [ProjectPom],
@@ -47,7 +49,7 @@ fn put_place(places: &mut HashMap<Gav, usize>, gav: &Gav, place: usize) -> Mem<(
     Ok(())
 }
 
-// The place of the first POM of each coordinates: from the last POM to the first, each takes the place of one behind it.
+// The place of the first POM of each coordinates: from the last POM to the first, each takes the place of one after it.
 fn places_of(alloc: Global, poms: &[ProjectPom]) -> Mem<HashMap<Gav, usize>>
     ensures { IfOk result (λ places. LeadToFirst poms.now poms.now (get gav_eq places)) }
 {
@@ -74,7 +76,7 @@ impl<'p> ProjectPoms<'p> {
         Ok(ProjectPoms { poms, places })
     }
 
-    /// All of them. Constant time.
+    /// The POMs as a list. Constant time.
     pub(crate) fn list(&self) -> &[ProjectPom]
         ensures { result.now ≡ self.now }
     {

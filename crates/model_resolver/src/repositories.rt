@@ -1,4 +1,5 @@
-// A POM looked up by its coordinates in the two repositories.
+//! A POM looked up by its coordinates in the two repositories.
+
 ghost use Rattle.std.specs.Prelude.{◌≡◌, ℕ, List, Option, codes, [], true, IfOk, IfSome};
 ghost use Rattle.std.specs.Option.{option_map, option_or};
 ghost use Rattle.mvn_shared.specs.Cause.{HasCause};

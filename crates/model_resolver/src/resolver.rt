@@ -1,3 +1,5 @@
+//! `ModelResolver`: POMs looked up over the project's folder, its own POMs and two repositories.
+
 use crate::asking::{ask_there, ask_tree};
 use crate::failures::Failures;
 use crate::known::{project_at, project_of};
@@ -17,10 +19,10 @@ pub struct ProjectPom {
     pub bytes: Bytes,
 }
 
-/// Looks POMs up: by their path in the project's folder; by their coordinates among the project's POMs first, then in the local
-/// repository, then in the remote one. Each of the project's POMs that was read is answered from memory. It counts its failures, and
-/// keeps which device failed first; after that no device is asked. A look-up by coordinates among the project's POMs costs the
-/// coordinates, on the average. Maven Model Builder, `ModelResolver`.
+/// Looks POMs up: by their path in the project's folder; by their coordinates among the project's POMs first, then in
+/// the local repository, then in the remote one. Each of the project's POMs that was read is answered from memory. It
+/// counts its failures, and keeps which device failed first; after that no device is asked. A look-up by coordinates
+/// among the project's POMs costs the coordinates, on the average. Maven Model Builder, `ModelResolver`.
 #[derive(Drop)]
 pub struct ModelResolver<'t, 's, 'r, 'p, T, S, R> {
     pub alloc: Global,

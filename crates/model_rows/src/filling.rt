@@ -1,10 +1,9 @@
 // Expressions in a POM.
-use interpolate::fill;
+use interpolation::fill;
 use model_types::RawModel;
 use mvn_base::{Machine, ModelError, Pair};
 use mvn_shared::{List, Mem, Shared, Text};
-use row_models::{field, machine, pairs, project};
-use shown_models::push_texts;
+use row_models::{field, machine, pairs, project, push_texts};
 use std::alloc::Global;
 
 fn shared(alloc: Global, model: RawModel) -> Result<Shared<RawModel>, ModelError> {
@@ -23,7 +22,7 @@ fn filled_in(
     shared(alloc, model)
 }
 
-// The same of the folder `/w/app`.
+// The POM of the folder `/w/app` with what its expressions come to on a machine.
 fn filled_on(
     alloc: Global,
     raw: &RawModel,
@@ -53,7 +52,7 @@ fn told_filled(alloc: Global, raw: &RawModel, defines: &[Pair]) -> Result<String
     Ok(shown(alloc, &model)?)
 }
 
-// The same with the properties of a field.
+// The packaging and the modules of a POM filled with the properties of a field.
 fn told_with(alloc: Global, raw: &RawModel, field: &str) -> Result<String, ModelError> {
     let defines = pairs(alloc, field)?;
     told_filled(alloc, raw, defines.as_slice())
@@ -110,7 +109,7 @@ fn told_length(alloc: Global, raw: &RawModel, defines: &[Pair]) -> Result<String
     Ok(length(alloc, &model)?)
 }
 
-// The same with so many properties, each of which names the one before it twice.
+// The length of a POM's packaging, filled with so many properties, each of which names the one before it twice.
 fn told_with_doubled(
     alloc: Global,
     raw: &RawModel,

@@ -2,9 +2,8 @@
 use model_types::RawModel;
 use mvn_base::ModelError;
 use mvn_shared::{Mem, Shared};
-use profile_injection::inject;
-use row_models::{behind, field};
-use shown_models::{push_base, push_build_base};
+use profiles::inject;
+use row_models::{behind, field, push_base, push_build_base};
 use std::alloc::Global;
 
 // The words of a field as numbers.

@@ -2,7 +2,7 @@
 use model_types::Dependency;
 use mvn_base::Pair;
 use mvn_shared::{List, Mem, Shared};
-use shown_models::{push_dependencies, push_pairs};
+use row_models::{push_dependencies, push_pairs};
 use std::alloc::Global;
 
 fn push_both_properties(shown: &mut String, joined: &List<Pair>, settled: &List<Pair>) -> Mem<()> {

@@ -1,15 +1,11 @@
 // POMs and parts of POMs that are joined.
 use crate::joined_lists::{both_needs, both_properties};
-use inheritance::inherit;
-use keyed_lists::{settled, with_others};
-use model_merge::merged_plugin;
+use inheritance::{inherit, super_pom};
+use model_merge::{merged_configuration, merged_plugin, settled, with_others};
 use model_types::{Dependency, Plugin, RawModel};
 use mvn_base::{ModelError, Pair};
 use mvn_shared::{Mem, Shared};
-use root_pom::super_pom;
-use row_models::{behind, field, word};
-use settings_merge::merged_configuration;
-use shown_models::{build_text, model_text, plugin_text, settings_text};
+use row_models::{behind, build_text, field, model_text, plugin_text, settings_text, word};
 use std::alloc::Global;
 
 // A POM with its parent's.
@@ -65,7 +61,7 @@ fn properties(alloc: Global, child: &[Pair], parent: &[Pair]) -> Mem<String> {
     both_properties(alloc, &joined, &again)
 }
 
-// The same of dependencies.
+// Two lists of dependencies joined, and the same settled once more.
 fn needs(
     alloc: Global,
     child: &[Shared<Dependency>],

@@ -1,16 +1,18 @@
-//! Rows about models, each with its answer: what POMs come to with their profiles, their parents, what is managed, and expressions. A line
-//! of standard input is a word, which says what is asked for, and fields with a bar between two of them; the answer is printed as one
-//! line. A line that begins with `#` is printed as it stands. A POM that is refused is answered by the number of the rule and the place.
-//! `row_models` says how POMs are spelled. They stand in a project behind the `modelVersion`, and except for `fill` behind the
+//! The program `model_rows` answers rows about models: what POMs come to with their profiles, their parents, what is managed, and
+//! expressions.
+//!
+//! A line of standard input is a word, which says what is asked for, and fields with a bar between two of them; the answer is printed as
+//! one line. A line that begins with `#` is printed as it stands. A POM that is refused is answered by the number of the rule and the
+//! place. `row_models` says how POMs are spelled. They stand in a project after the `modelVersion`, and except for `fill` after the
 //! coordinates g:a:1 too.
 //!
 //! - `inject POM|PLACE ..`: what it states with its profiles at these places
 //! - `inherit CHILD|PARENT`; `over-super POM`: how it is built where it builds on no other; `merged-plugin CHILD|PARENT` and
-//!   `merged-configuration CHILD|PARENT` of the first plugins; `properties CHILD|PARENT` and `needs CHILD|PARENT`: these lists
-//!   joined, and settled once more
+//!   `merged-configuration CHILD|PARENT` of the first plugins; `properties CHILD|PARENT` and `needs CHILD|PARENT`: these lists joined,
+//!   and settled once more
 //! - `apply POM|IMPORT ..`: its dependencies with what it manages, and what the imports do; `apply-plugins POM`
-//! - `fill POM|NAME=VALUE ..`: its packaging and its modules with what expressions come to; `fill-doubled POM|COUNT|TEXT`: how long
-//!   its packaging is with so many properties of the command line, `p0` the text and each further one twice the one before it
+//! - `fill POM|NAME=VALUE ..`: its packaging and its modules with what expressions come to; `fill-doubled POM|COUNT|TEXT`: how long its
+//!   packaging is with so many properties of the command line, `p0` the text and each further one twice the one before it
 #![tactic(auto)]
 
 mod filling;

@@ -1,11 +1,10 @@
 // What is managed, and what declarations take from it.
-use keyed_lists::copies;
 use managed_deps::{ManagedSet, apply, apply_plugins, managed};
+use model_merge::copies;
 use model_types::{Dependency, RawModel};
 use mvn_base::ModelError;
 use mvn_shared::{List, Mem, Shared};
-use row_models::{behind, field};
-use shown_models::{needs_text, plugins_text};
+use row_models::{behind, field, needs_text, plugins_text};
 use std::alloc::Global;
 
 // What a POM manages.

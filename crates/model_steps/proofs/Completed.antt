@@ -10,10 +10,10 @@ use Rattle.model_types.specs.declared.build.BuildBase.{BuildBase}
 use Rattle.model_types.specs.declared.dependency.Dependency.{Dependency}
 use Rattle.model_types.specs.declared.model.Model.{Model}
 use Rattle.model_types.specs.declared.model.RawModel.{RawModel}
-use Rattle.keyed_lists.specs.Keyed.{settled}
+use Rattle.model_merge.specs.Keyed.{settled}
 use Rattle.managed_deps.specs.Managed.{add, all_entries, apply_one, find_pair, first_of_each, is_import, key_of, own_entries}
 use Rattle.model_steps.specs.Assembly.{kept_as, managed_set, model_of, with_scope}
-use Rattle.model_validation.specs.Valid.{has_no_import, is_scoped}
+use Rattle.model_steps.specs.Valid.{has_no_import, is_scoped}
 
 -- what a scope is put in for has one
 stated : (own : Option (List ℕ)) (scope : List ℕ) → is_some (option_or own (Some scope)) ≡ true

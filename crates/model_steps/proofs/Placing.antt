@@ -5,8 +5,8 @@ use Rattle.std.specs.Prelude.{codes}
 use Rattle.std.specs.Cmp.Lexicographic.{nat_list_eq_equiv}
 use Rattle.std.specs.Option.{is_some}
 use Rattle.std.specs.Str.{bytes_eq}
-use Rattle.pom_paths.specs.Paths.{joined}
-use Rattle.profile_activation.specs.Lookups.{behind}
+use Rattle.mvn_base.specs.Paths.{joined}
+use Rattle.profiles.specs.Lookups.{behind}
 use Rattle.model_steps.specs.Folders.{from_basedir, is_absolute, placed, stays}
 
 -- a text begins with its front

@@ -15,8 +15,8 @@ use Rattle.model_types.specs.declared.model.Model.{Model}
 use Rattle.model_types.specs.declared.model.ModelBase.{ModelBase}
 use Rattle.model_types.specs.declared.model.Parent.{Parent}
 use Rattle.model_types.specs.declared.model.RawModel.{RawModel}
-use Rattle.keyed_lists.specs.Keyed.{settled}
-use Rattle.keyed_lists.specs.Keys.{key_of_dependency, key_of_extension}
+use Rattle.model_merge.specs.Keyed.{settled}
+use Rattle.model_merge.specs.Keys.{key_of_dependency, key_of_extension}
 use Rattle.model_merge.specs.Merging.{settled_plugins}
 use Rattle.managed_deps.specs.Managed.{all_entries, apply_one, first_of_each, is_scope}
 

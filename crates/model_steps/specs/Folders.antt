@@ -10,11 +10,11 @@ use Rattle.model_types.specs.declared.build.Build.{Build}
 use Rattle.model_types.specs.declared.build.Outputs.{Outputs}
 use Rattle.model_types.specs.declared.build.Sources.{Sources}
 use Rattle.model_types.specs.declared.model.RawModel.{RawModel}
-use Rattle.interpolate.specs.Filling.{fill}
-use Rattle.pom_paths.specs.Paths.{joined}
-use Rattle.profile_activation.specs.Activation.{folder_of}
-use Rattle.profile_activation.specs.FileTexts.{basedir_of}
-use Rattle.profile_activation.specs.Lookups.{behind}
+use Rattle.interpolation.specs.Filling.{fill}
+use Rattle.mvn_base.specs.Paths.{joined}
+use Rattle.profiles.specs.Activation.{folder_of}
+use Rattle.profiles.specs.FileTexts.{basedir_of}
+use Rattle.profiles.specs.Lookups.{behind}
 use Rattle.pom_source.specs.Answers.{Built, refused, ◌>>=◌}
 use Rattle.pom_source.specs.declared.found.Given.{Given}
 

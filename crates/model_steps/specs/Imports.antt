@@ -9,9 +9,9 @@ use Rattle.model_types.specs.declared.dependency.Dependency.{Dependency}
 use Rattle.managed_deps.specs.Managed.{key_of}
 use Rattle.pom_source.specs.Answers.{Built}
 use Rattle.pom_source.specs.Refusals.{text_refused}
-use Rattle.model_validation.specs.Kinds.{kind_of}
-use Rattle.model_validation.specs.declared.kind.VersionKind.{VersionKind}
-use Rattle.model_validation.specs.declared.kind.VersionKind.TheVariants.{Missing, Soft, Range, Unreadable}
+use Rattle.model_steps.specs.Kinds.{kind_of}
+use Rattle.model_steps.specs.declared.kind.VersionKind.{VersionKind}
+use Rattle.model_steps.specs.declared.kind.VersionKind.TheVariants.{Missing, Soft, Range, Unreadable}
 
 -- the coordinates of a dependency; a version that is missing is empty
 abbrev pub dependency_gav : Dependency → Gav

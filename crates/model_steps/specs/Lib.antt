@@ -1,5 +1,11 @@
 pub use Rattle.managed_deps.specs.Managed
 pub use Rattle.pom_source.specs.Answers
+pub mod Kinds
+pub mod Valid
+pub mod Validation
+pub mod Alike
+pub mod Building
+pub mod Once
 pub mod Assembly
 pub mod Folders
 pub mod Imports

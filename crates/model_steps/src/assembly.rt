@@ -1,17 +1,18 @@
+//! The effective model, put together from a filled model, its plugins and its imports.
+
 ghost use Rattle.std.specs.Prelude.{◌≡◌, Some, codes, filter, map, not, option_map, true, IfOk};
 ghost use Rattle.std.specs.List.{list_all};
 ghost use Rattle.model_types.specs.declared.model.Parent as parents;
 ghost use Rattle.model_types.specs.declared.dependency.Dependency as entries;
 ghost use Rattle.model_steps.specs.Assembly.{base_of, build_of, completed, gav_of, is_dropped, kept_as, model_of, plugins_as, settled_base, with_scope};
-ghost use Rattle.model_validation.specs.Valid.{has_no_import, is_scoped};
+ghost use Rattle.model_steps.specs.Valid.{has_no_import, is_scoped};
 
-use keyed_lists::{Keyed, copies, settled};
+use crate::{is_scope, once, plugins_once, text_or_empty};
 use managed_deps::{ManagedSet, apply, managed};
+use model_merge::{Keyed, copies, settled};
 use model_types::{
     Build, BuildBase, Coordinates, Dependency, Exclusion, Model, ModelBase, Parent, RawModel,
 };
-use model_validation::{is_scope, text_or_empty};
-use module_plugins::{once, plugins_once};
 use mvn_base::{Gav, Key, PomId};
 use mvn_shared::{List, Mem, Shared, Text};
 use std::alloc::Global;
@@ -293,14 +294,15 @@ fn composed(
     })
 }
 
-/// The effective model, before it is checked, of a filled model, of its plugins and of the entries that each of its imports manages, in
-/// the order of the imports. Of a key the first entry counts: the model's own without its imports, then those of the imports. Of
-/// dependencies, of extensions, and of the plugins of a POM by coordinates the last one of each key stands, at the place of the
-/// first: expressions may have made keys equal. A dependency takes what is managed under its key, and the scope `compile` if it has
-/// none. A POM that was read by coordinates loses the dependencies that are optional or of scope `test`, `provided` or `system`
-/// before that. Costs the entries, the dependencies, the extensions and those plugins, on the average. Introduction to the
-/// Dependency Mechanism, "Dependency Management"; that a POM by coordinates loses dependencies, and which of one key stands, are
-/// project rules.
+/// The effective model, before it is checked, of a filled model, of its plugins and of the entries that each of its
+/// imports manages, in the order of the imports. Of a key the first entry counts: the model's own without its imports,
+/// then those of the imports. Of dependencies, of extensions, and of the plugins of a POM by coordinates the last one
+/// of each key stands, at the place of the first: expressions may have made keys equal. A dependency takes what is
+/// managed under its key, and the scope `compile` if it has none. A POM that was read by coordinates loses the
+/// dependencies that are optional or of scope `test`, `provided` or `system` before that. Costs the entries, the
+/// dependencies, the extensions and those plugins, on the average. Introduction to the Dependency Mechanism,
+/// "Dependency Management"; that a POM by coordinates loses dependencies, and which of one key stands, are project
+/// rules.
 #[tactic(auto, using(crate::proofs::Completed::scoped, crate::proofs::Completed::no_import_left))]
 pub fn model_of(
     alloc: Global,

@@ -1,18 +1,19 @@
+//! A model with its texts filled and its folders placed below the POM's own folder.
+
 ghost use Rattle.std.specs.Prelude.{◌≡◌, [], ◌∷◌, ◌++◌, List as Items, ℕ, codes, false, is_some, map, option_map, IfOk};
-ghost use Rattle.profile_activation.specs.Lookups.{behind};
-ghost use Rattle.interpolate.specs.Filling.{fill};
-ghost use Rattle.pom_paths.specs.Paths.{joined};
+ghost use Rattle.profiles.specs.Lookups.{behind};
+ghost use Rattle.interpolation.specs.Filling.{fill};
+ghost use Rattle.mvn_base.specs.Paths.{joined};
 ghost use Rattle.pom_source.specs.Answers.{Says, build_failed, refused};
 ghost use Rattle.model_steps.specs.Folders.{basedir_in, filled, from_basedir, is_absolute, placed, placed_build, placed_in, placed_outputs, placed_sources, stays};
 
-use interpolate::fill;
-use keyed_lists::copies;
+use interpolation::fill;
+use model_merge::copies;
 use model_types::{Build, Outputs, RawModel, Sources};
-use mvn_base::{Machine, ModelError, PomId};
+use mvn_base::{Machine, ModelError, PomId, joined};
 use mvn_shared::{List, Mem, Shared, Text};
-use pom_paths::joined;
 use pom_source::{BuildFault, Given};
-use profile_activation::{basedir_of, behind};
+use profiles::{basedir_of, behind};
 use std::alloc::Global;
 
 // The folder of a POM as a path of the system; a POM that was read by coordinates has none.
@@ -57,7 +58,7 @@ fn stays(alloc: Global, basedir: &Text, folder: &Text) -> Mem<bool>
     is_below(alloc, basedir, folder)
 }
 
-// A relative folder behind a relative basedir.
+// A relative folder after a relative basedir.
 fn below_basedir(alloc: Global, basedir: &Text, folder: &Text) -> Mem<Text>
     ensures { IfOk result (λ path. path ≡ basedir.now ++ 47 ∷ joined [] folder.now) }
 {
@@ -196,10 +197,11 @@ fn filled_texts(
     }
 }
 
-/// A joined model with its expressions replaced, and, if its POM is one of the project, with the folders of its build as paths of the
-/// system; or the first refusal of a text. An absolute folder, the POM's own folder and one that is written below it stay as they
-/// are. Any other is followed from the POM's folder on, with `.` and `..`. Costs the texts, and all that can be named. POM Reference,
-/// "Properties" and "Directories"; which folders stay as they are is a project rule.
+/// A joined model with its expressions replaced, and, if its POM is one of the project, with the folders of its build
+/// as paths of the system; or the first refusal of a text. An absolute folder, the POM's own folder and one that is
+/// written below it stay as they are. Any other is followed from the POM's folder on, with `.` and `..`. Costs the
+/// texts, and all that can be named. POM Reference, "Properties" and "Directories"; which folders stay as they are is a
+/// project rule.
 #[tactic(auto, unfolding(crate::specs::Folders::filled))]
 pub fn filled(alloc: Global, given: &Given, raw: &RawModel) -> Result<RawModel, BuildFault>
     ensures says { Says (filled given.now raw.now) result }

@@ -1,3 +1,5 @@
+//! Which managed entries are imports, and the coordinates that they import.
+
 ghost use Rattle.std.specs.Prelude.{◌≡◌, [], false, unwrap_or, Err, IfOk};
 ghost use Rattle.managed_deps.specs.Managed.{is_import, key_of};
 ghost use Rattle.mvn_base.specs.Key.{key_text};
@@ -5,16 +7,16 @@ ghost use Rattle.pom_source.specs.Answers.{Says, build_failed};
 ghost use Rattle.pom_source.specs.Refusals.{text_refused};
 ghost use Rattle.model_steps.specs.Imports.{dependency_gav, gav_by, import_gav};
 
-use keyed_lists::Keyed;
+use crate::{VersionKind, is_scope, kind_of, text_or_empty};
+use model_merge::Keyed;
 use model_types::Dependency;
-use model_validation::{VersionKind, is_scope, kind_of, text_or_empty};
 use mvn_base::{Gav, PomId, Rule, key_text};
 use mvn_shared::{Mem, Text};
 use pom_source::{BuildFault, text_refused};
 use std::alloc::Global;
 
-/// Whether a managed entry stands for what another POM manages: its scope is `import`. Constant time. Introduction to the Dependency
-/// Mechanism, "Importing Dependencies".
+/// Whether a managed entry stands for what another POM manages: its scope is `import`. Constant time. Introduction to
+/// the Dependency Mechanism, "Importing Dependencies".
 pub fn is_import(dependency: &Dependency) -> bool
     ensures { result ≡ is_import dependency.now }
 {
@@ -83,10 +85,11 @@ fn gav_by(
     }
 }
 
-/// The coordinates of the POM that a managed entry of scope `import` stands for; its classifier doesn't matter. It is refused if its
-/// type isn't `pom` (rule 23), or else if it has no version (19), both at its key; or else if the version is a range or can't be read,
-/// as an empty one (20), at the version. The refusal names the POM that is given. Costs the entry's texts. Introduction to the
-/// Dependency Mechanism, "Importing Dependencies"; the order of refusals is a project rule.
+/// The coordinates of the POM that a managed entry of scope `import` stands for; its classifier doesn't matter. It is
+/// refused if its type isn't `pom` (rule 23), or else if it has no version (19), both at its key; or else if the
+/// version is a range or can't be read, as an empty one (20), at the version. The refusal names the POM that is given.
+/// Costs the entry's texts. Introduction to the Dependency Mechanism, "Importing Dependencies"; the order of refusals
+/// is a project rule.
 #[tactic(auto, unfolding(crate::specs::Imports::import_gav))]
 pub fn import_gav(alloc: Global, pom: &PomId, dependency: &Dependency) -> Result<Gav, BuildFault>
     ensures says { Says (import_gav pom.now dependency.now) result }

@@ -20,7 +20,7 @@ fn seen(edges: &List<Edge>, at: usize, requirement: &str) -> (usize, Option<usiz
     }
 }
 
-// The same of a project's own edges, of which the second is looked at.
+// How many edges a project has of its own, and the position of the second, where it requires 1.
 fn own(alloc: Global, model: &RawModel) -> Mem<(usize, Option<usize>)> {
     let own = direct_edges(alloc, model.base.dependencies.as_slice())?;
     Ok(seen(&own, 1, "1"))
@@ -34,7 +34,7 @@ fn a_project_has_all_that_it_declares(rt: HostRuntime) -> Result<(), Fail> {
     Ok(())
 }
 
-// The same of the edges below a project, of which the first is looked at.
+// How many edges there are below a project, and the position of the first, where it requires 2.
 fn cut_below(
     alloc: Global,
     model: &RawModel,
@@ -45,13 +45,13 @@ fn cut_below(
     Ok(seen(&below, 0, "2"))
 }
 
-// The same where nothing is excluded.
+// What `cut_below` tells where nothing is excluded.
 fn below_with(alloc: Global, model: &RawModel, set: &ManagedSet) -> Mem<(usize, Option<usize>)> {
     let cut = Exclusions::new(alloc, List::new(alloc))?;
     cut_below(alloc, model, set, &cut)
 }
 
-// The same by the project's own management.
+// What `below_with` tells by the project's own management.
 fn below(alloc: Global, model: &RawModel) -> Mem<(usize, Option<usize>)> {
     let set = managed(alloc, model.base.managed.as_slice(), &[])?;
     below_with(alloc, model, &set)

@@ -1,5 +1,5 @@
 // Plugins and dependencies that are merged, inherited and managed (`model_merge`, `inheritance`, `managed_deps`).
-use merged_plugins::{
+use crate::{
     Way, executions_left, is_execution_inherited, is_inherited, joined, joined_over, key_artifact,
     managed_count,
 };

@@ -1,3 +1,5 @@
+//! How a module is built: its plugins, and the folders that a build reads and writes.
+
 use crate::plugin::Plugin;
 use mvn_base::Gav;
 use mvn_shared::{List, Shared, Text};

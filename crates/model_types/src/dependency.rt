@@ -1,3 +1,5 @@
+//! A dependency that a POM states, and the exclusions below it.
+
 ghost use Rattle.std.specs.Prelude.{◌≡◌};
 
 use mvn_shared::{List, Text};

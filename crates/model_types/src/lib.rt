@@ -1,5 +1,6 @@
-//! Models of POMs: what one POM says, and what holds for a module when all that it builds on is counted in. Their groups and
-//! items are shared, so that what is taken over unchanged isn't copied.
+//! Models of POMs: what one POM says, and what holds for a module when all that it builds on is counted in.
+//!
+//! Groups and items of a model are shared, so that what is taken over unchanged isn't copied.
 #![tactic(auto)]
 
 mod build;

@@ -1,3 +1,5 @@
+//! The model of one POM as it stands, and the effective model of a module.
+
 use crate::build::Build;
 use crate::dependency::Dependency;
 use crate::profile::Profile;
@@ -44,8 +46,8 @@ pub struct RawModel {
     pub profiles: Shared<List<Profile>>,
 }
 
-/// What holds for a module: its POM with its profiles, its parents and imports counted in, and every expression filled. POM
-/// Reference, "The Effective POM".
+/// What holds for a module: its POM with its profiles, its parents and imports counted in, and every expression filled.
+/// POM Reference, "The Effective POM".
 #[derive(Drop)]
 pub struct Model {
     pub pom: Shared<PomId>,

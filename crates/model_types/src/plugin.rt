@@ -1,3 +1,5 @@
+//! A plugin, and the executions of its goals.
+
 use crate::dependency::Dependency;
 use mvn_base::Setting;
 use mvn_shared::{List, Shared, Text};

@@ -1,3 +1,5 @@
+//! A profile, and what activates it.
+
 use crate::build::BuildBase;
 use crate::model::ModelBase;
 use mvn_shared::{Shared, Text};

@@ -1,2 +1,5 @@
+pub mod CoordinateBytes
+pub mod Coordinates
+pub mod Cuts
 pub mod Expressions
 pub mod FileNames

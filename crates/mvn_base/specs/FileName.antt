@@ -1,6 +1,6 @@
 -- The names of a repository's files. Maven's repository layout.
-use Rattle.std.specs.Prelude.{◌≡◌, ℕ, Bool, true, not, ◌&&◌, ◌||◌, ◌==◌, nat_eq, nat_lt, ◌-◌, List, [], ◌∷◌, ◌++◌, length, map, codes, Option, Some, None, if◌then◌else◌}
-use Rattle.std.specs.List.{slice_split, slice_index_or}
+use Rattle.std.specs.Prelude.{◌≡◌, ℕ, Bool, true, not, ◌&&◌, ◌||◌, ◌==◌, nat_eq, nat_le, nat_lt, ◌-◌, List, [], ◌∷◌, ◌++◌, length, map, codes, Option, Some, None, if◌then◌else◌}
+use Rattle.std.specs.List.{list_all, slice_split, slice_index_or}
 use Rattle.std.specs.Cmp.Lexicographic.{pointwise}
 use Rattle.mvn_base.specs.declared.gav.Gav.{Gav}
 use Rattle.mvn_base.specs.Names.{is_filled, is_name, is_group, is_version}
@@ -35,6 +35,26 @@ is_classifier text = not (is_filled text) || is_name text
 -- the name of a POM
 abbrev pub pom_name : List ℕ → List ℕ → List ℕ → List ℕ
 pom_name group artifact version = file_name (record { group = group; artifact = artifact; version = version }) [] (codes "pom")
+
+-- the name of the list of an artifact's versions: group/artifact/versions.index
+abbrev pub index_file : List ℕ → List ℕ → List ℕ
+index_file group artifact = artifact_folder group artifact ++ codes "versions.index"
+
+-- the name of the file beside another that holds its SHA-1
+abbrev pub sidecar_name : List ℕ → List ℕ
+sidecar_name name = name ++ codes ".sha1"
+
+-- a digit of a digest: 0 to 9, or a to f
+abbrev pub is_hex_digit : ℕ → Bool
+is_hex_digit b = (nat_le 48 b && nat_le b 57) || (nat_le 97 b && nat_le b 102)
+
+-- the digits of a SHA-256
+abbrev pub is_digest : List ℕ → Bool
+is_digest text = (length text == 64) && list_all is_hex_digit text
+
+-- the name of a cache's entry, by the digest of its key
+abbrev pub entry_name : List ℕ → List ℕ
+entry_name digest = codes "cache/" ++ digest
 
 -- the step before the last of a path, empty where there is none
 abbrev pub step_before_last : List (List ℕ) → List ℕ

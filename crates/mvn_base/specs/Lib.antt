@@ -1,4 +1,5 @@
-pub mod Faults
+pub mod Paths
+pub mod Apart
 pub mod FileName
 pub mod Gav
 pub mod Key

@@ -1,33 +1,19 @@
+//! `ModelError`: why a POM has no model, which is a refusal or want of memory.
+
 ghost use Rattle.std.specs.Prelude.{◌≡◌};
 
 use crate::refusal::Refusal;
 use mvn_shared::OutOfMemory;
-use std::error::Error;
-use std::fmt;
+use thiserror::Error;
 
 /// Why a POM has no model: it is refused, or memory ran out.
-#[derive(Debug, Drop)]
+#[derive(Debug, Drop, Error)]
 pub enum ModelError {
+    #[error("{0}")]
     Refused(Refusal),
+    #[error("out of memory")]
     Memory,
 }
-
-impl fmt::Display for ModelError {
-    ghost use Rattle.std.specs.Prelude.{Some};
-    ghost use Rattle.mvn_base.specs.Faults.{error_text};
-
-    ghost output = { λ error. Some (error_text error) };
-
-    #[tactic(auto, unfolding(crate::specs::Faults::error_text))]
-    fn fmt<W: fmt::Write>(&self, f: &mut fmt::Formatter<W>) -> fmt::Result {
-        match self {
-            ModelError::Refused(refusal) => write!(f, "{refusal}"),
-            ModelError::Memory => write!(f, "out of memory"),
-        }
-    }
-}
-
-impl Error for ModelError {}
 
 impl From<OutOfMemory> for ModelError {
     ghost use Rattle.mvn_base.specs.declared.fault.ModelError.TheVariants.{Memory};

@@ -1,6 +1,8 @@
+//! The names of a repository's files, made from coordinates alone. Maven's repository layout.
+
 ghost use Rattle.std.specs.Prelude.{◌≡◌, ◌<◌, ◌==◌, nat_eq, ◌++◌, [], ◌∷◌, true, map, codes, IfOk, OnOk};
 ghost use Rattle.std.specs.String.{string_bytes};
-ghost use Rattle.mvn_base.specs.FileName.{artifact_folder, folder_byte, classifier_part, file_name, IsValid, is_classifier, pom_name, step_before_last, version_in};
+ghost use Rattle.mvn_base.specs.FileName.{artifact_folder, folder_byte, classifier_part, entry_name, file_name, index_file, IsValid, is_classifier, is_digest, pom_name, sidecar_name, step_before_last, version_in};
 ghost use Rattle.std.specs.Cmp.Lexicographic.{pointwise};
 ghost use Rattle.std.specs.List.{slice_split};
 ghost use Rattle.mvn_base.specs.Names.{is_group, is_name, is_version};
@@ -119,6 +121,46 @@ pub fn file_of(alloc: Global, gav: &Gav, classifier: &Text, extension: &Text) ->
     push_classifier(&mut path, classifier.as_str())?;
     path.push('.')?;
     path.push_str(extension.as_str())?;
+    let path = Text::of(path);
+    Ok(FileName { path })
+}
+
+/// The name of the file that lists which versions of an artifact are installed: `group/artifact/versions.index`, with `/` for
+/// the dots of the group. No artifact has it, since the last step of an artifact's name has a `-`. Costs its length. Project
+/// rule.
+pub fn index_file(alloc: Global, group: &Text, artifact: &Text) -> Mem<FileName>
+    requires group { is_group group.now ≡ true }
+    requires artifact { is_name artifact.now ≡ true }
+    ensures { IfOk result (λ name. name ≡ index_file group.now artifact.now) }
+{
+    let mut path = group_folder(alloc, group.as_bytes())?;
+    path.push('/')?;
+    path.push_str(artifact.as_str())?;
+    path.push_str("/versions.index")?;
+    let path = Text::of(path);
+    Ok(FileName { path })
+}
+
+/// The name of the file beside another that holds its SHA-1: that name and `.sha1`. Costs its length. Maven's repository
+/// layout.
+pub fn sidecar_name(alloc: Global, name: &FileName) -> Mem<FileName>
+    ensures { IfOk result (λ sidecar. sidecar ≡ sidecar_name name.now) }
+{
+    let mut path = String::new(alloc);
+    path.push_str(name.path.as_str())?;
+    path.push_str(".sha1")?;
+    let path = Text::of(path);
+    Ok(FileName { path })
+}
+
+/// The name of a cache's entry: `cache/` and the 64 digits of its key's SHA-256. Costs its length. Project rule.
+pub fn entry_name(alloc: Global, digest: &Text) -> Mem<FileName>
+    requires { is_digest digest.now ≡ true }
+    ensures { IfOk result (λ name. name ≡ entry_name digest.now) }
+{
+    let mut path = String::new(alloc);
+    path.push_str("cache/")?;
+    path.push_str(digest.as_str())?;
     let path = Text::of(path);
     Ok(FileName { path })
 }

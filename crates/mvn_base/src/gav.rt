@@ -1,3 +1,5 @@
+//! A coordinate of group, artifact and version, and the name of the lock that covers its files.
+
 ghost use Rattle.std.specs.Prelude.{◌≡◌, IfOk};
 ghost use Rattle.mvn_base.specs.Gav.{lock_name};
 

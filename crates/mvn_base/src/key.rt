@@ -1,3 +1,5 @@
+//! The key of a dependency: its group, artifact, type and classifier.
+
 ghost use Rattle.std.specs.Prelude.{◌≡◌, ◌++◌, IfOk, OnOk};
 ghost use Rattle.std.specs.String.{string_bytes};
 ghost use Rattle.mvn_base.specs.Key.{further_part, key_text};

@@ -1,10 +1,14 @@
-//! What Maven's names, rules and places are, below everything that reads a project.
+//! Gives every crate that reads a project Maven's names, keys, coordinates, phases, paths, limits and refusals,
+//! each defined in one place.
 #![tactic(auto)]
 
+pub mod fail_mode;
 pub mod fault;
 pub mod file_name;
 pub mod gav;
+mod joining;
 pub mod key;
+pub mod law;
 pub mod limits;
 pub mod machine;
 pub mod names;
@@ -14,10 +18,15 @@ pub mod rule;
 pub mod setting;
 pub mod type_rule;
 
+pub use fail_mode::FailMode;
 pub use fault::ModelError;
-pub use file_name::{FileName, artifact_folder, file_of, version_in};
+pub use file_name::{
+    FileName, artifact_folder, entry_name, file_of, index_file, sidecar_name, version_in,
+};
 pub use gav::{Gav, lock_name};
+pub use joining::joined;
 pub use key::{Key, key_text};
+pub use law::one_coordinate;
 pub use limits::{
     MAVEN_PLUGINS, MOST_FILES, MOST_MODULES, MOST_OUTPUT, MOST_SOURCES, MOST_VERSIONS, POM_LIMIT,
 };

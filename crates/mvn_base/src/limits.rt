@@ -1,4 +1,4 @@
-// The limits and fixed names that several crates keep, each in this one place.
+//! The limits and fixed names that several crates keep, each in this one place.
 
 /// The group of Maven's own plugins, which a plugin has where it declares none. POM Reference, "Plugins".
 pub const MAVEN_PLUGINS: &str = "org.apache.maven.plugins";

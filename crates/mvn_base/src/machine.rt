@@ -1,3 +1,5 @@
+//! What a project may ask of the machine that builds it, and the profiles that are switched on and off.
+
 ghost use Rattle.std.specs.Prelude.{◌≡◌};
 
 use mvn_shared::{List, Text};

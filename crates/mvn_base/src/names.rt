@@ -1,4 +1,5 @@
-// Which texts may name a group, an artifact or a version. POM Reference, "Maven Coordinates".
+//! Which texts may name a group, an artifact or a version. POM Reference, "Maven Coordinates".
+
 ghost use Rattle.std.specs.Prelude.{◌≡◌, ◌==◌};
 ghost use Rattle.std.specs.List.{list_all, list_any, slice_split};
 ghost use Rattle.mvn_base.specs.Names.{is_name_byte, is_name, is_group, is_dot, is_filled, is_version_byte, is_version, has_expression};

@@ -1,3 +1,5 @@
+//! The phases of the default lifecycle, in order, and the words for them.
+
 ghost use Rattle.std.specs.Prelude.{◌≡◌, nat_eq, find};
 ghost use Rattle.std.specs.Cmp.Lexicographic.{pointwise};
 ghost use Rattle.mvn_base.specs.Phase.{phase_name, phase_of};

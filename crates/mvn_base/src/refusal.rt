@@ -1,3 +1,5 @@
+//! A refusal of a project: the POM, the rule that it doesn't meet, and the place.
+
 ghost use Rattle.std.specs.Prelude.{◌≡◌};
 
 use crate::gav::Gav;

@@ -1,3 +1,5 @@
+//! The rules that a project may break, with the number and the name that are printed.
+
 ghost use Rattle.std.specs.Prelude.{◌≡◌};
 
 use std::fmt;

@@ -1,3 +1,5 @@
+//! An element of a plugin's configuration, at any depth.
+
 ghost use Rattle.std.specs.Prelude.{◌≡◌, IfOk};
 
 use mvn_shared::{List, Mem, Text};

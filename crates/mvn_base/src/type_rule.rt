@@ -1,3 +1,5 @@
+//! What a dependency's type says of its file: extension, classifier and whether it is on classpaths.
+
 ghost use Rattle.std.specs.Prelude.{◌≡◌, IfOk};
 ghost use Rattle.mvn_base.specs.Types.{is_jar, type_rule};
 
@@ -25,7 +27,8 @@ fn is_jar(kind: &[u8]) -> bool
         || kind == b"test-jar".as_slice()
 }
 
-/// What a dependency's type says of its file; a type that Maven doesn't know is its own extension. Costs the type's length.
+/// What a dependency's type says of its file; a type that Maven doesn't know is its own extension. Costs the type's
+/// length.
 #[tactic(auto, unfolding(crate::specs::Types::type_rule))]
 pub fn handler(alloc: Global, kind: &Text) -> Mem<TypeRule>
     ensures { IfOk result (λ rule. rule ≡ type_rule kind.now) }

@@ -1,2 +1,9 @@
-pub mod Present
-pub mod Workers
+pub mod Besides
+pub mod Building
+pub mod Calling
+pub mod Cut
+pub mod First
+pub mod Statuses
+pub mod Stops
+pub mod Telling
+pub mod Writing

@@ -1,8 +1,8 @@
-//! The program `mvn`.
+//! The program `mvn` does what its words ask for, and ends with the exit status of that.
 #![tactic(auto)]
 
-use mvn_top::NO_MEMORY;
-use program_call::run;
+use mvn_call::NO_MEMORY;
+use program::run;
 use std::process::ExitCode;
 
 fn main(rt: HostRuntime) -> ExitCode {

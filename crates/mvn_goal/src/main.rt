@@ -1,7 +1,8 @@
-//! The program `mvn_goal`: the built-in goals as a child, over the standard streams.
+//! The program `mvn_goal` runs one built-in goal as a child: it reads the request from standard input, and writes the answer to standard
+//! output.
 #![tactic(auto)]
 
-use child_real::RealSource;
+use children::RealSource;
 use goal_program::{FAULT, goal_main};
 use outside_real::RealSink;
 use std::os::fd::AsFd;

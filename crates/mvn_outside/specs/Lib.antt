@@ -1,4 +1,5 @@
 pub use Rattle.mvn_shared.specs.Cause
+pub mod Staged
 pub use Rattle.mvn_shared.specs.Files
 pub use Rattle.mvn_shared.specs.Told
 pub use Rattle.mvn_base.specs.FileName

@@ -1,3 +1,5 @@
+//! `Area`: a worker's staging area, whose pieces are open, then sealed, then gone.
+
 ghost use Rattle.std.specs.Prelude.{◌≡◌, ◌<◌, ◌≤◌, ℕ, Bool, true, false, List, [], Option, None, Some, is_some, IsTrue, length, take, IfOk, OnOk, OnErr};
 ghost use Rattle.std.specs.FinMap as map;
 ghost use Rattle.mvn_shared.specs.Cause.{HasCause};

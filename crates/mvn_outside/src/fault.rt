@@ -1,65 +1,39 @@
+//! Why a device gave no answer, a file wasn't read or names weren't listed.
+
 use mvn_shared::OutOfMemory;
-use std::error::Error;
-use std::fmt;
+use thiserror::Error;
 
 /// Why a device gave no answer: it failed, or memory ran out. A device is any object outside: the project's folder, the
 /// repository, a staging area, the output, and what runs the goals.
-#[derive(Clone, Copy, Debug)]
+#[derive(Clone, Copy, Debug, Error)]
 pub enum DeviceFault {
+    #[error("the device failed")]
     Failed,
+    #[error("out of memory")]
     Memory,
 }
 
 /// Why a file wasn't read: the device failed, the file has more bytes than the caller takes, or memory ran out.
-#[derive(Clone, Copy, Debug)]
+#[derive(Clone, Copy, Debug, Error)]
 pub enum ReadFault {
+    #[error("the device failed")]
     Failed,
+    #[error("the file is too large")]
     TooLarge,
+    #[error("out of memory")]
     Memory,
 }
 
 /// Why names weren't listed: the device failed, there are more than the caller takes, or memory ran out.
-#[derive(Clone, Copy, Debug)]
+#[derive(Clone, Copy, Debug, Error)]
 pub enum ListFault {
+    #[error("the device failed")]
     Failed,
+    #[error("there are too many names")]
     TooMany,
+    #[error("out of memory")]
     Memory,
 }
-
-impl fmt::Display for DeviceFault {
-    fn fmt<W: fmt::Write>(&self, f: &mut fmt::Formatter<W>) -> fmt::Result {
-        f.write_str(match self {
-            DeviceFault::Failed => "the device failed",
-            DeviceFault::Memory => "out of memory",
-        })
-    }
-}
-
-impl fmt::Display for ReadFault {
-    fn fmt<W: fmt::Write>(&self, f: &mut fmt::Formatter<W>) -> fmt::Result {
-        f.write_str(match self {
-            ReadFault::Failed => "the device failed",
-            ReadFault::TooLarge => "the file is too large",
-            ReadFault::Memory => "out of memory",
-        })
-    }
-}
-
-impl fmt::Display for ListFault {
-    fn fmt<W: fmt::Write>(&self, f: &mut fmt::Formatter<W>) -> fmt::Result {
-        f.write_str(match self {
-            ListFault::Failed => "the device failed",
-            ListFault::TooMany => "there are too many names",
-            ListFault::Memory => "out of memory",
-        })
-    }
-}
-
-impl Error for DeviceFault {}
-
-impl Error for ReadFault {}
-
-impl Error for ListFault {}
 
 impl From<OutOfMemory> for DeviceFault {
     ghost use Rattle.std.specs.Prelude.{◌≡◌};

@@ -1,3 +1,5 @@
+//! `Gate`: the device that runs goals.
+
 ghost use Rattle.std.specs.Prelude.{◌≡◌, ℕ, Bool, true, Option, Some, IfOk, IfSome};
 ghost use Rattle.mvn_shared.specs.Cause.{HasCause};
 

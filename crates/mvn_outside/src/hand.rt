@@ -1,3 +1,5 @@
+//! `Hand`: the devices of one worker.
+
 /// What one worker works with: the repository that it fetches from, its own staging area, and what runs its goals.
 #[derive(Drop)]
 pub struct Hand<R, A, G> {

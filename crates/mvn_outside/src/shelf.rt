@@ -1,3 +1,5 @@
+//! `Shelf`: the local repository, where whole files are published and then settled.
+
 ghost use Rattle.std.specs.Prelude.{◌≡◌, ◌≤◌, ℕ, Bool, true, Option, Some, is_some, length, IfOk, IfSome, OnOk, OnErr};
 ghost use Rattle.std.specs.FinMap as map;
 ghost use Rattle.mvn_shared.specs.Cause.{HasCause};

@@ -1,3 +1,5 @@
+//! `Sink`: a device that text is written to, and the writing of a whole text.
+
 ghost use Rattle.std.specs.Prelude.{◌≡◌, ◌<◌, ◌≤◌, ℕ, Bool, true, List, Option, length, take, IfOk, OnOk, OnErr};
 ghost use Rattle.mvn_shared.specs.Cause.{HasCause};
 ghost use Rattle.mvn_shared.specs.Told.{gains, IsCut};

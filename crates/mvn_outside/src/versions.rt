@@ -1,4 +1,5 @@
-// The versions of an artifact among the names of a repository's files.
+//! The versions of an artifact among the names of a repository's files.
+
 ghost use Rattle.std.specs.Prelude.{◌≡◌, true, false, IfOk};
 ghost use Rattle.std.specs.List.{filter_map};
 ghost use Rattle.mvn_outside.specs.Faults.{list_failed};
@@ -27,8 +28,8 @@ fn versions_among(alloc: Global, names: &[Text], group: &Text, artifact: &Text) 
     Ok(versions)
 }
 
-/// The versions whose POMs have these names, in their order; `TooMany` exactly where there are more than 4,096. Costs one
-/// pass over the names.
+/// The versions whose POMs have these names, in their order; `TooMany` exactly where there are more than 4,096. Costs
+/// one pass over the names.
 pub fn list_versions(
     alloc: Global,
     names: &[Text],

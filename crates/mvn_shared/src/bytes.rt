@@ -1,3 +1,5 @@
+//! `Bytes`: the bytes of a file, a word or an artifact, which contracts see as a list.
+
 ghost use Rattle.std.specs.Prelude.{◌≡◌, ◌↔◌, ◌++◌, [], length, IsTrue, IfOk, OnOk, OnErr};
 
 use crate::memory::Mem;

@@ -1,3 +1,5 @@
+//! `FileMap`: files by name, in the order of their names, as an object in memory holds them.
+
 ghost use Rattle.std.specs.Prelude.{◌≡◌, length, IfOk, OnOk, OnErr};
 ghost use Rattle.std.specs.FinMap as map;
 ghost use Rattle.std.specs.Option.{option_copied};

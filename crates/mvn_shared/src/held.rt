@@ -1,4 +1,5 @@
-// Who has the bytes of a text.
+//! Who has the bytes of a text.
+
 ghost use Rattle.std.specs.Prelude.{◌≡◌, ◌++◌, length, IfOk};
 ghost use Rattle.std.specs.String.{string_bytes};
 ghost use Rattle.mvn_shared.specs.Held.{held_bytes};
@@ -8,7 +9,8 @@ use crate::part::Part;
 use crate::shared::Shared;
 use std::alloc::{AllocError, Global};
 
-/// The bytes of a text: it alone has them, and may add to them, or they are a part of a text, or all of one, that others share too.
+/// The bytes of a text: it alone has them, and may add to them, or they are a part of a text, or all of one, that
+/// others share too.
 #[derive(Drop)]
 pub enum Held {
     Own(String),
@@ -51,7 +53,7 @@ impl Held {
         }
     }
 
-    /// The bytes with further ones behind them, which the result alone has, and room for as many again.
+    /// The bytes with further ones after them, which the result alone has, and room for as many again.
     pub(crate) fn with(&self, more: &str) -> Mem<Held>
         ensures { IfOk result (λ longer. held_bytes longer ≡ held_bytes self.now ++ more.now) }
     {

@@ -1,5 +1,5 @@
-//! The types and words that every crate of `mvn` shares: texts, bytes, lists and shared values as contracts see them,
-//! want of memory, and what is said of objects that may tell their contents and may fail.
+//! The types that every crate of `mvn` shares: texts, bytes, lists, files by name and shared values as contracts see
+//! them, and the error for want of memory.
 #![tactic(auto)]
 
 pub mod bytes;

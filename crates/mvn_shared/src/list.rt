@@ -1,3 +1,5 @@
+//! `List`: a list of items, which contracts see as the list itself, so that a copy equals its source.
+
 ghost use Rattle.std.specs.Prelude.{◌≡◌, ◌↔◌, [], ◌∷◌, ◌++◌, length, slice_get, IsTrue, IfOk, OnOk, OnErr};
 ghost use Rattle.std.specs.Option.{option_copied};
 

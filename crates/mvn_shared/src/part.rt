@@ -1,4 +1,5 @@
-// A part of a text that others share too.
+//! A part of a text that others share too.
+
 ghost use Rattle.std.specs.Prelude.{◌≡◌, length, IfOk, IfSome};
 ghost use Rattle.std.specs.List.{slice_range};
 ghost use Rattle.std.specs.String.{string_bytes};
@@ -8,7 +9,8 @@ use crate::shared::Shared;
 use std::alloc::{AllocError, Global};
 use std::marker::Model;
 
-/// The bytes of a text from one place up to another, each at the begin of a character or at the end. Contracts see them as a list.
+/// The bytes of a text from one place up to another, each at the begin of a character or at the end. Contracts see them
+/// as a list.
 #[derive(Drop)]
 pub struct Part {
     whole: Shared<String>,

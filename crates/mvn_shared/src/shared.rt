@@ -1,3 +1,5 @@
+//! `Shared`: a value with any number of owners, which contracts see as the value alone.
+
 ghost use Rattle.std.specs.Prelude.{◌≡◌, IfOk};
 
 use crate::memory::Mem;

@@ -1,3 +1,5 @@
+//! `Text`: bytes that are UTF-8, and the errors of bytes that aren't.
+
 ghost use Rattle.std.specs.Prelude.{◌≡◌, ◌↔◌, ◌==◌, ◌++◌, [], length, IsTrue, IfOk, IsErrOf, OnOk, OnErr};
 ghost use Rattle.std.specs.Str.{IsUtf8, bytes_eq};
 ghost use Rattle.std.specs.String.{string_bytes};
@@ -8,10 +10,10 @@ use crate::part::Part;
 use crate::shared::Shared;
 use std::alloc::{AllocError, Global};
 use std::cmp::Ordering;
-use std::error::Error;
 use std::fmt;
 use std::hash::{Hash, Hasher};
 use std::marker::Model;
+use thiserror::Error;
 
 /// Bytes that are UTF-8. Contracts see a text as the list of its bytes, and compare texts by it.
 #[derive(Drop)]
@@ -32,22 +34,13 @@ impl Model for Text {
 }
 
 /// Why bytes give no text.
-#[derive(Clone, Copy, Debug, PartialEq, Eq)]
+#[derive(Clone, Copy, Debug, PartialEq, Eq, Error)]
 pub enum TextError {
+    #[error("the bytes are not UTF-8")]
     NotUtf8,
+    #[error("out of memory")]
     Memory,
 }
-
-impl fmt::Display for TextError {
-    fn fmt<W: fmt::Write>(&self, f: &mut fmt::Formatter<W>) -> fmt::Result {
-        match self {
-            TextError::NotUtf8 => write!(f, "not UTF-8"),
-            TextError::Memory => write!(f, "out of memory"),
-        }
-    }
-}
-
-impl Error for TextError {}
 
 impl From<OutOfMemory> for TextError {
     ghost use Rattle.mvn_shared.specs.declared.text.TextError.TheVariants.{Memory};
@@ -88,8 +81,8 @@ impl Text {
         Text { held }
     }
 
-    /// A copy of a text that stands in another one at a byte, which it and its copies share: they take no memory. Where it doesn't stand there
-    /// it is a copy of its own. Costs comparing them.
+    /// A copy of a text that stands in another one at a byte, which it and its copies share: they take no memory. Where
+    /// it doesn't stand there it is a copy of its own. Costs comparing them.
     pub fn within(alloc: Global, whole: &Shared<String>, at: usize, text: &str) -> Mem<Text>
         ensures { IfOk result (λ copy. copy ≡ text.now) }
     {
@@ -102,8 +95,8 @@ impl Text {
         Text::from_str(alloc, text)
     }
 
-    /// The same text, which its copies share: they take no memory. Costs one allocation, and none where it is empty or its
-    /// copies share it already.
+    /// The same text, which its copies share: they take no memory. Costs one allocation, and none where it is empty or
+    /// its copies share it already.
     pub fn shared(self, alloc: Global) -> Mem<Text>
         ensures { IfOk result (λ shared. shared ≡ self) }
     {

@@ -1,9 +1,14 @@
 // Files, coordinates and refusals.
+ghost use Rattle.std.specs.Prelude.{◌≡◌};
+ghost use Rattle.std.specs.List.{list_all};
+ghost use Rattle.mvn_base.specs.FileName.{is_digest, is_hex_digit};
+
 use mvn_base::{
-    Gav, Key, Place, PomId, Refusal, Rule, key_text, lock_name, valid_group, valid_name, version_in,
+    Gav, Key, Place, PomId, Refusal, Rule, entry_name, index_file, key_text, lock_name,
+    sidecar_name, valid_group, valid_name, version_in,
 };
 use mvn_shared::{Mem, Shared, Text};
-use row_values::{file_name, gav, word};
+use row_fields::{file_name, gav, word};
 use std::alloc::Global;
 
 // Coordinates of a group, an artifact and a version.
@@ -23,6 +28,60 @@ fn file_text(alloc: Global, gav: &Gav, classifier: &Text, extension: &Text) -> M
 fn file(alloc: Global, g: &Text, a: &Text, v: &Text, c: &Text, extension: &Text) -> Mem<String> {
     let gav = shared_gav(alloc, g, a, v)?;
     file_text(alloc, &gav, c, extension)
+}
+
+// The name of the list of an artifact's versions.
+fn index(alloc: Global, group: &Text, artifact: &Text) -> Mem<String> {
+    if !valid_group(group.as_bytes()) || !valid_name(artifact.as_bytes()) {
+        return word(alloc, "not valid");
+    }
+    let name = index_file(alloc, group, artifact)?;
+    Ok(format!(in alloc; "{name}")?)
+}
+
+// The name of the file with the SHA-1 of a coordinate's file.
+fn sidecar_text(alloc: Global, gav: &Gav, classifier: &Text, extension: &Text) -> Mem<String> {
+    match file_name(alloc, gav, classifier, extension)? {
+        Some(name) => {
+            let sidecar = sidecar_name(alloc, &name)?;
+            Ok(format!(in alloc; "{sidecar}")?)
+        }
+        None => word(alloc, "not valid"),
+    }
+}
+
+fn sidecar(alloc: Global, g: &Text, a: &Text, v: &Text, c: &Text, extension: &Text) -> Mem<String> {
+    let gav = shared_gav(alloc, g, a, v)?;
+    sidecar_text(alloc, &gav, c, extension)
+}
+
+// Whether a byte is a digit of a digest.
+fn is_hex_digit(b: u8) -> bool
+    ensures { result ≡ is_hex_digit b }
+{
+    (b >= b'0' && b <= b'9') || (b >= b'a' && b <= b'f')
+}
+
+fn has_hex_digits(digest: &[u8]) -> bool
+    ensures { result ≡ list_all is_hex_digit digest.now }
+{
+    digest.iter().all(|b| is_hex_digit(*b))
+}
+
+// Whether a text has the 64 digits of a SHA-256.
+fn is_digest(digest: &[u8]) -> bool
+    ensures { result ≡ is_digest digest.now }
+{
+    digest.len() == 64 && has_hex_digits(digest)
+}
+
+// The name of a cache's entry.
+fn entry(alloc: Global, digest: &Text) -> Mem<String> {
+    if !is_digest(digest.as_bytes()) {
+        return word(alloc, "not valid");
+    }
+    let name = entry_name(alloc, digest)?;
+    Ok(format!(in alloc; "{name}")?)
 }
 
 // The version in the name of a POM.
@@ -104,6 +163,16 @@ fn told_in_repository(alloc: Global, kind: &str, texts: &[Text]) -> Mem<String> 
     }
 }
 
+// What is told of a row of the project's own names of files.
+fn told_of_own(alloc: Global, kind: &str, texts: &[Text]) -> Mem<String> {
+    match (kind, texts) {
+        ("index", [group, artifact]) => index(alloc, group, artifact),
+        ("sidecar", [g, a, v, c, extension]) => sidecar(alloc, g, a, v, c, extension),
+        ("entry", [digest]) => entry(alloc, digest),
+        _ => word(alloc, "no such row"),
+    }
+}
+
 // What is told of a row of keys and locks.
 fn told_as_key(alloc: Global, kind: &str, texts: &[Text]) -> Mem<String> {
     match (kind, texts) {
@@ -126,6 +195,7 @@ fn told_as_refusal(alloc: Global, kind: &str, texts: &[Text]) -> Mem<String> {
 pub(crate) fn told(alloc: Global, kind: &str, texts: &[Text]) -> Mem<String> {
     match kind {
         "file" | "version-in" => told_in_repository(alloc, kind, texts),
+        "index" | "sidecar" | "entry" => told_of_own(alloc, kind, texts),
         "key" | "lock" => told_as_key(alloc, kind, texts),
         _ => told_as_refusal(alloc, kind, texts),
     }

@@ -2,10 +2,10 @@
 use cli_words::{CommandLine, Word, WordError, options};
 use mvn_base::Pair;
 use mvn_shared::{Bytes, Mem, Text};
-use row_values::word;
+use row_fields::word;
 use std::alloc::Global;
 
-// Texts behind a label, each with a comma.
+// Texts after a label, each with a comma.
 fn push_texts(shown: &mut String, label: &str, texts: &[Text]) -> Mem<()> {
     if !texts.is_empty() {
         shown.push_str(label)?;

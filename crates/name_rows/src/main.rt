@@ -1,11 +1,14 @@
-//! Rows about names, files and the words of a command line, each with its answer. A line of standard input is a word, which says what is
-//! asked for, and fields with a space between two of them, spelled as `row_fields` says; the answer is printed as one line. In it all bytes
-//! but the printed ones of ASCII are spelled `\xNN`. A line that begins with `#` is printed as it stands.
+//! The program `name_rows` answers rows about names, files and the words of a command line.
+//!
+//! A line of standard input is a word, which says what is asked for, and fields with a space between two of them, spelled as
+//! `row_fields` says; the answer is printed as one line. In it all bytes but the printed ones of ASCII are spelled `\xNN`. A line that
+//! begins with `#` is printed as it stands.
 //!
 //! - `words HANDS WORD ..`: what a command line asks for
 //! - `name TEXT`, `version TEXT`: whether it is a valid one; `phase WORD`; `type TYPE`; `setting NAME CHILD ..`: a copy of it
-//! - `file GROUP ARTIFACT VERSION CLASSIFIER EXTENSION`, `version-in GROUP ARTIFACT PATH`, `key GROUP ARTIFACT TYPE CLASSIFIER`, `lock
-//!   GROUP ARTIFACT VERSION`, and the refusals `at-name RULE PATH NAME` and `at-byte RULE GROUP ARTIFACT VERSION BYTE`
+//! - `file GROUP ARTIFACT VERSION CLASSIFIER EXTENSION`, `version-in GROUP ARTIFACT PATH`, `index GROUP ARTIFACT`, `sidecar` with the
+//!   fields of `file`, `entry DIGEST`, `key GROUP ARTIFACT TYPE CLASSIFIER`,
+//!   `lock GROUP ARTIFACT VERSION`, and the refusals `at-name RULE PATH NAME` and `at-byte RULE GROUP ARTIFACT VERSION BYTE`
 #![tactic(auto)]
 
 mod files;

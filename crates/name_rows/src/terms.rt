@@ -1,7 +1,7 @@
 // Names, phases, types and settings.
 use mvn_base::{Setting, TypeRule, handler, phase_of, valid_group, valid_name, valid_version};
 use mvn_shared::{List, Mem, Text};
-use row_values::word;
+use row_fields::word;
 use std::alloc::Global;
 
 // What a text may name.

@@ -1,7 +1,7 @@
 // Names that workers take and free.
 use crate::numbers::{number, split_section};
+use build_core::{LockTable, Mode, Tried};
 use mvn_shared::Mem;
-use name_locks::{LockTable, Mode, Tried};
 use std::alloc::Global;
 
 // A name taken, where it may be asked for.

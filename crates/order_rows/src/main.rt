@@ -1,13 +1,15 @@
-//! Rows about orders, locks and reports, each with its answer. A line of standard input is a word, which says what is asked for, and
-//! sections with a slash between two of them; the answer is printed as one line. A line that begins with `#` is printed as it stands.
+//! The program `order_rows` answers rows about the order of modules, locks and reports.
+//!
+//! A line of standard input is a word, which says what is asked for, and sections with a slash between two of them; the answer is
+//! printed as one line. A line that begins with `#` is printed as it stands.
 //!
 //! - `order NUMBER / EDGE ..`: the order of so many modules, or the cycle; an edge is a module and its upstream, as `2-0`. `placed` says
 //!   only that there is a cycle
 //! - `keep NUMBER / EDGE .. / EDGE ..`: the edges that are kept, of firm ones and soft ones
 //! - `select MODULE .. / EDGE .. / MODULE .. / WORD .. / MODULE`: which modules are built, in the order of the first section: the chosen
 //!   ones or `all`, with `make` and `dependents`, and from one on
-//! - `locks NAMES WORKERS / CALL ..`: what is answered to calls, as `s02`: name 0 taken by worker 2, shared; `x` is exclusively, `f` frees,
-//!   `h` asks for the hold. Answers are `+` taken, `-` freed, the least worker in the way, or how it is held
+//! - `locks NAMES WORKERS / CALL ..`: what is answered to calls, as `s02`: name 0 taken by worker 2, shared; `x` is exclusively, `f`
+//!   frees, `h` asks for the hold. Answers are `+` taken, `-` freed, the least worker in the way, or how it is held
 //! - `report END / .. / ..` and `full MODEL / JAR .. / JAR .. / JAR .. / NOTE`: the report of one module, with `~` for line feeds
 #![tactic(auto)]
 
@@ -17,7 +19,7 @@ mod numbers;
 mod reports;
 
 use mvn_shared::Mem;
-use row_values::word;
+use row_fields::word;
 use std::alloc::Global;
 
 // What is told of a row with these sections.

@@ -2,7 +2,7 @@
 use crate::numbers::{edges, has_word, number, numbers, split_section};
 use mvn_shared::Mem;
 use reactor_order::{Cycle, OrderError, edges_below, keep, modules_below, order, select};
-use row_values::word;
+use row_fields::word;
 use std::alloc::Global;
 
 // Numbers with a space between two of them.
@@ -103,7 +103,7 @@ fn selected(
     listed(alloc, "", list.as_slice())
 }
 
-// The same, of the chosen ones or `all`, and those two sections.
+// The modules that are selected, of the chosen ones or of `all`, by the two sections after these.
 fn chosen(alloc: Global, order: &[u32], edges: &[(u32, u32)], sections: &str) -> Mem<String> {
     let (words, others) = split_section(sections);
     if words == "all" {

@@ -3,8 +3,8 @@ use crate::numbers::split_section;
 use build_core::Device;
 use mvn_base::{FileName, Gav};
 use mvn_shared::{Bytes, List, Mem, Text};
-use row_values::{file_name, gav};
-use run_report::{FullPart, ReportRow, RowEnd, report};
+use report::{FullPart, ReportRow, RowEnd, report};
+use row_fields::{file_name, gav};
 use std::alloc::Global;
 
 // A text with line feeds for its tildes.
@@ -48,11 +48,18 @@ fn spelled_report(alloc: Global, rows: &[ReportRow]) -> Mem<String> {
     spelled(alloc, report.as_slice())
 }
 
-fn row_of(gav: Gav, end: RowEnd, notes: List<Text>, full: Option<FullPart>) -> ReportRow {
+fn row_of(
+    alloc: Global,
+    gav: Gav,
+    end: RowEnd,
+    notes: List<Text>,
+    full: Option<FullPart>,
+) -> ReportRow {
     ReportRow {
         gav,
         end,
         notes,
+        tree: List::new(alloc),
         full,
     }
 }
@@ -61,7 +68,7 @@ fn row_of(gav: Gav, end: RowEnd, notes: List<Text>, full: Option<FullPart>) -> R
 fn ended_row(alloc: Global, sections: &str) -> Mem<ReportRow> {
     let gav = demo(alloc, "a")?;
     let end = end(alloc, sections)?;
-    Ok(row_of(gav, end, List::new(alloc), None))
+    Ok(row_of(alloc, gav, end, List::new(alloc), None))
 }
 
 // The report of rows with that one besides.
@@ -140,7 +147,7 @@ fn built_row(alloc: Global, model: &str, names: &str, note: &str) -> Mem<ReportR
     let notes = notes(alloc, note)?;
     let gav = demo(alloc, "a")?;
     let full = full_part(alloc, model, names)?;
-    Ok(row_of(gav, RowEnd::Built, notes, Some(full)))
+    Ok(row_of(alloc, gav, RowEnd::Built, notes, Some(full)))
 }
 
 // The report of rows with one besides, which has these sections and this note.

@@ -1,3 +1,5 @@
+//! The staging area, as numbered pieces.
+
 ghost use Rattle.std.specs.Prelude.{◌≡◌, ℕ, [], Some, true, length, slice_get, IfOk};
 ghost use Rattle.std.specs.Option.{option_map};
 ghost use Rattle.std.specs.FinMap as map;

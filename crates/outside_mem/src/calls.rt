@@ -1,3 +1,5 @@
+//! Which calls of an object fail, and how many faults that made.
+
 ghost use Rattle.std.specs.Prelude.{◌≡◌, ℕ, Bool, true, ◌+◌, ◌==◌, [], min, IfOk};
 ghost use Rattle.std.specs.List.{list_any};
 ghost use Rattle.mvn_shared.specs.Cause.{HasCause, last_count};

@@ -1,3 +1,5 @@
+//! A gate that gives the answers of a list.
+
 ghost use Rattle.std.specs.Prelude.{◌≡◌, IfOk, [], true};
 
 use crate::calls::{Calls, Failures, NoFailures};

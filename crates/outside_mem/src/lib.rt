@@ -1,4 +1,7 @@
-//! The objects of the outside in memory: they tell their contents, and fail at the calls that they are told to.
+//! The objects of the outside in memory tell what they hold, and fail at the calls that they are told to.
+//!
+//! They are `MemTree` (a project's folder), `MemShelf` and `MemRemote` (the repositories), `MemArea` (staging), `MemGate` (goals) and
+//! `MemSink` (output). `shelf::MemShelf::image` makes what a stop may leave of a local repository.
 #![tactic(auto)]
 
 pub mod area;

@@ -1,3 +1,5 @@
+//! The remote repository, as a map from names to bytes.
+
 ghost use Rattle.std.specs.Prelude.{◌≡◌, IfOk, [], true};
 ghost use Rattle.outside_mem.specs.FilesNamed.{files_named};
 

@@ -1,3 +1,5 @@
+//! A sink that keeps the bytes that are written to it.
+
 ghost use Rattle.std.specs.Prelude.{◌≡◌, [], IfOk, true};
 
 use crate::calls::{Calls, Failures, NoFailures};

@@ -1,3 +1,5 @@
+//! The project's folder, as a map from paths to bytes.
+
 ghost use Rattle.std.specs.Prelude.{◌≡◌, IfOk, [], true};
 ghost use Rattle.outside_mem.specs.Tree.{files_of};
 

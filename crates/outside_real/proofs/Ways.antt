@@ -7,7 +7,7 @@ use Rattle.std.proofs.lemmas.List.Folds.{list_any-append}
 use Rattle.std.proofs.lemmas.Str.Pattern.{NoCharPasses-char, drop_at_char}
 use Rattle.std.specs.List.{list_any}
 use Rattle.std.specs.Str.Pattern.{RFindsChar}
-use Rattle.disk_reading.specs.FullPath.{full_path}
+use Rattle.outside_real.specs.FullPath.{full_path}
 use Rattle.std.specs.Ordering.{nat_cmp}
 use Rattle.std.specs.Cmp.Lexicographic.{slice_cmp}
 use Rattle.std.specs.BTreeMap.{is_at}

@@ -1,4 +1,9 @@
-pub use Rattle.disk_reading.specs.FullPath
+pub mod Faults
+pub mod FullPath
+pub mod Look
+pub mod Remote
+pub mod Tree
+pub mod Walk
 pub mod Area
 pub mod Paths
 pub mod Shelf

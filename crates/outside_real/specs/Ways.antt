@@ -5,7 +5,7 @@ use Rattle.std.specs.Cmp.Lexicographic.{slice_cmp}
 use Rattle.std.specs.List.{list_any}
 use Rattle.std.specs.BTreeMap.{is_at}
 use Rattle.std.specs.BTreeSet.{BTreeSet, contains}
-use Rattle.disk_reading.specs.FullPath.{full_path}
+use Rattle.outside_real.specs.FullPath.{full_path}
 
 -- the folders that a name stands in: what is in front of each slash
 abbrev pub folders_above : List ℕ → List (List ℕ)

@@ -1,12 +1,14 @@
+//! The staging folder of one worker, whose pieces are locked files.
+
 ghost use Rattle.std.specs.Prelude.{◌≡◌, ◌<◌, ◌≤◌, length, IfOk};
 ghost use Rattle.std.specs.FinMap as map;
 
+use crate::count::counted;
+use crate::fault::fault_of;
 use crate::folders::make_folders;
 use crate::piece::{new_piece, remove_piece, sweep_folder};
 use crate::settling::sync_folders;
 use crate::writing::write_some;
-use disk_reading::count::counted;
-use disk_reading::fault::fault_of;
 use mvn_outside::{Area, DeviceFault};
 use mvn_shared::{Mem, Text};
 use std::collections::{BTreeMap, BTreeSet};

@@ -3,9 +3,9 @@ ghost use Rattle.std.specs.Prelude.{◌≡◌};
 ghost use Rattle.outside_real.specs.Paths.{is_step, leads_below, is_in_staging, is_inside};
 ghost use Rattle.outside_real.specs.Ways.{Keeps};
 
+use crate::fault::fault_of;
 use crate::look::is_folder;
 use crate::settling::note;
-use disk_reading::fault::fault_of;
 use mvn_outside::DeviceFault;
 use mvn_shared::Text;
 use std::alloc::Global;

@@ -1,5 +1,5 @@
 // What stands at a path of the system.
-use disk_reading::look::if_there;
+use crate::reading_look::if_there;
 use mvn_outside::DeviceFault;
 use std::rt;
 

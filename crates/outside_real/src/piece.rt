@@ -1,7 +1,7 @@
 // The files of a staging folder. A process holds each of its own locked until it is published or removed, and the system ends a
 // lock with the process that holds it: so what nobody holds was left by a process that has ended.
+use crate::fault::{fault_of, is_absent};
 use crate::look::is_no_link;
-use disk_reading::fault::{fault_of, is_absent};
 use mvn_outside::DeviceFault;
 use std::fs::{DirEntry, File, OpenFile, OpenOptions, TryLockError};
 use std::io::ErrorKind;

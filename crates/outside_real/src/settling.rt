@@ -4,8 +4,8 @@ ghost use Rattle.std.specs.Result.{IfErr};
 ghost use Rattle.mvn_outside.specs.declared.fault.DeviceFault.TheVariants.{Memory};
 ghost use Rattle.outside_real.specs.Ways.{folders_above, way, Gains, Keeps};
 
-use disk_reading::fault::fault_of;
-use disk_reading::paths::full_path;
+use crate::fault::fault_of;
+use crate::paths::full_path;
 use mvn_outside::DeviceFault;
 use mvn_shared::Text;
 use std::alloc::Global;

@@ -1,3 +1,5 @@
+//! The local repository, into which pieces are renamed.
+
 ghost use Rattle.std.specs.Prelude.{◌≡◌, ◌≤◌, true, is_some, IfOk, IfSome, OnOk, OnErr, length};
 ghost use Rattle.std.specs.BTreeSet.{IsEmpty};
 ghost use Rattle.mvn_base.specs.Names.{is_group, is_name};
@@ -5,14 +7,14 @@ ghost use Rattle.mvn_shared.specs.Cause.{HasCause};
 ghost use Rattle.mvn_outside.specs.Faults.{device_failed, read_failed, list_failed};
 
 use crate::area::RealArea;
+use crate::count::{counted, counted_list, counted_read};
+use crate::fault::fault_of;
 use crate::folders::{is_inside, make_folders, parent_of};
 use crate::look;
+use crate::paths::full_path;
+use crate::reading::read_file;
 use crate::settling::{note_way, sync_folders};
-use disk_reading::count::{counted, counted_list, counted_read};
-use disk_reading::fault::fault_of;
-use disk_reading::paths::full_path;
-use disk_reading::reading::read_file;
-use disk_reading::versions::versions_below;
+use crate::versions::versions_below;
 use mvn_base::FileName;
 use mvn_outside::{DeviceFault, ListFault, ReadFault, Shelf};
 use mvn_shared::{Bytes, List, Mem, Text};

@@ -1,5 +1,7 @@
+//! A sink that writes to a stream of the system.
+
+use crate::count::counted;
 use crate::writing::write_some;
-use disk_reading::count::counted;
 use mvn_outside::{DeviceFault, Sink};
 use std::io::Write;
 

@@ -1,7 +1,7 @@
 // Writing to a stream of the system.
 ghost use Rattle.std.specs.Prelude.{◌<◌, ◌≤◌, length, IfOk};
 
-use disk_reading::fault::fault_of;
+use crate::fault::fault_of;
 use mvn_outside::DeviceFault;
 use std::io::{ErrorKind, Write};
 

@@ -9,14 +9,14 @@ use Rattle.mvn_base.specs.Gav.{lock_name}
 use Rattle.mvn_base.specs.Names.{is_group, is_name, is_name_byte, is_version}
 use Rattle.mvn_base.specs.Types.{is_jar, type_rule}
 use Rattle.mvn_base.specs.declared.gav.Gav.{Gav}
-use Rattle.coordinate_laws.specs.Apart.{IsFileOf}
+use Rattle.mvn_base.specs.Apart.{IsFileOf}
 use Rattle.classpaths.specs.Classpaths.{HasNames, artifact_file, classifier_of, files_of, pom_file}
 use Rattle.classpaths.specs.declared.resolution.Resolved.{Resolved}
 use Rattle.classpaths.proofs.Valid.{classifier_named, extension_named}
 use Rattle.model_types.specs.declared.model.Model.{Model}
-use Rattle.plan_files.specs.Outputs.{attached, has_main, is_pom, main_extension, main_output, outputs}
-use Rattle.plan_files.specs.Uses.{fetched_files, fetched_locks, has_names, is_selected, used_by, needs_path}
-use Rattle.plan_files.specs.declared.selected.Output.{Output}
+use Rattle.module_plan.specs.Outputs.{attached, has_main, is_pom, main_extension, main_output, outputs}
+use Rattle.module_plan.specs.Uses.{fetched_files, fetched_locks, has_names, is_selected, used_by, needs_path}
+use Rattle.module_plan.specs.declared.selected.Output.{Output}
 use Rattle.goal_types.specs.declared.goal.GoalCall.{GoalCall}
 use Rattle.plan_law.proofs.Gavs.{left_of, right_of}
 use Rattle.plan_law.proofs.Members.{Apart, IsIn, from_filter, from_flat, in_filter, in_flat, in_map}

@@ -11,7 +11,7 @@ use Rattle.std.specs.FinMap.{FinMap, is_sorted, entries_sorted, slice_cmp-IsAnti
 use Rattle.std.specs.FinMap as map_of
 use Rattle.std.proofs.lemmas.Bool.{false≢true}
 use Rattle.std.proofs.lemmas.Slice.Eq.{bytes_eq-Decides}
-use Rattle.module_scripts.specs.Climbing.{Climbs}
+use Rattle.scripts.specs.Climbing.{Climbs}
 use Rattle.event_core.specs.SoundPlans.{TextsClimb}
 use Rattle.plan_law.proofs.Members.{IsIn, passing}
 use Rattle.plan_law.proofs.Places.{here_or_not, place_here, place_later}

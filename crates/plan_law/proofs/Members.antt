@@ -2,7 +2,7 @@
 use Rattle.std.proofs.Common.{◌≡◌, ◌⊎◌, inl, inr, ℕ, zero, suc, Bool, true, false, ◌||◌, ◌&&◌, List, [], ◌∷◌, ◌++◌, Option, Some, None, is_some, unwrap_or, flat_map, filter, filter_map, find, map, slice_get, nat_eq, refl, sym, ap, subst, ◌∙◌, arith, if◌then◌else◌, eqb-true, eq-eqb}
 use Rattle.std.specs.List.{list_any, list_all, IsDistinct, AllByRecursion, cons_option}
 use Rattle.std.proofs.lemmas.Bool.{false≢true, or_right, or_left}
-use Rattle.module_scripts.specs.Outlines.{is_listed}
+use Rattle.scripts.specs.Outlines.{is_listed}
 pub use Rattle.classpaths.proofs.Joining.{IsIn, in_from, in_to}
 
 -- no item stands in it twice

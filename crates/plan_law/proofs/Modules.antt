@@ -16,16 +16,16 @@ use Rattle.build_core.specs.declared.plan.Origin.{Origin}
 use Rattle.build_core.specs.declared.plan.Origin.TheVariants as origin
 use Rattle.build_core.specs.declared.plan.OwnFile.{OwnFile}
 use Rattle.build_core.specs.declared.plan.PlanModule.{PlanModule}
-use Rattle.module_scripts.specs.Climbing.{Climbs}
-use Rattle.module_scripts.specs.Outlines.{file_of, files_of as entry_files, files_read, is_listed, once_more}
+use Rattle.scripts.specs.Climbing.{Climbs}
+use Rattle.scripts.specs.Outlines.{file_of, files_of as entry_files, files_read, is_listed, once_more}
 use Rattle.event_core.specs.Sound.{are_below}
 use Rattle.event_core.specs.SoundPlans.{IsSoundPlanModule, is_backed, pom_first}
-use Rattle.plan_files.specs.Numbers.{fetch_locks, fetch_names, number_of, numbers_of, own_names, plan_files, plan_names}
-use Rattle.plan_files.specs.Outputs.{attached, has_main, main_output, output, outputs}
-use Rattle.plan_parts.specs.Plans.{entries_of, entry_of, kept_output, module_of, origin_of, own_file}
-use Rattle.plan_files.specs.Uses.{calls, fetched_files, fetched_locks, gavs, is_selected, module_at, slot_of, used, used_by}
-use Rattle.plan_files.specs.declared.selected.Output.{Output}
-use Rattle.plan_files.specs.declared.selected.SelectedModule.{SelectedModule}
+use Rattle.module_plan.specs.Numbers.{fetch_locks, fetch_names, number_of, numbers_of, own_names, plan_files, plan_names}
+use Rattle.module_plan.specs.Outputs.{attached, has_main, main_output, output, outputs}
+use Rattle.module_plan.specs.Plans.{entries_of, entry_of, kept_output, module_of, origin_of, own_file}
+use Rattle.module_plan.specs.Uses.{calls, fetched_files, fetched_locks, gavs, is_selected, module_at, slot_of, used, used_by}
+use Rattle.module_plan.specs.declared.selected.Output.{Output}
+use Rattle.module_plan.specs.declared.selected.SelectedModule.{SelectedModule}
 use Rattle.plan_law.specs.Ready.{IsPlaced}
 use Rattle.plan_law.proofs.FileNames.{artifact_in, in_fetched, name_of, outputs_apart, used_in}
 use Rattle.plan_law.proofs.Gavs.{gav_decides}

@@ -6,18 +6,18 @@ use Rattle.mvn_base.specs.Gav.{gav_eq, lock_name}
 use Rattle.mvn_base.specs.FileName.{IsValid}
 use Rattle.mvn_base.specs.declared.gav.Gav.{Gav}
 use Rattle.mvn_base.specs.declared.phase.Phase.{Phase}
-use Rattle.coordinate_laws.specs.Apart.{IsFileOf}
+use Rattle.mvn_base.specs.Apart.{IsFileOf}
 use Rattle.classpaths.specs.Classpaths.{files_of as winner_files}
 use Rattle.classpaths.specs.declared.resolution.Resolved.{Resolved}
 use Rattle.build_core.specs.declared.plan.OwnFile.{OwnFile}
-use Rattle.module_scripts.specs.Outlines.{is_listed}
+use Rattle.scripts.specs.Outlines.{is_listed}
 use Rattle.event_core.specs.Sound.{are_below}
 use Rattle.event_core.specs.SoundPlans.{TextsClimb}
-use Rattle.plan_files.specs.Numbers.{fetch_locks, fetch_names, files_of, locks_of, number_of, numbers_of, own_names, plan_files, plan_names}
-use Rattle.plan_files.specs.Outputs.{outputs}
-use Rattle.plan_parts.specs.Plans.{own_file}
-use Rattle.plan_files.specs.Uses.{calls, gavs, is_selected, used}
-use Rattle.plan_files.specs.declared.selected.SelectedModule.{SelectedModule}
+use Rattle.module_plan.specs.Numbers.{fetch_locks, fetch_names, files_of, locks_of, number_of, numbers_of, own_names, plan_files, plan_names}
+use Rattle.module_plan.specs.Outputs.{outputs}
+use Rattle.module_plan.specs.Plans.{own_file}
+use Rattle.module_plan.specs.Uses.{calls, gavs, is_selected, used}
+use Rattle.module_plan.specs.declared.selected.SelectedModule.{SelectedModule}
 use Rattle.plan_law.proofs.FileNames.{fetched_from, file_of_winner, name_of, output_of, used_in}
 use Rattle.plan_law.proofs.Gavs.{gav_decides}
 use Rattle.plan_law.proofs.Members.{Apart, IsIn, all_pass, from_map, in_flat, in_left, in_listed, in_map, in_right, listed_in, some_passes}

@@ -4,7 +4,7 @@ use Rattle.std.specs.Cmp.Lexicographic.{slice_cmp, nat_list_cmp_total}
 use Rattle.std.specs.Ordering.{nat_cmp}
 use Rattle.std.specs.declared.cmp.Ordering.TheVariants.{Less}
 use Rattle.event_core.specs.SoundPlans.{TextsClimb}
-use Rattle.plan_files.specs.Numbers.{ascending}
+use Rattle.module_plan.specs.Numbers.{ascending}
 use Rattle.plan_law.proofs.Keys.{climb_tail, first_below, not_below}
 use Rattle.plan_law.proofs.Members.{IsIn, in_from, in_to}
 use Rattle.plan_law.proofs.Texts.{ascending_climb, from_ascending, in_ascending}

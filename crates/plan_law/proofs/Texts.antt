@@ -11,7 +11,7 @@ use Rattle.std.proofs.lemmas.Slice.Eq.{bytes_eq-Decides}
 use Rattle.mvn_shared.specs.Files.{Files}
 use Rattle.classpaths.specs.Classpaths.{with_name}
 use Rattle.event_core.specs.SoundPlans.{TextsClimb, same_text}
-use Rattle.plan_files.specs.Numbers.{ascending, with_text, with_texts}
+use Rattle.module_plan.specs.Numbers.{ascending, with_text, with_texts}
 use Rattle.plan_law.proofs.Gavs.{left_of, right_of}
 use Rattle.plan_law.proofs.Keys.{key_in, keys_climb, tied, tied_self}
 use Rattle.plan_law.proofs.Members.{Apart, IsIn, apart_push, in_either, in_left, in_right, passing, some_passes}

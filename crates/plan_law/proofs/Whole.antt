@@ -5,20 +5,20 @@ use Rattle.mvn_shared.specs.Files.{Files}
 use Rattle.mvn_base.specs.Gav.{lock_name}
 use Rattle.mvn_base.specs.declared.gav.Gav.{Gav}
 use Rattle.mvn_base.specs.declared.phase.Phase.{Phase}
-use Rattle.coordinate_laws.specs.Apart.{IsFileOf}
-use Rattle.coordinate_laws.proofs.Coordinates.{one_of_a_file}
+use Rattle.mvn_base.specs.Apart.{IsFileOf}
+use Rattle.mvn_base.proofs.Coordinates.{one_of_a_file}
 use Rattle.classpaths.specs.Classpaths.{files_of as winner_files}
 use Rattle.classpaths.specs.declared.resolution.Resolved.{Resolved}
 use Rattle.build_core.specs.declared.plan.PlanModule.{PlanModule}
-use Rattle.module_scripts.specs.Bounds.{total}
-use Rattle.module_scripts.specs.Outlines.{is_listed, module_outline, outline_of}
+use Rattle.scripts.specs.Bounds.{total}
+use Rattle.scripts.specs.Outlines.{is_listed, module_outline, outline_of}
 use Rattle.event_core.specs.Sound.{IsSound, IsSoundModule}
 use Rattle.event_core.specs.SoundPlans.{IsSoundPlan, IsSoundPlanModule, greatest_events, is_own, same_text}
-use Rattle.plan_files.specs.Numbers.{fetch_locks, number_of, numbers_of, plan_files, plan_names}
-use Rattle.plan_parts.specs.Plans.{IsNumbered, all_events, events_of, is_present, module_of, most_events, numbered, plan_modules, plan_with, planned_with, present_in, root_id}
-use Rattle.plan_files.specs.Uses.{calls, fetched_locks, gavs, is_selected, used}
-use Rattle.plan_files.specs.declared.selected.SelectedModule.{SelectedModule}
-use Rattle.plan_files.specs.declared.selected.Planned.{Planned}
+use Rattle.module_plan.specs.Numbers.{fetch_locks, number_of, numbers_of, plan_files, plan_names}
+use Rattle.module_plan.specs.Plans.{IsNumbered, all_events, events_of, is_present, module_of, most_events, numbered, plan_modules, plan_with, planned_with, present_in, root_id}
+use Rattle.module_plan.specs.Uses.{calls, fetched_locks, gavs, is_selected, used}
+use Rattle.module_plan.specs.declared.selected.SelectedModule.{SelectedModule}
+use Rattle.module_plan.specs.declared.selected.Planned.{Planned}
 use Rattle.pom_source.specs.Answers.{Built}
 use Rattle.pom_source.specs.Refusals.{text_refused}
 use Rattle.mvn_base.specs.declared.rule.Rule.TheVariants.{GraphTooLarge}

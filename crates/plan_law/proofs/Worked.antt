@@ -13,17 +13,17 @@ use Rattle.goal_types.specs.GoalRules.{goal_rule, maven_goals}
 use Rattle.lifecycle.specs.Bindings.{bindings_of}
 use Rattle.lifecycle.specs.Goals.{calls_through}
 use Rattle.mvn_base.specs.Phase.{phase_number}
-use Rattle.module_scripts.specs.Outlines.{is_listed}
-use Rattle.plan_files.specs.Numbers.{ascending, fetch_names, locks_of, numbers_of, plan_files, plan_names}
-use Rattle.plan_files.specs.Outputs.{outputs}
-use Rattle.plan_parts.specs.Plans.{entries_of}
+use Rattle.scripts.specs.Outlines.{is_listed}
+use Rattle.module_plan.specs.Numbers.{ascending, fetch_names, locks_of, numbers_of, plan_files, plan_names}
+use Rattle.module_plan.specs.Outputs.{outputs}
+use Rattle.module_plan.specs.Plans.{entries_of}
 use Rattle.build_core.specs.declared.plan.Entry.{Entry}
 use Rattle.build_core.specs.declared.plan.Origin.{Origin}
 use Rattle.build_core.specs.declared.plan.Origin.TheVariants as origin
 use Rattle.goal_types.specs.declared.goal.Slot.TheVariants as slots
 use Rattle.mvn_base.specs.Types.{type_rule}
-use Rattle.plan_files.specs.Uses.{gavs, used}
-use Rattle.plan_files.specs.declared.selected.SelectedModule.{SelectedModule}
+use Rattle.module_plan.specs.Uses.{gavs, used}
+use Rattle.module_plan.specs.declared.selected.SelectedModule.{SelectedModule}
 use Rattle.plan_law.specs.Example.{app, lib, named, winner}
 use Rattle.plan_law.specs.Ready.{AreOrdered, IsPlaced}
 use Rattle.plan_law.proofs.Members.{Apart, IsIn, in_from, one_at}

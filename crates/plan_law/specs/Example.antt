@@ -7,7 +7,7 @@ use Rattle.collector.specs.declared.scope.Scope.TheVariants.{Compile}
 use Rattle.model_types.specs.declared.model.Model.{Model}
 use Rattle.model_types.specs.declared.plugin.Plugin.{Plugin}
 use Rattle.classpaths.specs.declared.resolution.Resolved.{Resolved}
-use Rattle.plan_files.specs.declared.selected.SelectedModule.{SelectedModule}
+use Rattle.module_plan.specs.declared.selected.SelectedModule.{SelectedModule}
 
 abbrev pub named : List ℕ → Gav
 named artifact = record { group = codes "g"; artifact = artifact; version = codes "1" }

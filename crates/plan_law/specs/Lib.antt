@@ -1,5 +1,5 @@
 pub use Rattle.event_core.specs.SoundPlans
-pub use Rattle.plan_parts.specs.Plans
+pub use Rattle.module_plan.specs.Plans
 pub use Rattle.run_law.specs.Given
 pub mod Example
 pub mod Ready

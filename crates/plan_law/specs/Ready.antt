@@ -3,10 +3,10 @@
 use Rattle.std.specs.Prelude.{◌≡◌, ℕ, ◌≤◌, true, List, Contains, slice_get, Some}
 use Rattle.mvn_base.specs.FileName.{IsValid}
 use Rattle.classpaths.specs.declared.resolution.Resolved.{Resolved}
-use Rattle.module_scripts.specs.Climbing.{Climbs}
-use Rattle.module_scripts.specs.Outlines.{is_listed}
+use Rattle.scripts.specs.Climbing.{Climbs}
+use Rattle.scripts.specs.Outlines.{is_listed}
 use Rattle.event_core.specs.Sound.{are_below}
-use Rattle.plan_files.specs.declared.selected.SelectedModule.{SelectedModule}
+use Rattle.module_plan.specs.declared.selected.SelectedModule.{SelectedModule}
 
 -- of one, at its place: its coordinates are valid, its upstreams ascend and stand before it, and each other module that is a dependency of
 -- it is one of them

@@ -1,3 +1,5 @@
+//! The laws of plans, and an example of two modules.
+
 ghost use Rattle.std.specs.Prelude.{◌≡◌, ℕ, [], ◌∷◌, Ok, codes, map, Contains};
 ghost use Rattle.std.specs.Prelude.{List as Items};
 ghost use Rattle.mvn_shared.specs.Files.{Files};
@@ -6,14 +8,14 @@ ghost use Rattle.mvn_base.specs.declared.phase.Phase.TheVariants.{Compile};
 ghost use Rattle.goal_types.specs.declared.goal.Slot.TheVariants.{Main};
 ghost use Rattle.build_core.specs.declared.plan.Entry as entry;
 ghost use Rattle.build_core.specs.declared.plan.Origin.TheVariants.{File, Module};
-ghost use Rattle.module_scripts.specs.Bounds.{total};
+ghost use Rattle.scripts.specs.Bounds.{total};
 ghost use Rattle.event_core.specs.SoundPlans.{IsSoundPlan, TextsClimb, greatest_events};
 ghost use Rattle.run_law.specs.Given.{IsPresent};
-ghost use Rattle.plan_files.specs.Numbers.{ascending, fetch_names, numbers_of, plan_files, plan_names};
-ghost use Rattle.plan_parts.specs.Plans.{IsNumbered, entries_of, numbered};
-ghost use Rattle.plan_files.specs.Uses.{gavs, used};
-ghost use Rattle.plan_files.specs.declared.selected.Planned as planned;
-ghost use Rattle.plan_files.specs.declared.selected.SelectedModule as selected;
+ghost use Rattle.module_plan.specs.Numbers.{ascending, fetch_names, numbers_of, plan_files, plan_names};
+ghost use Rattle.module_plan.specs.Plans.{IsNumbered, entries_of, numbered};
+ghost use Rattle.module_plan.specs.Uses.{gavs, used};
+ghost use Rattle.module_plan.specs.declared.selected.Planned as planned;
+ghost use Rattle.module_plan.specs.declared.selected.SelectedModule as selected;
 ghost use Rattle.plan_law.specs.Example.{app, lib};
 ghost use Rattle.plan_law.specs.Ready.{AreOrdered};
 

@@ -1,5 +1,6 @@
-//! That the plan of a project's modules is sound: what the build asks of a plan. Laws alone: functions that do nothing, each with what
-//! holds as its clauses.
+//! The plan of a project's modules in build order is sound, which is what the build asks of a plan.
+//!
+//! These are laws alone: functions that do nothing, each with what holds as its clauses.
 #![tactic(auto)]
 
 pub mod law;

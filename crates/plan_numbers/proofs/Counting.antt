@@ -11,12 +11,12 @@ use Rattle.std.specs.Str.{bytes_eq}
 use Rattle.mvn_shared.specs.Files.{Files}
 use Rattle.mvn_base.specs.declared.gav.Gav.{Gav}
 use Rattle.classpaths.specs.Classpaths.{with_name}
-use Rattle.plan_files.specs.Numbers.{ascending, with_text, with_texts}
-use Rattle.plan_parts.specs.Plans.{most_events}
-use Rattle.plan_parts.specs.Ready.{all_ready_events, files_in, names_in, ready_events, ready_files, ready_locks, ready_names}
+use Rattle.module_plan.specs.Numbers.{ascending, with_text, with_texts}
+use Rattle.module_plan.specs.Plans.{most_events}
+use Rattle.module_plan.specs.Ready.{all_ready_events, files_in, names_in, ready_events, ready_files, ready_locks, ready_names}
 use Rattle.plan_numbers.specs.Whole.{counted}
-use Rattle.plan_parts.specs.declared.ready.Ready.{Ready}
-use Rattle.plan_files.specs.declared.selected.Output.{Output}
+use Rattle.module_plan.specs.declared.ready.Ready.{Ready}
+use Rattle.module_plan.specs.declared.selected.Output.{Output}
 
 -- ---- how many are allowed
 

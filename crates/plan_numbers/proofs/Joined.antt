@@ -4,18 +4,18 @@ use Rattle.std.proofs.lemmas.List.{length-map}
 use Rattle.mvn_base.specs.declared.gav.Gav.{Gav}
 use Rattle.mvn_base.specs.declared.phase.Phase.{Phase}
 use Rattle.classpaths.specs.Classpaths.{with_name}
-use Rattle.plan_files.specs.Numbers.{ascending, fetch_locks, fetch_names, number_of, numbers_of, plan_files, plan_names}
-use Rattle.plan_files.specs.Outputs.{outputs}
-use Rattle.plan_parts.specs.Parts.{parts_of}
-use Rattle.plan_parts.specs.Plans.{all_events, events_of, module_of, most_events, own_file, plan_modules}
-use Rattle.plan_parts.specs.Ready.{all_ready_events, files_in, module_with, ready, ready_events, ready_files, ready_locks, ready_names}
-use Rattle.plan_files.specs.Uses.{calls, gavs}
+use Rattle.module_plan.specs.Numbers.{ascending, fetch_locks, fetch_names, number_of, numbers_of, plan_files, plan_names}
+use Rattle.module_plan.specs.Outputs.{outputs}
+use Rattle.module_plan.specs.Parts.{parts_of}
+use Rattle.module_plan.specs.Plans.{all_events, events_of, module_of, most_events, own_file, plan_modules}
+use Rattle.module_plan.specs.Ready.{all_ready_events, files_in, module_with, ready, ready_events, ready_files, ready_locks, ready_names}
+use Rattle.module_plan.specs.Uses.{calls, gavs}
 use Rattle.plan_numbers.specs.Whole.{all_parts, counted, numbered_few, numbered_if, numbered_of, numbered_with}
 use Rattle.plan_numbers.proofs.Counting.{none_is, some_is}
-use Rattle.plan_parts.specs.declared.parts.Parts.{Parts}
-use Rattle.plan_parts.specs.declared.ready.Ready.{Ready}
+use Rattle.module_plan.specs.declared.parts.Parts.{Parts}
+use Rattle.module_plan.specs.declared.ready.Ready.{Ready}
 use Rattle.plan_numbers.specs.declared.whole.Numbered.{Numbered}
-use Rattle.plan_files.specs.declared.selected.SelectedModule.{SelectedModule}
+use Rattle.module_plan.specs.declared.selected.SelectedModule.{SelectedModule}
 
 mapped : {A B C : Type 0} (f : B → List C) (g : A → B) (xs : List A) → flat_map f (map g xs) ≡ flat_map (λ x. f (g x)) xs
 mapped f g [] = refl

@@ -1,2 +1,3 @@
+pub mod SelectedCounting
 pub mod Counting
 pub mod Joined

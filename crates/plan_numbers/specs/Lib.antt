@@ -1,4 +1,9 @@
+pub use Rattle.mvn_shared.specs.Cause
+pub use Rattle.mvn_outside.specs.Shelf
+pub use Rattle.pom_source.specs.Answers
+pub use Rattle.model_resolver.specs.Devices
+pub use Rattle.module_plan.specs.Plans
+pub mod Stages
 pub use Rattle.mvn_shared.specs.Files
 pub use Rattle.mvn_base.specs.FileName
-pub use Rattle.pom_source.specs.Answers
 pub mod Whole

@@ -4,13 +4,13 @@ use Rattle.mvn_base.specs.FileName.{IsValid}
 use Rattle.mvn_base.specs.declared.gav.Gav.{Gav}
 use Rattle.mvn_base.specs.declared.phase.Phase.{Phase}
 use Rattle.lifecycle.specs.Goals.{unbound}
-use Rattle.plan_files.specs.Numbers.{plan_files, plan_names}
-use Rattle.plan_parts.specs.Parts.{parts_of}
-use Rattle.plan_parts.specs.Plans.{all_events, most_events, plan_modules}
-use Rattle.plan_parts.specs.Ready.{all_ready_events, ready_files, ready_names}
-use Rattle.plan_parts.specs.declared.parts.Parts.{Parts}
-use Rattle.plan_parts.specs.declared.ready.Ready.{Ready}
-use Rattle.plan_files.specs.declared.selected.SelectedModule.{SelectedModule}
+use Rattle.module_plan.specs.Numbers.{plan_files, plan_names}
+use Rattle.module_plan.specs.Parts.{parts_of}
+use Rattle.module_plan.specs.Plans.{all_events, most_events, plan_modules}
+use Rattle.module_plan.specs.Ready.{all_ready_events, ready_files, ready_names}
+use Rattle.module_plan.specs.declared.parts.Parts.{Parts}
+use Rattle.module_plan.specs.declared.ready.Ready.{Ready}
+use Rattle.module_plan.specs.declared.selected.SelectedModule.{SelectedModule}
 use Rattle.plan_numbers.specs.declared.whole.Numbered.{Numbered}
 
 -- the coordinates of a module are valid

@@ -1,9 +1,9 @@
 // How many events a plan has at most.
 ghost use Rattle.std.specs.Prelude.{◌≡◌, ◌<◌, ◌^◌};
-ghost use Rattle.plan_parts.specs.Ready.{all_ready_events, ready_events};
+ghost use Rattle.module_plan.specs.Ready.{all_ready_events, ready_events};
 ghost use Rattle.plan_numbers.specs.Whole.{counted};
 
-use plan_parts::Ready;
+use module_plan::Ready;
 
 /// The most events that a plan may have. Project rule.
 const MOST_EVENTS: u128 = 4_194_304;

@@ -2,13 +2,12 @@
 ghost use Rattle.std.specs.Prelude.{◌≡◌, [], fold, flat_map, IfOk, OnOk};
 ghost use Rattle.std.specs.FinMap as finite;
 ghost use Rattle.classpaths.specs.Classpaths.{with_name};
-ghost use Rattle.plan_files.specs.Numbers.{ascending, with_texts};
-ghost use Rattle.plan_parts.specs.Ready.{files_in, names_in, ready_files, ready_locks, ready_names};
+ghost use Rattle.module_plan.specs.Numbers.{ascending, with_texts};
+ghost use Rattle.module_plan.specs.Ready.{files_in, names_in, ready_files, ready_locks, ready_names};
 
+use module_plan::{FileList, Output, Ready, add_text, texts_of};
 use mvn_base::{FileName, lock_name};
 use mvn_shared::{FileMap, List, Mem, Text};
-use plan_files::{FileList, Output, add_text, texts_of};
-use plan_parts::Ready;
 use std::alloc::Global;
 
 // Puts copies of texts to a set.
@@ -43,7 +42,7 @@ fn all_locks(alloc: Global, modules: &[Ready]) -> Mem<FileMap>
 }
 
 /// The names that are locked, ascending, each once. Costs their length, each in logarithmic time. Resolver, "Named Locks".
-#[tactic(auto, unfolding(plan_files::specs::Numbers::ascending))]
+#[tactic(auto, unfolding(module_plan::specs::Numbers::ascending))]
 pub(crate) fn names_of(alloc: Global, modules: &[Ready]) -> Mem<List<Text>>
     ensures { IfOk result (λ names. names ≡ ready_names modules.now) }
 {
@@ -79,7 +78,7 @@ fn add_outputs(files: &mut FileList, outputs: &[Output]) -> Mem<()>
 }
 
 // Puts the files of a module to others: those that are fetched for it, and then its own.
-#[tactic(auto, using(plan_files::proofs::Walks::fold_append))]
+#[tactic(auto, using(module_plan::proofs::Walks::fold_append))]
 fn add_files(files: &mut FileList, ready: &Ready) -> Mem<()>
     ensures { OnOk result (files.new ≡ fold with_name files.old (files_in ready.now)) }
 {

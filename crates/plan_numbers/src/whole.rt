@@ -1,17 +1,16 @@
-// The names, the files and the modules of a plan.
+// Puts numbers in place of the names and files of the modules that are built.
 ghost use Rattle.std.specs.Prelude.{◌≡◌, ◌≤◌, length, map, IfOk};
 ghost use Rattle.std.specs.List.{AllByRecursion};
-ghost use Rattle.plan_parts.specs.Plans.{most_events};
-ghost use Rattle.plan_parts.specs.Ready.{all_ready_events, ready, ready_files, ready_names};
-ghost use Rattle.plan_files.specs.Uses.{gavs};
+ghost use Rattle.module_plan.specs.Plans.{most_events};
+ghost use Rattle.module_plan.specs.Ready.{all_ready_events, ready, ready_files, ready_names};
+ghost use Rattle.module_plan.specs.Uses.{gavs};
 ghost use Rattle.plan_numbers.specs.Whole.{HasGav, numbered_few, numbered_if, numbered_with};
 
 use crate::events::count_events;
 use crate::tables::{files_of, names_of};
+use module_plan::{FileList, Parts, Places, Ready, SelectedModule, copy_of, made_ready, parts_of};
 use mvn_base::{FileName, Gav, Phase};
 use mvn_shared::{List, Mem, Text};
-use plan_files::{FileList, Places, SelectedModule};
-use plan_parts::{Parts, Ready, copy_of, made_ready, parts_of};
 use std::alloc::Global;
 
 /// The names, the files and the modules of a plan, with what is shown of them.
@@ -109,7 +108,7 @@ fn numbered_with(
     numbered_by(alloc, built, tables, modules, events)
 }
 
-// So of modules that are ready; nothing if they have too many events.
+// The names, the files and the modules of the plan of modules that are ready; nothing if they have too many events.
 #[tactic(auto, using(crate::proofs::Counting::is_few, crate::proofs::Joined::some_few, crate::proofs::Joined::none_few))]
 fn numbered_few(alloc: Global, built: &Places<Gav>, modules: List<Ready>) -> Mem<Option<Numbered>>
     requires each { length built.now ≡ length modules }

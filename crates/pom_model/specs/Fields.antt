@@ -9,8 +9,8 @@ use Rattle.model_types.specs.declared.profile.Os.{Os}
 use Rattle.model_types.specs.declared.profile.Profile.{Profile}
 use Rattle.model_types.specs.declared.profile.Property.{Property}
 use Rattle.pom_text.specs.declared.node.Node.{Node}
-use Rattle.pom_table.specs.Elements.{child, own_text, text_is, text_of, text_or}
-use Rattle.pom_fields.specs.Groups.{list_in, gav, build_base, build, model_base}
+use Rattle.pom_model.specs.Elements.{child, own_text, text_is, text_of, text_or}
+use Rattle.pom_model.specs.Groups.{list_in, gav, build_base, build, model_base}
 
 -- when a profile is active by itself; a property without a name is no criterion
 unfoldable pub property : List Node → Option Node → Option Property

@@ -1,3 +1,10 @@
+pub mod Table
+pub mod Spans
+pub mod Elements
+pub mod Faults
+pub mod AnyNames
+pub mod Groups
+pub mod Places
 pub mod Fields
 pub mod Raw
 pub mod Naming

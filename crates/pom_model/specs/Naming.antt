@@ -5,8 +5,8 @@ use Rattle.mvn_base.specs.declared.refusal.PomId.{PomId}
 use Rattle.mvn_base.specs.declared.refusal.Refusal.{Refusal}
 use Rattle.model_types.specs.declared.model.RawModel.{RawModel}
 use Rattle.pom_text.specs.declared.node.Node.{Node}
-use Rattle.pom_table.specs.declared.fault.Fault.{Fault}
-use Rattle.pom_table.specs.Faults.{first_fault}
+use Rattle.pom_model.specs.declared.fault.Fault.{Fault}
+use Rattle.pom_model.specs.Faults.{first_fault}
 use Rattle.pom_model.specs.Fields.{model}
 use Rattle.pom_model.specs.Raw.{raw, unless}
 

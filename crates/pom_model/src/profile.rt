@@ -1,14 +1,16 @@
+//! The `profile` and `activation` elements of a POM.
+
 ghost use Rattle.std.specs.Prelude.{◌≡◌, codes, map, option_map, Some, IfOk};
 ghost use Rattle.std.specs.Option.{option_copied};
 ghost use Rattle.pom_model.specs.Fields.{activation, activation_in, criteria, criteria_texts, file_text, os, profile, profiles, property};
-ghost use Rattle.pom_table.specs.Elements.{items, named_among};
+ghost use Rattle.pom_model.specs.Elements.{items, named_among};
 
+use crate::base::model_base;
+use crate::build::build_base;
+use crate::element::{child, named, text_is, text_of, text_or};
+use crate::pairs::two_texts;
 use model_types::{Activation, Os, Profile, Property};
 use mvn_shared::{List, Mem, Shared, Text};
-use pom_fields::base::model_base;
-use pom_fields::build::build_base;
-use pom_fields::pairs::two_texts;
-use pom_table::element::{child, named, text_is, text_of, text_or};
 use pom_text::Node;
 use std::alloc::Global;
 

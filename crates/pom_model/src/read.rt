@@ -1,21 +1,23 @@
+//! The model of a POM from its elements, or its first refusal.
+
 ghost use Rattle.std.specs.Prelude.{◌≡◌, codes, slice_get, Some, IfOk};
 ghost use Rattle.std.specs.Option.{option_copied};
 ghost use Rattle.mvn_base.specs.Says.{Says};
-ghost use Rattle.pom_table.specs.Elements.{child};
+ghost use Rattle.pom_model.specs.Elements.{child};
 ghost use Rattle.pom_model.specs.Fields.{coordinates, model, names, parent, parent_in, path_text};
 ghost use Rattle.pom_model.specs.Raw.{raw, refusal};
 
+use crate::base::model_base;
+use crate::build::build;
+use crate::element::{at, child, own_text, text_of, text_or};
+use crate::fault::{Fault, Spot};
+use crate::item::Item;
+use crate::pairs::two_texts;
 use crate::profile::profiles;
+use crate::walk::first_fault;
 use model_types::{Coordinates, Parent, RawModel};
 use mvn_base::{Gav, ModelError, Place, PomId, Refusal};
 use mvn_shared::{Mem, Shared, Text};
-use pom_fields::base::model_base;
-use pom_fields::build::build;
-use pom_fields::item::Item;
-use pom_fields::pairs::two_texts;
-use pom_table::element::{at, child, own_text, text_of, text_or};
-use pom_table::fault::{Fault, Spot};
-use pom_table::walk::first_fault;
 use pom_text::{Node, PomText};
 use std::alloc::Global;
 
@@ -130,12 +132,12 @@ fn refusal(pom: &PomId, fault: Fault) -> Mem<Refusal>
     Ok(Refusal { pom, rule, place })
 }
 
-/// What a POM says, by its elements: each field by the read table, with the default of an absent or empty element; white space
-/// round texts is no part of them outside configurations. Or its first refusal in document order: another root than
-/// `project` (the root's name is told), an element that stands again, an attribute that says how configurations merge, a
-/// list of more than 1,024 items, another `modelVersion` than `4.0.0` (its text is told), or a missing element; else the
-/// element's path is told. Elements below the 64th level aren't read, and no POM text has any. Costs the elements and their
-/// texts. POM Reference; own order.
+/// What a POM says, by its elements: each field by the read table, with the default of an absent or empty element;
+/// white space round texts is no part of them outside configurations. Or its first refusal in document order: another
+/// root than `project` (the refusal names the root), an element that stands again, an attribute that says how
+/// configurations merge, a list of more than 1,024 items, another `modelVersion` than `4.0.0` (the refusal names its
+/// text), or a missing element; else the refusal names the element's path. Elements below the 64th level aren't read,
+/// and no POM text has any. Costs the elements and their texts. POM Reference; the order is a project rule.
 #[tactic(auto, unfolding(crate::specs::Raw::raw))]
 pub fn read_model(alloc: Global, text: &PomText, pom: &PomId) -> Result<RawModel, ModelError>
     ensures { Says (raw text.now.nodes pom.now) result }

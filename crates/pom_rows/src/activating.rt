@@ -4,7 +4,7 @@ use model_types::RawModel;
 use mvn_base::{Choice, Gav, Machine, ModelError, Pair, PomId};
 use mvn_outside::DeviceFault;
 use mvn_shared::{List, Mem, OutOfMemory, Shared, Text};
-use profile_activation::active;
+use profiles::active;
 use row_models::{at_path, field, machine, named, pairs, word, words};
 use std::alloc::Global;
 

@@ -2,7 +2,7 @@
 use goal_types::GoalCall;
 use lifecycle::GoalList;
 use mvn_shared::{Mem, Text};
-use shown_models::push_settings;
+use row_models::push_settings;
 use std::alloc::Global;
 
 // A goal with its configuration.

@@ -1,15 +1,17 @@
-//! Rows about POMs, each with its answer: what POMs say, which of their profiles are active, and which goals run. A line of standard input
-//! is a word, which says what is asked for, and fields with a bar between two of them; the answer is printed as one line. A line that
-//! begins with `#` is printed as it stands. A POM that is refused is answered by the number of the rule and the place. `row_models` says
-//! how POMs are spelled. They stand in a project behind the `modelVersion`, and except for `project` behind the coordinates g:a:1 too.
+//! The program `pom_rows` answers rows about POMs: what they say, which of their profiles are active, and which goals run.
+//!
+//! A line of standard input is a word, which says what is asked for, and fields with a bar between two of them; the answer is printed as
+//! one line. A line that begins with `#` is printed as it stands. A POM that is refused is answered by the number of the rule and the
+//! place. `row_models` says how POMs are spelled. They stand in a project after the `modelVersion`, and except for `project` after the
+//! coordinates g:a:1 too.
 //!
 //! - `pom POM`, `project POM`, `behind POM`: what the POM says, field by field, of a whole text, or within a project; `is-read POM`: only
 //!   that it can be read
-//! - `active POM|NAME=VALUE ..|ON ..|OFF ..`: the places of the active profiles, with properties of the command line and ids that
-//!   are switched on and off, for the POM of the folder `app` in `/w`, where the files `app/src/x` and `top` are;
-//!   `active-by-coordinates` for one of a repository, `active-failing` where no file can be asked for
-//! - `bindings PACKAGING`: the plugins that it binds; `goals POM|PHASE`: the goals that run up to the phase, those in brackets that
-//!   have no phase, and `!` where installing is reached
+//! - `active POM|NAME=VALUE ..|ON ..|OFF ..`: the places of the active profiles, with properties of the command line and ids that are
+//!   switched on and off, for the POM of the folder `app` in `/w`, where the files `app/src/x` and `top` are; `active-by-coordinates` for
+//!   one of a repository, `active-failing` where no file can be asked for
+//! - `bindings PACKAGING`: the plugins that it binds; `goals POM|PHASE`: the goals that run up to the phase, those in brackets that have
+//!   no phase, and `!` where installing is reached
 #![tactic(auto)]
 
 mod activating;

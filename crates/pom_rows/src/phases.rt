@@ -1,12 +1,11 @@
 // The plugins that a packaging binds, and the goals of a POM that run up to a phase.
 use crate::goal_lists::goals_text;
-use keyed_lists::copies;
 use lifecycle::{bind, bindings, goals, phase_of};
+use model_merge::copies;
 use model_types::{Build, BuildBase, Coordinates, Model, ModelBase, Plugin, RawModel};
 use mvn_base::{Gav, ModelError, Phase, PomId};
 use mvn_shared::{List, Mem, Shared, Text};
-use row_models::{behind, field, word};
-use shown_models::plugins_text;
+use row_models::{behind, field, plugins_text, word};
 use std::alloc::Global;
 
 fn shown_bindings(alloc: Global, bound: &Option<List<Shared<Plugin>>>) -> Mem<String> {

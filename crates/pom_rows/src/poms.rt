@@ -2,8 +2,7 @@
 use model_types::RawModel;
 use mvn_base::ModelError;
 use mvn_shared::{Mem, Shared};
-use row_models::{behind, project, whole, word};
-use shown_models::model_text;
+use row_models::{behind, model_text, project, whole, word};
 use std::alloc::Global;
 
 fn model(alloc: Global, kind: &str, field: &str) -> Result<Shared<RawModel>, ModelError> {

@@ -1,18 +1,25 @@
+//! `BuildFault`: why a POM has no effective model.
+
 ghost use Rattle.std.specs.Prelude.{◌≡◌};
 
 use mvn_base::{ModelError, Refusal};
 use mvn_outside::DeviceFault;
 use mvn_shared::OutOfMemory;
 use std::alloc::AllocError;
+use thiserror::Error;
 
 /// Why a POM has no effective model: a rule isn't met, the source has no such POM, the source failed, or memory ran out.
-#[derive(Drop)]
+#[derive(Debug, Drop, Error)]
 pub enum BuildFault {
+    #[error("{0}")]
     Refused(Refusal),
     /// The source has no such POM.
+    #[error("the source has no such POM")]
     Absent,
     /// The source failed; its count of faults rose.
+    #[error("the source failed")]
     Source,
+    #[error("out of memory")]
     Memory,
 }
 

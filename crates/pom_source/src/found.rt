@@ -1,3 +1,5 @@
+//! A POM that was found, and what the machine and the command line give to all POMs of a run.
+
 use mvn_base::{Choice, Machine, Pair, PomId};
 use mvn_shared::{Bytes, List};
 
@@ -16,4 +18,6 @@ pub struct Given {
     pub defines: List<Pair>,
     /// The profiles that are switched on and off.
     pub choice: Choice,
+    /// What `revision`, `sha1` and `changelist` stand for in the versions of the project's POMs; empty, since none is filled in yet.
+    pub ci: List<Pair>,
 }

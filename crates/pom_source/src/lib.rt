@@ -1,4 +1,4 @@
-//! Where POMs are looked up, and what a call that builds a model from them answers.
+//! Gives the trait by which POMs are looked up, and the faults of a call that builds a model from them.
 #![tactic(auto)]
 
 mod fault;

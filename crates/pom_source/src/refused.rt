@@ -1,3 +1,5 @@
+//! Refusals of a POM that name coordinates or a text.
+
 ghost use Rattle.std.specs.Prelude.{◌≡◌, false, Err};
 ghost use Rattle.pom_source.specs.Answers.{Says, build_failed};
 ghost use Rattle.pom_source.specs.Refusals.{gav_refused, text_refused};

@@ -1,3 +1,5 @@
+//! `PomSource`: the trait by which POMs are looked up, by path and by coordinates.
+
 ghost use Rattle.std.specs.Prelude.{◌≡◌, IfOk};
 ghost use Rattle.mvn_shared.specs.Cause.{HasCause};
 ghost use Rattle.mvn_outside.specs.Faults.{device_failed};
@@ -14,8 +16,8 @@ pub trait PomSource: Files {
     /// answers fits each world that has them.
     ghost fits_poms: { Self → World → Type 0 };
 
-    /// The POM at a path of the project, or none if no file is there. A text that is longer than a POM's may be is refused anyway, so
-    /// a source may cut it one byte behind that limit.
+    /// The POM at a path of the project, or none if no file is there. A text that is longer than a POM's may be is
+    /// refused anyway, so a source may cut it one byte after that limit.
     fn by_path(&mut self, path: &Text) -> Result<Option<Bytes>, DeviceFault>
         ensures tells { (world : World) → fits_poms self.old world
             → IfOk result (λ found. found ≡ world.by_path path.now) }

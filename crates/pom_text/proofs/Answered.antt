@@ -5,29 +5,29 @@ use Rattle.std.specs.List.{list_all, prefix_len}
 use Rattle.mvn_base.specs.Limits.{pom_limit}
 use Rattle.mvn_base.specs.declared.rule.Rule.{Rule}
 use Rattle.mvn_base.specs.declared.rule.Rule.TheVariants.{NotPomText, TooLarge}
-use Rattle.pom_words.specs.declared.encoding.Encoding as encoding_type
+use Rattle.pom_text.specs.declared.encoding.Encoding as encoding_type
 use Rattle.pom_text.specs.declared.fault.TextFault.{TextFault}
 use Rattle.pom_text.specs.declared.fault.TextFault.TheVariants.{Refused, Memory}
 use Rattle.pom_text.specs.declared.node.Node.{Node}
 use Rattle.pom_text.specs.declared.node.PomText.{PomText}
 use Rattle.pom_text.specs.Answers.{Agrees, Answer, answer, decoded_answer, encoding_answer, opened, placed, text_answer}
-use Rattle.pom_words.specs.Characters.{is_allowed}
-use Rattle.pom_words.specs.Encodings.{Opens, behind_mark, chosen, declared, decoded, encoded, mark_len, undeclared}
-use Rattle.pom_words.specs.Grammar.{declaration, spelled}
-use Rattle.pom_words.specs.Openings.{named_encoding, opening}
-use Rattle.pom_words.specs.Reads.{begins}
+use Rattle.pom_text.specs.Characters.{is_allowed}
+use Rattle.pom_text.specs.Encodings.{Opens, behind_mark, chosen, declared, decoded, encoded, mark_len, undeclared}
+use Rattle.pom_text.specs.Grammar.{declaration, spelled}
+use Rattle.pom_text.specs.Openings.{named_encoding, opening}
+use Rattle.pom_text.specs.Reads.{begins}
 use Rattle.pom_text.specs.Running.{Outcome, halted, read, run}
 use Rattle.pom_text.specs.Runs.{EndsWith, HasFront}
 use Rattle.pom_text.specs.Spells.{Begins, Spells, Stops, doctype, not_text, too_deep}
 use Rattle.pom_text.specs.Texts.{AreElements, HasEncoding, IsAnswered, IsDecoded, IsRefusal, IsText, Refuses, SpellsElements, bad_declaration, not_encoded, stops, too_long, unknown_encoding}
-use Rattle.pom_words.specs.Parts.{is_empty}
+use Rattle.pom_text.specs.Parts.{is_empty}
 use Rattle.pom_text.specs.Tree.{nothing_yet}
 use Rattle.pom_text.proofs.Bounds.{ok_err, same_err, same_ok}
 use Rattle.pom_text.proofs.Chains.{one_end}
 use Rattle.pom_text.proofs.Ends.{Sound, run_sound, spelled_run, stops_run}
-use Rattle.pom_words.proofs.Fronts.{run_all, run_splits, same_some, take_front}
+use Rattle.pom_text.proofs.Fronts.{run_all, run_splits, same_some, take_front}
 use Rattle.pom_text.proofs.Opens.{IsUnopened, body_allowed, names_once, names_so, opened_so, opens_so, unopened_once, unopened_so}
-use Rattle.pom_words.proofs.RunCuts.{run_stops}
+use Rattle.pom_text.proofs.RunCuts.{run_stops}
 
 -- an answer is right
 abbrev pub Right : List ℕ → Answer → Type 0

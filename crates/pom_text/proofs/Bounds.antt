@@ -7,17 +7,17 @@ use Rattle.std.specs.List.{prefix_len}
 use Rattle.std.specs.Result.{result_map_both}
 use Rattle.std.specs.Str.{bytes_eq, chars}
 use Rattle.std.specs.Str.Lossy.{utf8_valid_len}
-use Rattle.pom_words.specs.declared.decoded.Decoded.{Decoded}
-use Rattle.pom_words.specs.declared.encoding.Encoding.{Encoding}
-use Rattle.pom_words.specs.declared.encoding.Encoding.TheVariants.{Utf8, UsAscii, Iso88591}
-use Rattle.pom_words.specs.Encodings.{announces, chosen, decoded, encoded, is_ascii, named, or_bad}
-use Rattle.pom_words.specs.Grammar.{declaration}
-use Rattle.pom_words.specs.Openings.{behind_declaration, encoding_from, encoding_or, encoding_within, if_there, closed, named_behind, named_encoding, opening}
-use Rattle.pom_words.specs.Reads.{after, attribute_of}
-use Rattle.pom_words.specs.Lent.{decoded_bytes}
+use Rattle.pom_text.specs.declared.decoded.Decoded.{Decoded}
+use Rattle.pom_text.specs.declared.encoding.Encoding.{Encoding}
+use Rattle.pom_text.specs.declared.encoding.Encoding.TheVariants.{Utf8, UsAscii, Iso88591}
+use Rattle.pom_text.specs.Encodings.{announces, chosen, decoded, encoded, is_ascii, named, or_bad}
+use Rattle.pom_text.specs.Grammar.{declaration}
+use Rattle.pom_text.specs.Openings.{behind_declaration, encoding_from, encoding_or, encoding_within, if_there, closed, named_behind, named_encoding, opening}
+use Rattle.pom_text.specs.Reads.{after, attribute_of}
+use Rattle.pom_text.specs.Lent.{decoded_bytes}
 use Rattle.pom_text.proofs.Declarations.{declaration_splits}
-use Rattle.pom_words.proofs.Fronts.{none_some, same_some, unbound}
-use Rattle.pom_words.proofs.Decodes.{bytes_within}
+use Rattle.pom_text.proofs.Fronts.{none_some, same_some, unbound}
+use Rattle.pom_text.proofs.Decodes.{bytes_within}
 
 -- results
 is_ok : {A B : Type 0} → Result A B → Bool

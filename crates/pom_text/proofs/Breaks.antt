@@ -6,13 +6,13 @@ use Rattle.std.proofs.lemmas.Str.{encode_ascii, encodes-append}
 use Rattle.std.specs.Char.{encode_utf8}
 use Rattle.std.specs.List.{starts_with}
 use Rattle.std.specs.Str.{encode_utf8_all}
-use Rattle.pom_words.specs.Grammar.{ends_first}
-use Rattle.pom_words.specs.Parts.{line_part, lines}
-use Rattle.pom_words.specs.Reads.{up_to}
-use Rattle.pom_words.specs.Lent.{unfed}
-use Rattle.pom_words.proofs.Firsts.{not_here}
-use Rattle.pom_words.proofs.Fronts.{and_first, and_second, not_false, starts_front}
-use Rattle.pom_words.proofs.Needles.{no_true}
+use Rattle.pom_text.specs.Grammar.{ends_first}
+use Rattle.pom_text.specs.Parts.{line_part, lines}
+use Rattle.pom_text.specs.Reads.{up_to}
+use Rattle.pom_text.specs.Lent.{unfed}
+use Rattle.pom_text.proofs.Firsts.{not_here}
+use Rattle.pom_text.proofs.Fronts.{and_first, and_second, not_false, starts_front}
+use Rattle.pom_text.proofs.Needles.{no_true}
 use Rattle.pom_text.proofs.Plain.{has_no_return, is_returned, lines_unfed}
 use Rattle.pom_text.proofs.Ups.{nowhere_more, up_to_splits}
 

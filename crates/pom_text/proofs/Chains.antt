@@ -3,16 +3,16 @@ use Rattle.std.proofs.Common.{◌≡◌, ℕ, ◌≤◌, Bool, true, false, not,
 use Rattle.std.proofs.lemmas.Bool.{false≢true}
 use Rattle.std.specs.List.{list_all}
 use Rattle.std.specs.Str.{encode_utf8_all}
-use Rattle.pom_words.specs.Characters.{is_allowed}
-use Rattle.pom_words.specs.Grammar.{Piece, ends_first, is_formed, is_piece, spelled, comment, instruction, section, reference, start_tag, empty_tag, end_tag, character}
+use Rattle.pom_text.specs.Characters.{is_allowed}
+use Rattle.pom_text.specs.Grammar.{Piece, ends_first, is_formed, is_piece, spelled, comment, instruction, section, reference, start_tag, empty_tag, end_tag, character}
 use Rattle.pom_text.specs.Growth.{bytes_in, code_of, part_of, take_part, with_bytes}
-use Rattle.pom_words.specs.Parts.{lines}
-use Rattle.pom_words.specs.Reads.{begins, piece_of}
-use Rattle.pom_words.specs.References.{referred}
+use Rattle.pom_text.specs.Parts.{lines}
+use Rattle.pom_text.specs.Reads.{begins, piece_of}
+use Rattle.pom_text.specs.References.{referred}
 use Rattle.pom_text.specs.Running.{begins_element, run}
 use Rattle.pom_text.specs.Spells.{Begins, BeginsLongest, from_there, grown, is_element, is_shallow, nests}
 use Rattle.pom_text.specs.Tree.{Standing, character_list, grow, in_innermost, innermost, with_text}
-use Rattle.pom_words.proofs.Fronts.{and_first, and_second, both, none_some, not_false, same_some, unbound}
+use Rattle.pom_text.proofs.Fronts.{and_first, and_second, both, none_some, not_false, same_some, unbound}
 use Rattle.pom_text.proofs.Pieces.{piece_reads}
 use Rattle.pom_text.proofs.Runs.{run_more, spelled_some}
 

@@ -3,15 +3,15 @@ use Rattle.std.proofs.Common.{◌≡◌, ℕ, ◌+◌, ◌-◌, Bool, true, fals
 use Rattle.std.proofs.lemmas.Bool.{false≢true}
 use Rattle.std.specs.List.{list_all}
 use Rattle.std.specs.Str.{bytes_eq}
-use Rattle.pom_words.specs.Characters.{is_name_char, is_name_start, is_space}
-use Rattle.pom_words.specs.Encodings.{begins_space, encoding_in, first_space, is_declaration, value_place}
-use Rattle.pom_words.specs.Grammar.{Attribute, declaration, is_attribute, is_filled, written}
-use Rattle.pom_words.specs.Openings.{behind_declaration, closed, encoding_from, if_there, named_behind, named_encoding}
-use Rattle.pom_words.specs.Reads.{after, attribute_of, attributes_of, skip_space}
-use Rattle.pom_words.proofs.Attributes.{attribute_parts, attribute_reads, attributes_read, attributes_split, chain, written_chain}
-use Rattle.pom_words.proofs.Fronts.{after_reads, after_splits, and_first, and_second, both, none_some, space_all, space_of, space_reads, space_splits, unbound}
+use Rattle.pom_text.specs.Characters.{is_name_char, is_name_start, is_space}
+use Rattle.pom_text.specs.Encodings.{begins_space, encoding_in, first_space, is_declaration, value_place}
+use Rattle.pom_text.specs.Grammar.{Attribute, declaration, is_attribute, is_filled, written}
+use Rattle.pom_text.specs.Openings.{behind_declaration, closed, encoding_from, if_there, named_behind, named_encoding}
+use Rattle.pom_text.specs.Reads.{after, attribute_of, attributes_of, skip_space}
+use Rattle.pom_text.proofs.Attributes.{attribute_parts, attribute_reads, attributes_read, attributes_split, chain, written_chain}
+use Rattle.pom_text.proofs.Fronts.{after_reads, after_splits, and_first, and_second, both, none_some, space_all, space_of, space_reads, space_splits, unbound}
 use Rattle.pom_text.proofs.Tags.{Closes, no_attribute}
-use Rattle.pom_words.proofs.Named.{chain_length, encoding_found, encoding_more, encoding_end}
+use Rattle.pom_text.proofs.Named.{chain_length, encoding_found, encoding_more, encoding_end}
 
 -- the encoding of attributes that are written is that of what is read
 pub encoding_reads : (attributes : List Attribute) (rest : List ℕ) (at total : ℕ) → list_all is_attribute attributes ≡ true → attribute_of rest ≡ None → total ≡ at + length (flat_map written attributes ++ rest)

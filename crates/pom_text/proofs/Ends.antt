@@ -5,16 +5,16 @@ use Rattle.std.specs.List.{list_all, starts_with}
 use Rattle.mvn_base.specs.declared.rule.Rule.{Rule}
 use Rattle.mvn_base.specs.declared.rule.Rule.TheVariants.{TooLarge, NotPomText, Doctype}
 use Rattle.pom_text.specs.declared.node.Node.{Node}
-use Rattle.pom_words.specs.Parts.{Part, is_empty}
-use Rattle.pom_words.specs.Characters.{is_allowed, is_name_start}
-use Rattle.pom_words.specs.Grammar.{Piece, is_formed, is_piece, spelled}
+use Rattle.pom_text.specs.Parts.{Part, is_empty}
+use Rattle.pom_text.specs.Characters.{is_allowed, is_name_start}
+use Rattle.pom_text.specs.Grammar.{Piece, is_formed, is_piece, spelled}
 use Rattle.pom_text.specs.Growth.{part_of, take_part}
-use Rattle.pom_words.specs.Reads.{after, begins, marked_of, name_of, piece_of, tag_of}
+use Rattle.pom_text.specs.Reads.{after, begins, marked_of, name_of, piece_of, tag_of}
 use Rattle.pom_text.specs.Running.{Outcome, begins_element, finish, go, halted, read, run, run_within, turn}
 use Rattle.pom_text.specs.Spells.{Begins, Spells, Stops, doctype, from_there, grown, is_doctype, is_done, is_shallow, nests, not_text, too_deep}
 use Rattle.pom_text.specs.Tree.{Standing, grow}
 use Rattle.pom_text.proofs.Chains.{GoesNoFurther, element_so, follows, grows_so, longest_ends, no_longer, within}
-use Rattle.pom_words.proofs.Fronts.{and_first, and_second, both, none_some, not_false, same_some, starts_front, starts_splits}
+use Rattle.pom_text.proofs.Fronts.{and_first, and_second, both, none_some, not_false, same_some, starts_front, starts_splits}
 use Rattle.pom_text.proofs.Pieces.{piece_reads, piece_splits}
 use Rattle.pom_text.proofs.Runs.{piece_shorter, run_deep, run_end, run_unfit}
 

@@ -1,3 +1,15 @@
+pub mod Flat
+pub mod Bytes
+pub mod Needles
+pub mod Firsts
+pub mod RunCuts
+pub mod Referred
+pub mod Forbids
+pub mod Digits
+pub mod Fronts
+pub mod Attributes
+pub mod Decodes
+pub mod Named
 pub mod Plain
 pub mod Breaks
 pub mod Places

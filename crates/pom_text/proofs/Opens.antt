@@ -3,15 +3,15 @@ use Rattle.std.proofs.Common.{◌≡◌, ℕ, ◌+◌, Bool, true, false, nat_eq
 use Rattle.std.proofs.lemmas.Bool.{false≢true}
 use Rattle.std.proofs.lemmas.Bool.Decides.{nat_tests}
 use Rattle.std.specs.List.{list_all, starts_with}
-use Rattle.pom_words.specs.Characters.{is_allowed, is_space}
-use Rattle.pom_words.specs.Encodings.{Names, Opens, announces, begins_space, declared, is_declaration, undeclared}
-use Rattle.pom_words.specs.Grammar.{Attribute, declaration}
-use Rattle.pom_words.specs.Openings.{behind_declaration, named_encoding, opening}
-use Rattle.pom_words.specs.Reads.{begins}
+use Rattle.pom_text.specs.Characters.{is_allowed, is_space}
+use Rattle.pom_text.specs.Encodings.{Names, Opens, announces, begins_space, declared, is_declaration, undeclared}
+use Rattle.pom_text.specs.Grammar.{Attribute, declaration}
+use Rattle.pom_text.specs.Openings.{behind_declaration, named_encoding, opening}
+use Rattle.pom_text.specs.Reads.{begins}
 use Rattle.pom_text.proofs.Chains.{within}
 use Rattle.pom_text.proofs.Declarations.{declaration_parts, declaration_reads, declaration_splits, declaration_tail, named_none, named_reads, tail, tail_begins}
 use Rattle.pom_text.proofs.Ends.{all_after, and_first_all}
-use Rattle.pom_words.proofs.Fronts.{and_first, and_second, both, none_some, same_some, starts_front, starts_splits}
+use Rattle.pom_text.proofs.Fronts.{and_first, and_second, both, none_some, same_some, starts_front, starts_splits}
 
 -- the encoding that bytes name is what is read
 pub names_so : (bytes : List ℕ) → Names bytes (named_encoding bytes)

@@ -5,13 +5,13 @@ use Rattle.std.proofs.lemmas.Bool.Decides.{nat_tests}
 use Rattle.std.specs.List.{list_all}
 use Rattle.std.specs.Cmp.Lexicographic.{pointwise}
 use Rattle.std.specs.Str.{encode_utf8_all}
-use Rattle.pom_words.specs.Parts.{Part, Passed, Character, Section, Reference, lines}
-use Rattle.pom_words.specs.Characters.{is_space, is_name_start}
-use Rattle.pom_words.specs.Grammar.{Attribute, Piece, ends_first, is_attribute, is_formed, is_name, is_tag, spelled, written, comment, instruction, section, reference, start_tag, empty_tag, end_tag, character}
+use Rattle.pom_text.specs.Parts.{Part, Passed, Character, Section, Reference, lines}
+use Rattle.pom_text.specs.Characters.{is_space, is_name_start}
+use Rattle.pom_text.specs.Grammar.{Attribute, Piece, ends_first, is_attribute, is_formed, is_name, is_tag, spelled, written, comment, instruction, section, reference, start_tag, empty_tag, end_tag, character}
 use Rattle.pom_text.specs.Growth.{code_of, part_of}
-use Rattle.pom_words.specs.References.{referred}
-use Rattle.pom_words.specs.Reads.{after, begins, behind, end_of, marked_of, meant, passed_of, piece_of, reference_of, section_of, tag_of, up_to}
-use Rattle.pom_words.proofs.Fronts.{after_splits, and_first, and_second, both, name_begins, none_some, not_false, same_some, unbound}
+use Rattle.pom_text.specs.References.{referred}
+use Rattle.pom_text.specs.Reads.{after, begins, behind, end_of, marked_of, meant, passed_of, piece_of, reference_of, section_of, tag_of, up_to}
+use Rattle.pom_text.proofs.Fronts.{after_splits, and_first, and_second, both, name_begins, none_some, not_false, same_some, unbound}
 use Rattle.pom_text.proofs.Tags.{IsRead, empty_reads, end_reads, end_splits, made, start_reads, tag_splits, unmapped}
 use Rattle.pom_text.proofs.Ups.{up_to_reads, up_to_splits}
 

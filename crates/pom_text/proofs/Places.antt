@@ -3,8 +3,8 @@ use Rattle.std.proofs.Common.{◌≡◌, ℕ, ◌+◌, ◌-◌, ◌≤◌, true,
 use Rattle.std.proofs.lemmas.Str.{IsCharBoundary-at_seam, IsUtf8-append, chars-encodes, encodes-append, encodes-chars, length-le-encodes, scalars-chars}
 use Rattle.std.specs.Str.{IsUtf8, IsCharBoundary, all_scalars, chars, encode_utf8_all}
 use Rattle.pom_text.specs.Runs.{HasFront}
-use Rattle.pom_words.proofs.Bytes.{scalars_parts, whole_len}
-use Rattle.pom_words.proofs.Fronts.{take_front}
+use Rattle.pom_text.proofs.Bytes.{scalars_parts, whole_len}
+use Rattle.pom_text.proofs.Fronts.{take_front}
 
 -- the bytes that are read, of a text whose rest and what is behind it are not
 pub record IsPlace (text rest more : List ℕ) (read : ℕ) : Type 0 where

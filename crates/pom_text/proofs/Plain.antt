@@ -6,15 +6,15 @@ use Rattle.std.specs.List.{list_all, prefix_len}
 use Rattle.std.specs.Str.{encode_utf8_all}
 use Rattle.mvn_base.specs.declared.rule.Rule.TheVariants.{NotPomText}
 use Rattle.pom_text.specs.declared.node.Node.{Node}
-use Rattle.pom_words.specs.Characters.{is_space}
+use Rattle.pom_text.specs.Characters.{is_space}
 use Rattle.pom_text.specs.Growth.{fitting, take_part}
-use Rattle.pom_words.specs.Parts.{Character, line_part, lines, is_empty}
-use Rattle.pom_words.specs.Reads.{begins, piece_of, skip_space}
+use Rattle.pom_text.specs.Parts.{Character, line_part, lines, is_empty}
+use Rattle.pom_text.specs.Reads.{begins, piece_of, skip_space}
 use Rattle.pom_text.specs.Running.{halted, run}
-use Rattle.pom_words.specs.Lent.{IsRunOf, is_run, unfed}
+use Rattle.pom_text.specs.Lent.{IsRunOf, is_run, unfed}
 use Rattle.pom_text.specs.Runs.{grown_run}
 use Rattle.pom_text.specs.Tree.{Standing, add_text, changed, in_innermost, innermost, passed, with_text}
-use Rattle.pom_words.proofs.Fronts.{none_some, same_some}
+use Rattle.pom_text.proofs.Fronts.{none_some, same_some}
 use Rattle.pom_text.proofs.Runs.{length_changed, run_more, run_unfit}
 
 -- what a character of a run is not

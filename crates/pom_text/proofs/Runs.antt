@@ -3,14 +3,14 @@ use Rattle.std.proofs.Common.{◌≡◌, ℕ, zero, suc, ◌+◌, ◌-◌, ◌<�
 use Rattle.mvn_base.specs.declared.rule.Rule.TheVariants.{TooLarge, NotPomText}
 use Rattle.std.specs.Str.{encode_utf8_all}
 use Rattle.pom_text.specs.declared.node.Node.{Node}
-use Rattle.pom_words.specs.Parts.{Part, Passed, Character, Section, Reference, Start, Empty, End, line_part}
-use Rattle.pom_words.specs.Characters.{is_space}
-use Rattle.pom_words.specs.Grammar.{Piece, spelled, comment, instruction, section, reference, start_tag, empty_tag, end_tag, character}
+use Rattle.pom_text.specs.Parts.{Part, Passed, Character, Section, Reference, Start, Empty, End, line_part}
+use Rattle.pom_text.specs.Characters.{is_space}
+use Rattle.pom_text.specs.Grammar.{Piece, spelled, comment, instruction, section, reference, start_tag, empty_tag, end_tag, character}
 use Rattle.pom_text.specs.Growth.{bytes_in, fitting, take_part, with_bytes}
-use Rattle.pom_words.specs.Reads.{piece_of}
+use Rattle.pom_text.specs.Reads.{piece_of}
 use Rattle.pom_text.specs.Running.{Outcome, begins_element, finish, go, halted, run, run_within, turn}
 use Rattle.pom_text.specs.Tree.{Standing, add_child, add_text, begun, changed, closes, ended, in_innermost, innermost, may_begin, passed, with_child, with_text}
-use Rattle.pom_words.proofs.Fronts.{none_some, same_some}
+use Rattle.pom_text.proofs.Fronts.{none_some, same_some}
 use Rattle.pom_text.proofs.Pieces.{piece_splits}
 
 -- a piece has a character at least

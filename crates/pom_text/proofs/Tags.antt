@@ -3,14 +3,14 @@ use Rattle.std.proofs.Common.{◌≡◌, ℕ, Bool, true, false, ◌&&◌, ◌==
 use Rattle.std.proofs.lemmas.Bool.{false≢true}
 use Rattle.std.specs.List.{list_all, prefix_len}
 use Rattle.std.specs.Str.{encode_utf8_all}
-use Rattle.pom_words.specs.Parts.{Tag, Part, Start, Empty, End}
-use Rattle.pom_words.specs.Characters.{is_space, is_name_start, is_name_char}
-use Rattle.pom_words.specs.Grammar.{Attribute, Piece, is_attribute, is_filled, is_formed, is_name, is_tag, spelled, written, start_tag, empty_tag, end_tag}
+use Rattle.pom_text.specs.Parts.{Tag, Part, Start, Empty, End}
+use Rattle.pom_text.specs.Characters.{is_space, is_name_start, is_name_char}
+use Rattle.pom_text.specs.Grammar.{Attribute, Piece, is_attribute, is_filled, is_formed, is_name, is_tag, spelled, written, start_tag, empty_tag, end_tag}
 use Rattle.pom_text.specs.Growth.{part_of}
-use Rattle.pom_words.specs.Reads.{after, attribute_of, attributes_of, begins, end_named, end_of, name_of, names_of, or, skip_space, tag, tag_end, tag_named, tag_of, with_name}
+use Rattle.pom_text.specs.Reads.{after, attribute_of, attributes_of, begins, end_named, end_of, name_of, names_of, or, skip_space, tag, tag_end, tag_named, tag_of, with_name}
 use Rattle.pom_text.specs.Tree.{attribute_names}
-use Rattle.pom_words.proofs.Attributes.{attribute_parts, attributes_read, attributes_split, pairs, space_before, space_is_no_name, written_chain, chain}
-use Rattle.pom_words.proofs.Fronts.{after_reads, after_splits, and_first, and_second, both, name_reads, name_splits, none_some, same_some, space_all, space_of, space_reads, space_splits, unbound}
+use Rattle.pom_text.proofs.Attributes.{attribute_parts, attributes_read, attributes_split, pairs, space_before, space_is_no_name, written_chain, chain}
+use Rattle.pom_text.proofs.Fronts.{after_reads, after_splits, and_first, and_second, both, name_reads, name_splits, none_some, same_some, space_all, space_of, space_reads, space_splits, unbound}
 
 -- behind attributes stands white space, and then what begins neither a name nor white space
 pub record Closes (c : ℕ) : Type 0 where

@@ -3,9 +3,9 @@ use Rattle.std.proofs.Common.{◌≡◌, ℕ, ◌≤◌, Bool, true, false, not,
 use Rattle.std.proofs.lemmas.List.{take-append-le}
 use Rattle.std.specs.Cmp.Lexicographic.{pointwise}
 use Rattle.std.specs.List.{starts_with}
-use Rattle.pom_words.specs.Grammar.{ends_first}
-use Rattle.pom_words.specs.Reads.{after, first_of, longer, up_to}
-use Rattle.pom_words.proofs.Fronts.{after_reads, after_splits, and_first, and_second, both, none_some, not_false, same_some}
+use Rattle.pom_text.specs.Grammar.{ends_first}
+use Rattle.pom_text.specs.Reads.{after, first_of, longer, up_to}
+use Rattle.pom_text.proofs.Fronts.{after_reads, after_splits, and_first, and_second, both, none_some, not_false, same_some}
 
 -- whether a mark begins a text shows in as many characters as it has
 starts_local : (mark text rest : List ℕ) → length mark ≤ length text → starts_with nat_eq (text ++ rest) mark ≡ starts_with nat_eq text mark

@@ -5,17 +5,17 @@ use Rattle.std.specs.Str.{chars}
 use Rattle.mvn_base.specs.Limits.{pom_limit}
 use Rattle.mvn_base.specs.declared.rule.Rule.{Rule}
 use Rattle.mvn_base.specs.declared.rule.Rule.TheVariants.{TooLarge, Encoding, NotPomText}
-use Rattle.pom_words.specs.declared.encoding.Encoding as encoding_type
+use Rattle.pom_text.specs.declared.encoding.Encoding as encoding_type
 use Rattle.pom_text.specs.declared.fault.TextFault.{TextFault}
 use Rattle.pom_text.specs.declared.fault.TextFault.TheVariants.{Refused, Memory}
 use Rattle.pom_text.specs.declared.node.Node.{Node}
 use Rattle.pom_text.specs.declared.node.PomText.{PomText}
 use Rattle.pom_text.specs.declared.reader.Reading.{Reading}
-use Rattle.pom_words.specs.Characters.{is_allowed}
-use Rattle.pom_words.specs.Encodings.{behind_mark, chosen, decoded, encoded, mark_len}
-use Rattle.pom_words.specs.Openings.{named_encoding, opening}
+use Rattle.pom_text.specs.Characters.{is_allowed}
+use Rattle.pom_text.specs.Encodings.{behind_mark, chosen, decoded, encoded, mark_len}
+use Rattle.pom_text.specs.Openings.{named_encoding, opening}
 use Rattle.pom_text.specs.Running.{Outcome, halted, outcome_of, read, run}
-use Rattle.pom_words.specs.Parts.{is_empty}
+use Rattle.pom_text.specs.Parts.{is_empty}
 use Rattle.pom_text.specs.Tree.{nothing_yet}
 
 abbrev pub Answer : Type 0

@@ -2,11 +2,11 @@
 use Rattle.std.specs.Prelude.{◌≡◌, ℕ, Bool, true, false, ◌==◌, List, [], ◌∷◌, Option, Some, None, Result, IfOk, OnOk, if◌then◌else◌}
 use Rattle.pom_text.specs.declared.node.Node.{Node}
 use Rattle.pom_text.specs.declared.tree.Tree.{Tree}
-use Rattle.pom_words.specs.Parts.{Part, Passed, Character, Section, Reference, Start, Empty, End, line_part, lines}
-use Rattle.pom_words.specs.Characters.{is_space}
+use Rattle.pom_text.specs.Parts.{Part, Passed, Character, Section, Reference, Start, Empty, End, line_part, lines}
+use Rattle.pom_text.specs.Characters.{is_space}
 use Rattle.std.specs.Str.{encode_utf8_all}
-use Rattle.pom_words.specs.Grammar.{Piece, comment, instruction, section, reference, start_tag, empty_tag, end_tag, character}
-use Rattle.pom_words.specs.References.{referred}
+use Rattle.pom_text.specs.Grammar.{Piece, comment, instruction, section, reference, start_tag, empty_tag, end_tag, character}
+use Rattle.pom_text.specs.References.{referred}
 use Rattle.pom_text.specs.Tree.{Standing, add_text, attribute_names, begun, changed, closes, ended, innermost, may_begin, passed, with_child, with_text}
 
 abbrev pub standing_of : Tree → Standing

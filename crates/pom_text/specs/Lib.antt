@@ -1,3 +1,12 @@
+pub mod Characters
+pub mod References
+pub mod Numerals
+pub mod Grammar
+pub mod Parts
+pub mod Reads
+pub mod Lent
+pub mod Encodings
+pub mod Openings
 pub use Rattle.mvn_base.specs.Limits
 pub mod Tree
 pub mod Growth
@@ -6,4 +15,3 @@ pub mod Running
 pub mod Runs
 pub mod Texts
 pub mod Answers
-pub mod Faults

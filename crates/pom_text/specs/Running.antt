@@ -6,9 +6,9 @@ use Rattle.mvn_base.specs.declared.rule.Rule.TheVariants.{TooLarge, NotPomText, 
 use Rattle.pom_text.specs.declared.node.Node.{Node}
 use Rattle.pom_text.specs.declared.reader.Reading.{Reading}
 use Rattle.pom_text.specs.declared.reader.Reading.TheVariants.{Whole, Halted}
-use Rattle.pom_words.specs.Parts.{Part, Passed, Character, Section, Reference, Start, Empty, End, is_empty}
+use Rattle.pom_text.specs.Parts.{Part, Passed, Character, Section, Reference, Start, Empty, End, is_empty}
 use Rattle.pom_text.specs.Growth.{take_part}
-use Rattle.pom_words.specs.Reads.{piece_of}
+use Rattle.pom_text.specs.Reads.{piece_of}
 use Rattle.pom_text.specs.Spells.{is_doctype, is_done}
 use Rattle.pom_text.specs.Tree.{Standing}
 

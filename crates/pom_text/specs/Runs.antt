@@ -3,15 +3,15 @@
 use Rattle.std.specs.Prelude.{◌≡◌, ℕ, ◌-◌, Bool, false, not, List, [], ◌∷◌, ◌++◌, length, take, Option, Some, option_and_then, Result, IfOk}
 use Rattle.std.specs.Str.{chars, encode_utf8_all}
 use denote.Ref.{Bor}
-use Rattle.pom_words.specs.declared.encoding.Encoding.{Encoding}
+use Rattle.pom_text.specs.declared.encoding.Encoding.{Encoding}
 use Rattle.pom_text.specs.declared.part.Part as lent
 use Rattle.pom_text.specs.declared.part.Part.TheVariants as lending
 use Rattle.pom_text.specs.declared.part.Tag as tags
 use Rattle.pom_text.specs.declared.tree.Tree.{Tree}
-use Rattle.pom_words.specs.Encodings.{encoded}
+use Rattle.pom_text.specs.Encodings.{encoded}
 use Rattle.pom_text.specs.Growth.{fitting, standing_of, take_part}
-use Rattle.pom_words.specs.Parts.{Part, Tag, Passed, Character, Section, Reference, Start, Empty, End, lines}
-use Rattle.pom_words.specs.Reads.{attributes_of, begins, names_of}
+use Rattle.pom_text.specs.Parts.{Part, Tag, Passed, Character, Section, Reference, Start, Empty, End, lines}
+use Rattle.pom_text.specs.Reads.{attributes_of, begins, names_of}
 use Rattle.pom_text.specs.Running.{Outcome, halted, read}
 use Rattle.pom_text.specs.Tree.{Standing, begun}
 

@@ -5,9 +5,9 @@ use Rattle.std.specs.List.{list_all, starts_with}
 use Rattle.mvn_base.specs.declared.rule.Rule.{Rule}
 use Rattle.mvn_base.specs.declared.rule.Rule.TheVariants.{TooLarge, NotPomText, Doctype}
 use Rattle.pom_text.specs.declared.node.Node.{Node}
-use Rattle.pom_words.specs.Grammar.{Piece, is_piece, spelled, comment, instruction, section, reference, start_tag, empty_tag, end_tag, character}
+use Rattle.pom_text.specs.Grammar.{Piece, is_piece, spelled, comment, instruction, section, reference, start_tag, empty_tag, end_tag, character}
 use Rattle.pom_text.specs.Tree.{Standing, grow}
-use Rattle.pom_words.specs.Parts.{is_empty}
+use Rattle.pom_text.specs.Parts.{is_empty}
 
 -- pieces, each of which may stand behind those before it
 abbrev pub grown : Standing → List Piece → Option Standing

@@ -4,14 +4,14 @@ use Rattle.std.specs.List.{list_all}
 use Rattle.mvn_base.specs.Limits.{pom_limit}
 use Rattle.mvn_base.specs.declared.rule.Rule.{Rule}
 use Rattle.mvn_base.specs.declared.rule.Rule.TheVariants.{TooLarge, Encoding, NotPomText}
-use Rattle.pom_words.specs.declared.encoding.Encoding as encoding_type
+use Rattle.pom_text.specs.declared.encoding.Encoding as encoding_type
 use Rattle.pom_text.specs.declared.fault.TextFault.{TextFault}
 use Rattle.pom_text.specs.declared.fault.TextFault.TheVariants.{Refused, Memory}
 use Rattle.pom_text.specs.declared.node.Node.{Node}
 use Rattle.pom_text.specs.declared.node.PomText.{PomText}
-use Rattle.pom_words.specs.Characters.{is_allowed}
-use Rattle.pom_words.specs.Encodings.{Names, Opens, announces, behind_mark, chosen, decoded, encoded, is_declaration, mark_len}
-use Rattle.pom_words.specs.Grammar.{Attribute, declaration}
+use Rattle.pom_text.specs.Characters.{is_allowed}
+use Rattle.pom_text.specs.Encodings.{Names, Opens, announces, behind_mark, chosen, decoded, encoded, is_declaration, mark_len}
+use Rattle.pom_text.specs.Grammar.{Attribute, declaration}
 use Rattle.pom_text.specs.Spells.{Spells, Stops, is_shallow}
 use Rattle.pom_text.specs.Tree.{nothing_yet}
 

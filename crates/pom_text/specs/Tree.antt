@@ -4,10 +4,10 @@
 use Rattle.std.specs.Prelude.{ℕ, ◌-◌, Bool, false, ◌||◌, not, ◌==◌, List, [], ◌∷◌, ◌++◌, length, map, take, zero, suc, Option, Some, None, option_and_then, slice_get, if◌then◌else◌}
 use Rattle.std.specs.Str.{bytes_eq, encode_utf8_all}
 use Rattle.pom_text.specs.declared.node.Node.{Node}
-use Rattle.pom_words.specs.Characters.{is_space}
-use Rattle.pom_words.specs.Grammar.{Attribute, Piece, comment, instruction, section, reference, start_tag, empty_tag, end_tag, character}
-use Rattle.pom_words.specs.Parts.{is_empty, line_part, lines}
-use Rattle.pom_words.specs.References.{referred}
+use Rattle.pom_text.specs.Characters.{is_space}
+use Rattle.pom_text.specs.Grammar.{Attribute, Piece, comment, instruction, section, reference, start_tag, empty_tag, end_tag, character}
+use Rattle.pom_text.specs.Parts.{is_empty, line_part, lines}
+use Rattle.pom_text.specs.References.{referred}
 
 -- the elements that have begun, the numbers of those that have not ended, and whether a carriage return in text stands
 -- directly before

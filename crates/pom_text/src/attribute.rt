@@ -1,13 +1,15 @@
+//! The names of a start tag's attributes, as texts that elements of one shape share.
+
 ghost use Rattle.std.specs.Prelude.{◌≡◌, [], option_and_then, slice_get, IfOk};
 ghost use Rattle.std.specs.Option.{option_copied};
 ghost use Rattle.std.specs.Str.{chars};
-ghost use Rattle.pom_words.specs.Reads.{attributes_of, names_of};
+ghost use Rattle.pom_text.specs.Reads.{attributes_of, names_of};
 
+use crate::attribute_words::attribute_of;
+use crate::cuts::begins_space;
 use crate::names::text_like;
 use crate::node::Node;
 use mvn_shared::{List, Mem, Text};
-use pom_words::attribute::attribute_of;
-use pom_words::cuts::begins_space;
 use std::alloc::Global;
 
 // The name of an element's attribute, by its place.
@@ -28,8 +30,8 @@ fn room_like(alloc: Global, like: Option<&Node>) -> Mem<List<Text>>
     }
 }
 
-// The names of all attributes that stand next. Those that an element has at the same places are shared with it. A call of its own
-// as well.
+// The names of all attributes that stand next. Those that an element has at the same places are shared with it. A call
+// of its own as well.
 #[inline(never)]
 fn names_in(alloc: Global, like: Option<&Node>, text: &str) -> Mem<List<Text>>
     ensures { IfOk result (λ names. names ≡ names_of (attributes_of (chars text.now)).0) }
@@ -44,8 +46,8 @@ fn names_in(alloc: Global, like: Option<&Node>, text: &str) -> Mem<List<Text>>
     Ok(names)
 }
 
-// So of a tag, where mostly none stands.
-#[tactic(auto, using(pom_words::proofs::Attributes::no_names))]
+// The names of a tag's attributes, of which mostly none stands.
+#[tactic(auto, using(crate::proofs::Attributes::no_names))]
 pub(crate) fn tag_names(alloc: Global, like: Option<&Node>, text: &str) -> Mem<List<Text>>
     ensures { IfOk result (λ names. names ≡ names_of (attributes_of (chars text.now)).0) }
 {

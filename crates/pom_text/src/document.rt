@@ -1,3 +1,5 @@
+//! The one copy of a document that the texts of its elements share.
+
 ghost use Rattle.std.specs.Prelude.{◌≡◌, IfOk};
 
 use mvn_shared::{Mem, Shared, Text};
@@ -22,8 +24,8 @@ impl<'a> Document<'a> {
         Document { text, copy: None }
     }
 
-    /// A part of the text, which ends at this byte of it, and of which copies take no memory. The first part costs a copy of the whole
-    /// text, and each part costs comparing it.
+    /// A part of the text, which ends at this byte of it, and of which copies take no memory. The first part costs a
+    /// copy of the whole text, and each part costs comparing it.
     pub(crate) fn part(&mut self, alloc: Global, end: usize, part: &str) -> Mem<Text>
         ensures { IfOk result (λ copy. copy ≡ part.now) }
     {

@@ -1,31 +1,17 @@
+//! `TextFault`: why bytes are no POM text, with the rule and the byte.
+
 use mvn_base::Rule;
 use mvn_shared::OutOfMemory;
-use std::error::Error;
-use std::fmt;
+use thiserror::Error;
 
 /// Why bytes are no POM text: the rule that isn't met, and the byte at which that shows, from 0. Own rules.
-#[derive(Clone, Copy, Debug, PartialEq, Eq)]
+#[derive(Clone, Copy, Debug, PartialEq, Eq, Error)]
 pub enum TextFault {
+    #[error("{rule} at byte {place}")]
     Refused { rule: Rule, place: u64 },
+    #[error("out of memory")]
     Memory,
 }
-
-impl fmt::Display for TextFault {
-    ghost use Rattle.std.specs.Prelude.{Some};
-    ghost use Rattle.pom_text.specs.Faults.{fault_text};
-
-    ghost output = { λ fault. Some (fault_text fault) };
-
-    #[tactic(auto, unfolding(crate::specs::Faults::fault_text))]
-    fn fmt<W: fmt::Write>(&self, f: &mut fmt::Formatter<W>) -> fmt::Result {
-        match self {
-            TextFault::Refused { rule, place } => write!(f, "{rule} at byte {place}"),
-            TextFault::Memory => write!(f, "out of memory"),
-        }
-    }
-}
-
-impl Error for TextFault {}
 
 impl From<OutOfMemory> for TextFault {
     ghost use Rattle.std.specs.Prelude.{◌≡◌};

@@ -1,3 +1,5 @@
+//! The names of elements, of which a reader keeps those met before to share them.
+
 ghost use Rattle.std.specs.Prelude.{◌≡◌, ◌<◌, IfOk};
 ghost use Rattle.std.specs.Str.{bytes_eq, chars, encode_utf8_all};
 
@@ -44,7 +46,7 @@ pub(crate) fn new_name(alloc: Global, name: &str) -> Mem<Shared<Text>>
 }
 
 // Whether a text is this name.
-#[tactic(auto, using(pom_words::proofs::Bytes::whole_again))]
+#[tactic(auto, using(crate::proofs::Bytes::whole_again))]
 fn is_text(text: &Text, name: &str) -> bool
     ensures { result ≡ bytes_eq text.now (encode_utf8_all (chars name.now)) }
 {

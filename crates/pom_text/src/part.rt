@@ -1,3 +1,5 @@
+//! The pieces of a text, borrowed from it: tags, character data, references and comments.
+
 ghost use Rattle.std.specs.Prelude.{◌≡◌};
 ghost use Rattle.pom_text.specs.Runs.{said};
 ghost use Rattle.pom_text.specs.Running.{begins_element};

@@ -1,16 +1,18 @@
+//! The reader of the next piece of a text, but for plain character data.
+
 ghost use Rattle.std.specs.Prelude.{◌≡◌, ◌++◌, false, codes, option_map};
 ghost use Rattle.std.specs.Str.{chars};
-ghost use Rattle.pom_words.specs.Reads.{begins, end_of, marked_of, passed_of, piece_of, section_of, tag_end, tag_of};
-ghost use Rattle.pom_words.specs.Lent.{is_run};
+ghost use Rattle.pom_text.specs.Reads.{begins, end_of, marked_of, passed_of, piece_of, section_of, tag_end, tag_of};
+ghost use Rattle.pom_text.specs.Lent.{is_run};
 ghost use Rattle.pom_text.specs.Runs.{said_next, said_tag};
 
+use crate::attribute_words::behind_attributes;
+use crate::cuts::{after, begins_name, name_of, skip_space, up_to};
 use crate::part::{Part, Tag};
-use pom_words::attribute::behind_attributes;
-use pom_words::cuts::{after, begins_name, name_of, skip_space, up_to};
-use pom_words::reference::reference_of;
+use crate::reference::reference_of;
 
 // The end of a start tag or an empty tag.
-#[tactic(auto, unfolding(pom_words::specs::Reads::tag_end))]
+#[tactic(auto, unfolding(crate::specs::Reads::tag_end))]
 fn tag_end<'a>(tag: Tag<'a>, text: &'a str) -> Option<(Part<'a>, &'a str)>
     ensures { option_map said_next result ≡ tag_end (said_tag tag.entry) (chars text.now) }
 {
@@ -21,9 +23,9 @@ fn tag_end<'a>(tag: Tag<'a>, text: &'a str) -> Option<(Part<'a>, &'a str)>
     Some((Part::Empty(tag), rest))
 }
 
-// A start tag or an empty tag behind its `<`. It stands in its caller, since what it answers is large.
+// A start tag or an empty tag after its `<`. It stands in its caller, since what it answers is large.
 #[inline(always)]
-#[tactic(auto, unfolding(pom_words::specs::Reads::tag_of))]
+#[tactic(auto, unfolding(crate::specs::Reads::tag_of))]
 fn tag_of(text: &str) -> Option<(Part<'_>, &str)>
     ensures { option_map said_next result ≡ tag_of (chars text.now) }
 {
@@ -34,8 +36,8 @@ fn tag_of(text: &str) -> Option<(Part<'_>, &str)>
     )
 }
 
-// An end tag behind its `</`.
-#[tactic(auto, unfolding(pom_words::specs::Reads::end_of))]
+// An end tag after its `</`.
+#[tactic(auto, unfolding(crate::specs::Reads::end_of))]
 fn end_of(text: &str) -> Option<(Part<'_>, &str)>
     ensures { option_map said_next result ≡ end_of (chars text.now) }
 {
@@ -44,8 +46,8 @@ fn end_of(text: &str) -> Option<(Part<'_>, &str)>
     Some((Part::End(name), rest))
 }
 
-// A comment behind its opening.
-#[tactic(auto, unfolding(pom_words::specs::Reads::passed_of))]
+// A comment after its opening.
+#[tactic(auto, unfolding(crate::specs::Reads::passed_of))]
 fn comment_of(text: &str) -> Option<(Part<'_>, &str)>
     ensures { option_map said_next result ≡ passed_of (codes "-->") (chars text.now) }
 {
@@ -53,8 +55,8 @@ fn comment_of(text: &str) -> Option<(Part<'_>, &str)>
     Some((Part::Passed, rest))
 }
 
-// An instruction behind its opening.
-#[tactic(auto, unfolding(pom_words::specs::Reads::passed_of))]
+// An instruction after its opening.
+#[tactic(auto, unfolding(crate::specs::Reads::passed_of))]
 fn instruction_of(text: &str) -> Option<(Part<'_>, &str)>
     ensures { option_map said_next result ≡ passed_of (codes "?>") (chars text.now) }
 {
@@ -62,8 +64,8 @@ fn instruction_of(text: &str) -> Option<(Part<'_>, &str)>
     Some((Part::Passed, rest))
 }
 
-// A CDATA part behind its opening.
-#[tactic(auto, unfolding(pom_words::specs::Reads::section_of))]
+// A CDATA part after its opening.
+#[tactic(auto, unfolding(crate::specs::Reads::section_of))]
 fn section_of(text: &str) -> Option<(Part<'_>, &str)>
     ensures { option_map said_next result ≡ section_of (chars text.now) }
 {
@@ -71,8 +73,8 @@ fn section_of(text: &str) -> Option<(Part<'_>, &str)>
     Some((Part::Section(inside), rest))
 }
 
-// What stands behind a `<`. Most are tags, so these are looked for first.
-#[tactic(auto, using(crate::proofs::Pieces::tag_marked, crate::proofs::Pieces::slash_marked), unfolding(pom_words::specs::Reads::marked_of))]
+// What stands after a `<`. Most are tags, so these are looked for first.
+#[tactic(auto, using(crate::proofs::Pieces::tag_marked, crate::proofs::Pieces::slash_marked), unfolding(crate::specs::Reads::marked_of))]
 fn marked_of(text: &str) -> Option<(Part<'_>, &str)>
     ensures { option_map said_next result ≡ marked_of (chars text.now) }
 {
@@ -94,8 +96,8 @@ fn marked_of(text: &str) -> Option<(Part<'_>, &str)>
     }
 }
 
-// A reference behind its `&`.
-#[tactic(auto, unfolding(pom_words::specs::Reads::piece_of))]
+// A reference after its `&`.
+#[tactic(auto, unfolding(crate::specs::Reads::piece_of))]
 fn reference_part(text: &str) -> Option<(Part<'_>, &str)>
     ensures { option_map said_next result ≡ piece_of (codes "&" ++ chars text.now) }
 {
@@ -104,7 +106,7 @@ fn reference_part(text: &str) -> Option<(Part<'_>, &str)>
 }
 
 /// The piece at the front of a text that doesn't begin with a run, and what follows. Costs what the piece has.
-#[tactic(auto, using(pom_words::proofs::Firsts::marked, pom_words::proofs::Firsts::referred_to, pom_words::proofs::Firsts::returned, pom_words::proofs::Firsts::nothing))]
+#[tactic(auto, using(crate::proofs::Firsts::marked, crate::proofs::Firsts::referred_to, crate::proofs::Firsts::returned, crate::proofs::Firsts::nothing))]
 pub(crate) fn piece_of(text: &str) -> Option<(Part<'_>, &str)>
     requires { begins is_run (chars text.now) ≡ false }
     ensures { option_map said_next result ≡ piece_of (chars text.now) }

@@ -1,3 +1,5 @@
+//! From the bytes of a POM to its elements, or to the first rule that fails and its place.
+
 ghost use Rattle.std.specs.Prelude.{◌≡◌, ◌≤◌, ◌<◌, ◌+◌, ◌*◌, ◌++◌, ℕ, List, length};
 ghost use Rattle.std.specs.Str.{chars};
 ghost use Rattle.mvn_base.specs.declared.rule.Rule as rules;
@@ -5,24 +7,24 @@ ghost use Rattle.mvn_base.specs.Limits.{pom_limit};
 ghost use Rattle.pom_text.specs.declared.node.Node as nodes;
 ghost use Rattle.pom_text.specs.declared.fault.TextFault.TheVariants.{Refused};
 ghost use Rattle.pom_text.specs.Answers.{Agrees, answer, decoded_answer, encoding_answer, reading_answer, text_answer};
-ghost use Rattle.pom_words.specs.Encodings.{chosen, decoded};
-ghost use Rattle.pom_words.specs.Openings.{named_encoding};
+ghost use Rattle.pom_text.specs.Encodings.{chosen, decoded};
+ghost use Rattle.pom_text.specs.Openings.{named_encoding};
 ghost use Rattle.pom_text.specs.Runs.{EndsWith, HasFront, read_len};
 ghost use Rattle.pom_text.specs.Running.{outcome_of};
 ghost use Rattle.pom_text.specs.Texts.{AreElements, IsAnswered, IsRefusal, IsText, Refuses};
 
+use crate::allowed::allowed_of;
+use crate::cuts::is_over;
+use crate::declaration::named_encoding;
+use crate::encoding::{Encoding, mark_len};
 use crate::fault::TextFault;
+use crate::front::opening;
 use crate::node::PomText;
 use crate::reader::{Reading, read_pieces};
 use mvn_base::{POM_LIMIT, Rule};
-use pom_words::allowed::allowed_of;
-use pom_words::cuts::is_over;
-use pom_words::declaration::named_encoding;
-use pom_words::encoding::{Encoding, mark_len};
-use pom_words::front::opening;
 use std::alloc::Global;
 
-// A refusal, at a byte behind a mark of so many bytes.
+// A refusal, at a byte after a mark of so many bytes.
 fn refused(rule: Rule, mark: usize, place: usize) -> TextFault
     requires { mark + place < 18446744073709551616 }
     ensures { result ≡ Refused rule (mark + place) }
@@ -46,7 +48,7 @@ fn encoding_of(bytes: &[u8]) -> Result<Encoding, usize>
     }
 }
 
-// How many bytes of a text are read, by what is not: a rest, and more behind it.
+// How many bytes of a text are read, by what is not: a rest, and more after it.
 fn place_of(encoding: Encoding, text: &str, rest: &str, more: &str) -> usize
     requires { HasFront (chars text.now) (chars rest.now ++ chars more.now) }
     ensures place { result ≡ read_len encoding (chars text.now) (chars rest.now) (chars more.now) }
@@ -58,7 +60,7 @@ fn place_of(encoding: Encoding, text: &str, rest: &str, more: &str) -> usize
     encoding.len(front)
 }
 
-// What an outcome of the reading says of a text, behind which more is not read.
+// What an outcome of the reading says of a text, after which more is not read.
 fn placed(
     mark: usize,
     encoding: Encoding,
@@ -80,7 +82,7 @@ fn placed(
     }
 }
 
-// Reads a text whose bytes stand behind a mark.
+// Reads a text whose bytes stand after a mark.
 #[tactic(auto, unfolding(crate::specs::Answers::text_answer))]
 fn read_characters(
     alloc: Global,
@@ -102,7 +104,7 @@ fn read_characters(
     }
 }
 
-// Reads bytes behind a mark, by an encoding.
+// Reads bytes after a mark, by an encoding.
 fn read_encoded(
     alloc: Global,
     mark: usize,
@@ -119,7 +121,7 @@ fn read_encoded(
     }
 }
 
-// Reads bytes behind a mark.
+// Reads bytes after a mark.
 fn read_marked(alloc: Global, mark: usize, bytes: &[u8]) -> Result<PomText, TextFault>
     requires mark { mark < 4 }
     requires bytes { length bytes.now ≤ pom_limit }
@@ -144,13 +146,13 @@ fn read_bytes(alloc: Global, bytes: &[u8]) -> Result<PomText, TextFault>
     read_marked(alloc, mark, body)
 }
 
-/// Reads the bytes of a POM: the elements that they spell, or the rule that they break and the byte at which that shows. The
-/// rules are asked one after another: at most `POM_LIMIT` bytes; an encoding that is UTF-8 or the one that the declaration names,
-/// of which each byte is; then from the left no `<!DOCTYPE` before the root, no element in 64 others, and at last the grammar of
-/// XML 1.0 without DTDs, where the place is the end of the longest list of whole pieces each of which may stand. A
-/// byte order mark of UTF-8 is skipped, and counts in places. One pass for the encoding and one for the elements; time and memory
-/// are linear in the bytes. The texts of the elements share one copy of the POM's text, which lives as long as one of them or of their
-/// copies. XML 1.0; own limits.
+/// Reads the bytes of a POM: the elements that they spell, or the rule that they break and the byte at which that
+/// shows. The rules are asked one after another: at most `POM_LIMIT` bytes; an encoding that is UTF-8 or the one that
+/// the declaration names, of which each byte is; then from the left no `<!DOCTYPE` before the root, no element in 64
+/// others, and at last the grammar of XML 1.0 without DTDs, where the place is the end of the longest list of whole
+/// pieces each of which may stand. A byte order mark of UTF-8 is skipped, and counts in places. One pass for the
+/// encoding and one for the elements; time and memory are linear in the bytes. The texts of the elements share one copy
+/// of the POM's text, which lives as long as one of them or of their copies. XML 1.0; the limits are project rules.
 pub fn read_text(alloc: Global, bytes: &[u8]) -> Result<PomText, TextFault>
     ensures answer { Agrees (answer bytes.now) result }
     ensures right { IsAnswered bytes.now result }

@@ -1,3 +1,5 @@
+//! The loop over the pieces of a text, which builds the elements and ends at the first rule that fails.
+
 ghost use Rattle.std.specs.Prelude.{◌≡◌, ◌<◌, ◌==◌, ◌&&◌, nat_eq, codes, length, IfOk};
 ghost use Rattle.std.specs.List.{starts_with};
 ghost use Rattle.std.specs.Str.{chars};
@@ -7,6 +9,7 @@ ghost use Rattle.pom_text.specs.Running.{begins_element, finish, outcome_of, run
 ghost use Rattle.pom_text.specs.Spells.{is_done, is_doctype};
 ghost use Rattle.pom_text.specs.Tree.{nothing_yet};
 
+use crate::cuts::{after, is_over, run_of, skip_space};
 use crate::document::Document;
 use crate::node::Node;
 use crate::part::Part;
@@ -14,7 +17,6 @@ use crate::piece::piece_of;
 use crate::tree::Tree;
 use mvn_base::Rule;
 use mvn_shared::{List, Mem};
-use pom_words::cuts::{after, is_over, run_of, skip_space};
 use std::alloc::Global;
 
 /// The most elements that may be open at once. Project rule.
@@ -44,7 +46,7 @@ fn begins_doctype(text: &str) -> bool
     }
 }
 
-// And before the root.
+// Whether a document type begins before the root.
 fn is_doctype(tree: &Tree, text: &str) -> bool
     ensures { result ≡ is_doctype (standing_of tree.now) (chars text.now) }
 {
@@ -72,8 +74,8 @@ fn is_deep(tree: &Tree, part: &Part) -> bool
     tree.path.len() == DEPTH as usize && part.begins_element()
 }
 
-/// Reads a text in which each character may stand; `whole` says that nothing follows it. Costs one pass, and one copy of the text, which
-/// the elements' texts share, if an element has a text.
+/// Reads a text in which each character may stand; `whole` says that nothing follows it. Costs one pass, and one copy
+/// of the text, which the elements' texts share, if an element has a text.
 pub(crate) fn read_pieces(alloc: Global, text: &str, whole: bool) -> Mem<Reading<'_>>
     requires { length (chars text.now) < 4294967295 }
     ensures { IfOk result (λ reading. outcome_of reading ≡ run whole nothing_yet (chars text.now)) }

@@ -1,14 +1,16 @@
+//! Texts of a document, with its line ends as XML 1.0, section 2.11, normalizes them.
+
 ghost use Rattle.std.specs.Prelude.{◌≡◌, ◌++◌, IfOk, OnOk};
 ghost use Rattle.std.specs.Str.{chars, encode_utf8_all};
 ghost use Rattle.pom_text.specs.Runs.{line_bytes};
-ghost use Rattle.pom_words.specs.Lent.{unfed};
+ghost use Rattle.pom_text.specs.Lent.{unfed};
 
+use crate::cuts::{after, up_to};
 use mvn_shared::{Mem, Text};
-use pom_words::cuts::{after, up_to};
 use std::alloc::Global;
 
 // A copy of a text, told by its characters.
-#[tactic(auto, using(pom_words::proofs::Bytes::whole_again))]
+#[tactic(auto, using(crate::proofs::Bytes::whole_again))]
 pub(crate) fn text_of(alloc: Global, text: &str) -> Mem<Text>
     ensures { IfOk result (λ copy. copy ≡ encode_utf8_all (chars text.now)) }
 {
@@ -16,7 +18,7 @@ pub(crate) fn text_of(alloc: Global, text: &str) -> Mem<Text>
 }
 
 // A text without the line feed at its front, where a carriage return stands before it.
-#[tactic(auto, using(pom_words::proofs::Firsts::unreturned, pom_words::proofs::Firsts::with_feed, pom_words::proofs::Firsts::without_feed))]
+#[tactic(auto, using(crate::proofs::Firsts::unreturned, crate::proofs::Firsts::with_feed, crate::proofs::Firsts::without_feed))]
 pub(crate) fn behind_feed(returned: bool, text: &str) -> &str
     ensures { chars result.now ≡ unfed returned (chars text.now) }
 {

@@ -1,29 +1,31 @@
+//! The elements that have begun, and how each piece of a text extends them.
+
 ghost use Rattle.std.specs.Prelude.{◌≡◌, ◌<◌, true, length, IfOk, IfSome, OnOk};
 ghost use Rattle.std.specs.List.{list_all};
 ghost use Rattle.std.specs.Str.{bytes_eq, chars, encode_utf8_all};
 ghost use Rattle.pom_text.specs.Growth.{HasChanged, HasGotChild, Takes, standing_of};
-ghost use Rattle.pom_words.specs.Parts.{Character, Section, Reference};
+ghost use Rattle.pom_text.specs.Parts.{Character, Section, Reference};
 ghost use Rattle.pom_text.specs.Runs.{TakesRun, begun_by, line_bytes, said};
-ghost use Rattle.pom_words.specs.Lent.{is_run};
+ghost use Rattle.pom_text.specs.Lent.{is_run};
 ghost use Rattle.pom_text.specs.Tree.{add_child, add_text, closes, ended, innermost, may_begin, nothing_yet, passed};
 
 use crate::attribute::tag_names;
+use crate::cuts::{is_over, skip_space};
 use crate::document::Document;
 use crate::names::{SLOTS, key_of, new_name, slot_of};
 use crate::node::Node;
 use crate::part::{Part, Tag};
 use crate::spelled::{behind_feed, push_lines, text_of};
 use mvn_shared::{List, Mem, Shared, Text};
-use pom_words::cuts::{is_over, skip_space};
 use std::alloc::Global;
 use std::mem::replace;
 
 // How many children there is room for at first: the memory for fewer would not be less.
 const CHILDREN: usize = 6;
 
-/// The elements that have begun, the numbers of those that have not ended, outermost first, and whether a carriage return in
-/// text stands directly before. Of the elements whose names have one slot it remembers the last, by the key of its name and its
-/// number, so that the next of that name shares it, and the names of its attributes.
+/// The elements that have begun, the numbers of those that have not ended, outermost first, and whether a carriage
+/// return in text stands directly before. Of the elements whose names have one slot it remembers the last, by the key
+/// of its name and its number, so that the next of that name shares it, and the names of its attributes.
 #[derive(Drop)]
 pub(crate) struct Tree {
     pub(crate) nodes: Vec<Node>,
@@ -40,7 +42,8 @@ fn push_section(node: &mut Node, more: &str) -> Mem<()>
     push_lines(&mut node.text, more)
 }
 
-// A run more in an element's text, which ends at a byte of a document. The first of an element is a part of the document.
+// A run more in an element's text, which ends at a byte of a document. The first of an element is a part of the
+// document.
 fn push_run(
     alloc: Global,
     node: &mut Node,
@@ -82,7 +85,7 @@ fn share_own_text(alloc: Global, node: &mut Node) -> Mem<()>
 }
 
 // Whether an element has this name.
-#[tactic(auto, using(pom_words::proofs::Bytes::whole_again))]
+#[tactic(auto, using(crate::proofs::Bytes::whole_again))]
 fn is_named(node: &Node, name: &str) -> bool
     ensures { result ≡ bytes_eq node.now.name (encode_utf8_all (chars name.now)) }
 {
@@ -179,8 +182,8 @@ impl Tree {
         self.returned = false;
     }
 
-    /// Characters that stand for themselves, none of which is a carriage return, and which end at a byte of a document: whether they may
-    /// stand. The first of an element are a part of the document, and more are copied.
+    /// Characters that stand for themselves, none of which is a carriage return, and which end at a byte of a document:
+    /// whether they may stand. The first of an element are a part of the document, and more are copied.
     pub(crate) fn take_run(
         &mut self,
         alloc: Global,
@@ -205,7 +208,7 @@ impl Tree {
     }
 
     // A carriage return that stands for itself.
-    #[tactic(auto, using(crate::proofs::Breaks::return_bytes), unfolding(crate::specs::Tree::with_text, crate::specs::Growth::take_part, pom_words::specs::Characters::is_space))]
+    #[tactic(auto, using(crate::proofs::Breaks::return_bytes), unfolding(crate::specs::Tree::with_text, crate::specs::Growth::take_part, crate::specs::Characters::is_space))]
     fn take_return(&mut self) -> Mem<bool>
         ensures { Takes result self.old self.new (Character 13) }
     {
@@ -279,7 +282,8 @@ impl Tree {
         Some(node)
     }
 
-    // An element begins, by its name and a text that begins with its attributes. It stands in its caller, which has them at hand.
+    // An element begins, by its name and a text that begins with its attributes. It stands in its caller, which has
+    // them at hand.
     #[inline(always)]
     #[tactic(auto, unfolding(crate::specs::Tree::begun))]
     fn begin(&mut self, alloc: Global, tag: Tag<'_>) -> Mem<()>
@@ -315,7 +319,7 @@ impl Tree {
         self.returned = false;
     }
 
-    // So of the element of a number.
+    // Shares the text of the element of a number with its copies.
     fn share_text(&mut self, alloc: Global, at: u32) -> Mem<()>
         ensures nodes { OnOk result (self.new.nodes.items ≡ self.old.nodes.items) }
         ensures path { self.new.path.items ≡ self.old.path.items }
@@ -326,7 +330,7 @@ impl Tree {
         Ok(())
     }
 
-    // The innermost open element ends, behind what stands in it.
+    // The innermost open element ends, after what stands in it.
     #[tactic(auto, unfolding(crate::specs::Tree::ended))]
     fn close(&mut self, alloc: Global) -> Mem<()>
         ensures { OnOk result (standing_of self.new ≡ ended (standing_of self.old)) }

@@ -8,10 +8,10 @@ use Rattle.pom_source.specs.Answers.{Built}
 use Rattle.pom_source.specs.Worlds.{World}
 use Rattle.pom_source.specs.declared.found.Given.{Given}
 use Rattle.mvn_base.specs.Gav.{gav_eq}
-use Rattle.pom_store.proofs.Holding.{same_gav}
-use Rattle.import_store.specs.Effective.{effective}
-use Rattle.library_lookup.specs.declared.known.Known.{Known}
-use Rattle.library_lookup.specs.declared.known.Known.TheVariants as known
+use Rattle.lineage.proofs.Holding.{same_gav}
+use Rattle.effective.specs.Effective.{effective}
+use Rattle.mediation.specs.declared.known.Known.{Known}
+use Rattle.mediation.specs.declared.known.Known.TheVariants as known
 use Rattle.project_libraries.specs.Known.{known_as, known_at, known_of, module_of}
 use Rattle.project_libraries.specs.Holding.{HoldsKnown}
 

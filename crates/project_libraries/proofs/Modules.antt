@@ -9,8 +9,8 @@ use Rattle.classpaths.specs.declared.resolution.Resolution.{Resolution}
 use Rattle.pom_source.specs.Answers.{Says}
 use Rattle.pom_source.specs.declared.fault.BuildFault.{BuildFault}
 use Rattle.pom_source.specs.declared.fault.BuildFault.TheVariants as fault
-use Rattle.library_lookup.specs.Libraries.{Libraries}
-use Rattle.library_lookup.specs.declared.fault.MediationFault.TheVariants.{Refused}
+use Rattle.mediation.specs.Libraries.{Libraries}
+use Rattle.mediation.specs.declared.fault.MediationFault.TheVariants.{Refused}
 use Rattle.model_resolver.specs.declared.resolver.ProjectPom.{ProjectPom}
 use Rattle.project_libraries.specs.Resolving.{AreResolved, IsFirstRefused, IsRefused, MediatesModule, Resolves, ResolvesModule, refused_at}
 

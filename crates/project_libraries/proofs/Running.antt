@@ -7,12 +7,12 @@ use Rattle.mvn_outside.specs.Shelf.{files_now}
 use Rattle.mvn_outside.specs.declared.shelf.ShelfTold.{ShelfTold}
 use Rattle.pom_source.specs.Worlds.{World}
 use Rattle.mvn_base.specs.Gav.{gav_eq}
-use Rattle.import_store.specs.Kept.{HoldsAll}
+use Rattle.effective.specs.Kept.{HoldsAll}
 use Rattle.model_resolver.specs.Devices.{FitsTold, Told}
 use Rattle.model_resolver.specs.Finding.{world_of}
-use Rattle.library_lookup.specs.Libraries.{Libraries}
-use Rattle.library_lookup.specs.declared.known.Known.{Known}
-use Rattle.available_versions.specs.Available.{available}
+use Rattle.mediation.specs.Libraries.{Libraries}
+use Rattle.mediation.specs.declared.known.Known.{Known}
+use Rattle.project_libraries.specs.Available.{available}
 use Rattle.project_libraries.specs.Known.{known_at, libraries_of}
 use Rattle.project_libraries.specs.Holding.{AlikeRun, FitsRun, HoldsKnown, told_by}
 use Rattle.project_libraries.specs.declared.run_lookup.RunLookup.{RunLookup}

@@ -2,9 +2,9 @@
 use Rattle.std.proofs.Common.{ℕ, Option, refl, ◌∙◌}
 use Rattle.mvn_shared.specs.Files.{Files}
 use Rattle.mvn_outside.specs.declared.shelf.ShelfTold.{ShelfTold}
-use Rattle.library_lookup.specs.Telling.{TellsOn}
-use Rattle.library_lookup.specs.Telling.TellsOn.{here, onward}
-use Rattle.resolver_calls.specs.Composing.{same_none, same_twice}
+use Rattle.mediation.specs.Telling.{TellsOn}
+use Rattle.mediation.specs.Telling.TellsOn.{here, onward}
+use Rattle.model_resolver.specs.Composing.{same_none, same_twice}
 use Rattle.project_libraries.specs.Holding.{AlikeRun}
 use Rattle.project_libraries.specs.declared.run_lookup.RunLookup.{RunLookup}
 

@@ -9,13 +9,13 @@ use Rattle.model_types.specs.declared.model.Model.{Model}
 use Rattle.pom_source.specs.Worlds.{World}
 use Rattle.pom_source.specs.declared.found.Given.{Given}
 use Rattle.mvn_base.specs.Gav.{gav_eq}
-use Rattle.import_store.specs.Kept.{HoldsAll}
+use Rattle.effective.specs.Kept.{HoldsAll}
 use Rattle.model_resolver.specs.Devices.{Told}
 use Rattle.model_resolver.specs.Finding.{world_of}
 use Rattle.model_resolver.specs.Resolving.{TellsSame, standing}
-use Rattle.library_lookup.specs.Libraries.{Libraries}
-use Rattle.library_lookup.specs.declared.known.Known.{Known}
-use Rattle.library_lookup.specs.declared.known.Known.TheVariants as known
+use Rattle.mediation.specs.Libraries.{Libraries}
+use Rattle.mediation.specs.declared.known.Known.{Known}
+use Rattle.mediation.specs.declared.known.Known.TheVariants as known
 use Rattle.project_libraries.specs.Known.{known_at, libraries_of, module_of}
 use Rattle.project_libraries.specs.declared.run_lookup.RunLookup.{RunLookup}
 

@@ -10,13 +10,13 @@ use Rattle.pom_source.specs.Worlds.{World}
 use Rattle.pom_source.specs.declared.fault.BuildFault.TheVariants.{Refused}
 use Rattle.pom_source.specs.declared.found.Given.{Given}
 use Rattle.mvn_base.specs.Gav.{gav_eq}
-use Rattle.import_store.specs.Effective.{effective}
+use Rattle.effective.specs.Effective.{effective}
 use Rattle.model_resolver.specs.Finding.{world_of}
 use Rattle.model_resolver.specs.declared.resolver.ProjectPom.{ProjectPom}
-use Rattle.library_lookup.specs.Libraries.{Libraries}
-use Rattle.library_lookup.specs.declared.known.Known.{Known}
-use Rattle.library_lookup.specs.declared.known.Known.TheVariants as known
-use Rattle.available_versions.specs.Available.{available}
+use Rattle.mediation.specs.Libraries.{Libraries}
+use Rattle.mediation.specs.declared.known.Known.{Known}
+use Rattle.mediation.specs.declared.known.Known.TheVariants as known
+use Rattle.project_libraries.specs.Available.{available}
 
 -- the model of the first module of these effective coordinates
 abbrev pub module_of : List Model → Gav → Option Model

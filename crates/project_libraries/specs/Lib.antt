@@ -1,9 +1,10 @@
+pub use Rattle.model_resolver.specs.Devices
+pub mod Available
 pub use Rattle.pom_source.specs.Answers
 pub use Rattle.pom_source.specs.Worlds
-pub use Rattle.import_store.specs.Kept
-pub use Rattle.model_resolver.specs.Devices
+pub use Rattle.effective.specs.Kept
 pub use Rattle.model_resolver.specs.Finding
-pub use Rattle.library_lookup.specs.Libraries
+pub use Rattle.mediation.specs.Libraries
 pub use Rattle.resolution.specs.Resolved
 pub mod Known
 pub mod Resolving

@@ -13,9 +13,9 @@ use Rattle.managed_deps.specs.Managed.{all_entries, first_of_each}
 use Rattle.classpaths.specs.declared.resolution.Resolution.{Resolution}
 use Rattle.pom_source.specs.declared.fault.BuildFault.{BuildFault}
 use Rattle.pom_source.specs.declared.fault.BuildFault.TheVariants as fault
-use Rattle.library_lookup.specs.Libraries.{Libraries}
-use Rattle.library_lookup.specs.declared.fault.MediationFault.{MediationFault}
-use Rattle.library_lookup.specs.declared.fault.MediationFault.TheVariants.{Refused}
+use Rattle.mediation.specs.Libraries.{Libraries}
+use Rattle.mediation.specs.declared.fault.MediationFault.{MediationFault}
+use Rattle.mediation.specs.declared.fault.MediationFault.TheVariants.{Refused}
 use Rattle.resolution.specs.Resolved.{Mediates}
 use Rattle.model_resolver.specs.declared.resolver.ProjectPom.{ProjectPom}
 

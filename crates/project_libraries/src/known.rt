@@ -1,23 +1,23 @@
-// What is known of a coordinate's POM, which is built at most once.
+//! What is known of a coordinate's POM, which is built at most once.
+
 ghost use Rattle.std.specs.Prelude.{◌≡◌, List as Items, None, IfOk};
 ghost use Rattle.std.specs.HashMap.{get};
 ghost use Rattle.mvn_shared.specs.Cause.{HasCause};
 ghost use Rattle.mvn_base.specs.declared.refusal.PomId.TheVariants as ids;
 ghost use Rattle.model_types.specs.declared.model.Model as models;
-ghost use Rattle.profile_activation.specs.Judging.{TellsOn};
+ghost use Rattle.profiles.specs.Judging.{TellsOn};
 ghost use Rattle.pom_source.specs.Answers.{Built, Says, build_failed};
 ghost use Rattle.pom_source.specs.Worlds.{World};
 ghost use Rattle.mvn_base.specs.Gav.{gav_eq};
-ghost use Rattle.import_store.specs.Effective.{effective};
-ghost use Rattle.import_store.specs.Kept.{HoldsAll};
-ghost use Rattle.library_lookup.specs.Faults.{lookup_failed};
+ghost use Rattle.effective.specs.Effective.{effective};
+ghost use Rattle.effective.specs.Kept.{HoldsAll};
+ghost use Rattle.mediation.specs.Faults.{lookup_failed};
 ghost use Rattle.project_libraries.specs.Holding.{HoldsKnown};
 ghost use Rattle.project_libraries.specs.Known.{known_at, known_of};
 
 use crate::memo::{find_known, keep_known};
-use effective::effective_with;
-use import_store::RunStore;
-use library_lookup::{Known, Library, LookupFault};
+use effective::{RunStore, effective_with};
+use mediation::{Known, Library, LookupFault};
 use model_types::Model;
 use mvn_base::{Gav, PomId};
 use mvn_shared::{Mem, Shared};
@@ -56,7 +56,7 @@ fn pom_of(gav: &Gav) -> Mem<PomId>
 }
 
 // What the POM of coordinates comes to.
-#[tactic(auto, using(pom_store::proofs::Telling::untold))]
+#[tactic(auto, using(lineage::proofs::Telling::untold))]
 fn built<P: PomSource>(
     alloc: Global,
     source: &mut P,
@@ -78,8 +78,8 @@ fn built<P: PomSource>(
     known_of(alloc, built)
 }
 
-// The same, and it is kept.
-#[tactic(auto, using(pom_store::proofs::Telling::untold, crate::proofs::Keeping::known_built, crate::proofs::Keeping::known_put))]
+// What is known of a coordinate's POM, which is built and kept.
+#[tactic(auto, using(lineage::proofs::Telling::untold, crate::proofs::Keeping::known_built, crate::proofs::Keeping::known_put))]
 fn built_anew<P: PomSource>(
     alloc: Global,
     source: &mut P,
@@ -110,9 +110,9 @@ fn built_anew<P: PomSource>(
     }
 }
 
-/// What is known of a coordinate's POM: what is kept, and else what is built and kept. Costs a copy of what is kept, or the effective
-/// model.
-#[tactic(auto, using(pom_store::proofs::Telling::untold, crate::proofs::Keeping::known_kept))]
+/// What is known of a coordinate's POM: what is kept, and else what is built and kept. Costs a copy of what is kept, or
+/// the effective model.
+#[tactic(auto, using(lineage::proofs::Telling::untold, crate::proofs::Keeping::known_kept))]
 pub(crate) fn known_at<P: PomSource>(
     alloc: Global,
     source: &mut P,

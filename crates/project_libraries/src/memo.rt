@@ -1,13 +1,14 @@
-// What was answered in a run, so that no POM is built twice.
+//! What was answered in a run, so that no POM is built twice.
+
 ghost use Rattle.std.specs.Prelude.{◌≡◌, ◌++◌, ◌∷◌, [], is_some, List as Items, IfOk, OnErr, OnOk, if◌then◌else◌, Some, option_map};
 ghost use Rattle.std.specs.HashMap.{get};
 ghost use Rattle.mvn_base.specs.declared.gav.Gav as gavs;
 ghost use Rattle.model_types.specs.declared.model.Model as models;
 ghost use Rattle.mvn_base.specs.Gav.{gav_eq};
-ghost use Rattle.library_lookup.specs.declared.known.Known.TheVariants as knowns;
+ghost use Rattle.mediation.specs.declared.known.Known.TheVariants as knowns;
 ghost use Rattle.project_libraries.specs.Known.{module_of};
 
-use library_lookup::{Known, Library};
+use mediation::{Known, Library};
 use model_types::Model;
 use mvn_base::Gav;
 use mvn_shared::{Mem, Shared};
@@ -81,7 +82,8 @@ fn keep_module(
     keep_known(map, gav, &known)
 }
 
-/// The modules' effective models, each by its coordinates. Costs one step for each and for each of its dependencies, on the average.
+/// The modules' effective models, each by its coordinates. Costs one step for each and for each of its dependencies, on
+/// the average.
 pub(crate) fn known_modules(alloc: Global, own: &[Shared<Model>]) -> Mem<HashMap<Gav, Known>>
     ensures { IfOk result (λ map. (gav : gavs.Gav)
         → get gav_eq map gav ≡ option_map knowns.Model (module_of own.now gav)) }

@@ -1,23 +1,24 @@
-// What the modules of a project are built with.
+//! What the modules of a project are built with.
+
 ghost use Rattle.std.specs.Prelude.{◌≡◌, Err, false, length, IfOk, IfSome};
 ghost use Rattle.mvn_shared.specs.Cause.{HasCause};
 ghost use Rattle.mvn_outside.specs.Shelf.{files_now};
 ghost use Rattle.pom_source.specs.Answers.{Says, build_failed};
 ghost use Rattle.pom_source.specs.declared.fault.BuildFault.TheVariants as fault;
-ghost use Rattle.import_store.specs.Kept.{HoldsAll};
+ghost use Rattle.effective.specs.Kept.{HoldsAll};
 ghost use Rattle.model_resolver.specs.Devices.{Counted, IsCounted};
 ghost use Rattle.model_resolver.specs.Finding.{world_of};
-ghost use Rattle.library_lookup.specs.Libraries.{Libraries};
-ghost use Rattle.library_lookup.specs.Telling.{TellsOn};
+ghost use Rattle.mediation.specs.Libraries.{Libraries};
+ghost use Rattle.mediation.specs.Telling.{TellsOn};
 ghost use Rattle.project_libraries.specs.Known.{libraries_of};
 ghost use Rattle.project_libraries.specs.Resolving.{Resolves, ResolvesModule, managed_by, refused_at};
 
 use crate::memo::known_modules;
 use crate::run_lookup::{RunLookup, Whole};
 use classpaths::Resolution;
-use import_store::RunStore;
-use library_lookup::{Lookup, MediationFault};
+use effective::RunStore;
 use managed_deps::{ManagedSet, managed};
+use mediation::{Lookup, MediationFault};
 use model_resolver::{Failures, ModelResolver, ProjectPom, ProjectPoms};
 use model_types::Model;
 use mvn_base::{Place, PomId, Refusal, Rule};
@@ -64,7 +65,7 @@ fn mediated<L: Lookup>(
 }
 
 // What a module comes to.
-#[tactic(auto, using(library_lookup::proofs::Telling::untold))]
+#[tactic(auto, using(mediation::proofs::Telling::untold))]
 fn resolve_module<L: Lookup>(
     alloc: Global,
     lookup: &mut L,
@@ -84,7 +85,7 @@ fn resolve_module<L: Lookup>(
 }
 
 // What each module comes to.
-#[tactic(auto, using(library_lookup::proofs::Telling::untold, library_lookup::proofs::Telling::told_both))]
+#[tactic(auto, using(mediation::proofs::Telling::untold, mediation::proofs::Telling::told_both))]
 fn resolve_each<L: Lookup>(
     alloc: Global,
     lookup: &mut L,
@@ -109,7 +110,7 @@ fn resolve_each<L: Lookup>(
     Ok(list)
 }
 
-// The same, by a look-up that tells after all calls what it tells after one.
+// What each module comes to, by a look-up that tells after all calls what it tells after one.
 fn resolve_kept<L: Whole>(
     alloc: Global,
     lookup: &mut L,
@@ -126,11 +127,12 @@ fn resolve_kept<L: Whole>(
     resolve_each(alloc, lookup, poms, models)
 }
 
-/// What each module is built with, in order: its own dependencies are mediated, under what it manages, among the libraries of the run; or
-/// the first refusal, which names the module's POM. A dependency that is a module is known by that module's effective model, any other
-/// by what its POM comes to; one that is missing or refused leads to nothing, and ends nothing. `store` is what was read in the run.
-/// `Source` comes exactly if a device failed. Costs what mediation costs for each module, and the coordinates of the modules; a POM that
-/// many need is built once. Introduction to the Dependency Mechanism; Guide to Working with Multiple Modules.
+/// What each module is built with, in order: its own dependencies are mediated, under what it manages, among the
+/// libraries of the run; or the first refusal, which names the module's POM. A dependency that is a module is known by
+/// that module's effective model, any other by what its POM comes to; one that is missing or refused leads to nothing,
+/// and ends nothing. `store` is what was read in the run. `Source` comes exactly if a device failed. Costs what
+/// mediation costs for each module, and the coordinates of the modules; a POM that many need is built once.
+/// Introduction to the Dependency Mechanism; Guide to Working with Multiple Modules.
 pub fn resolve_modules<T: Tree, S: Shelf, R: Remote>(
     alloc: Global,
     tree: &mut T,

@@ -1,17 +1,18 @@
-// What a run knows of libraries, as mediation asks for it.
+//! What a run knows of libraries, as mediation asks for it.
+
 ghost use Rattle.std.specs.Prelude.{◌≡◌, ◌≤◌, length, IfOk, IfSome};
 ghost use Rattle.mvn_shared.specs.Cause.{HasCause};
 ghost use Rattle.mvn_outside.specs.Shelf.{files_now};
 ghost use Rattle.model_resolver.specs.Resolving.{TellsSame};
-ghost use Rattle.library_lookup.specs.Faults.{lookup_failed};
-ghost use Rattle.library_lookup.specs.Telling.{TellsOn};
-ghost use Rattle.available_versions.specs.Available.{available};
+ghost use Rattle.mediation.specs.Faults.{lookup_failed};
+ghost use Rattle.mediation.specs.Telling.{TellsOn};
+ghost use Rattle.project_libraries.specs.Available.{available};
 ghost use Rattle.mvn_base.specs.Limits.{most_versions};
 
 use crate::known::known_at;
-use available_versions::{Versions, available};
-use import_store::RunStore;
-use library_lookup::{Known, Lookup, LookupFault};
+use crate::{Versions, available};
+use effective::RunStore;
+use mediation::{Known, Lookup, LookupFault};
 use model_resolver::ModelResolver;
 use model_types::Model;
 use mvn_base::Gav;
@@ -47,8 +48,8 @@ fn versions_in<'t, 's, 'r, 'p, T: Tree, S: Shelf, R: Remote>(
     )
 }
 
-/// Answers of a coordinate the effective model of the module that has it, and else what its POM comes to, which is built once; of an
-/// artifact the versions of the modules and of the two repositories.
+/// Answers of a coordinate the effective model of the module that has it, and else what its POM comes to, which is
+/// built once; of an artifact the versions of the modules and of the two repositories.
 #[derive(Drop)]
 pub(crate) struct RunLookup<'t, 's, 'r, 'p, 'k, 'g, 'o, 'm, T, S, R> {
     pub source: ModelResolver<'t, 's, 'r, 'p, T, S, R>,

@@ -11,9 +11,9 @@ use Rattle.pom_source.specs.Worlds.{World}
 use Rattle.pom_source.specs.declared.fault.BuildFault.{BuildFault}
 use Rattle.pom_source.specs.declared.fault.BuildFault.TheVariants.{Refused, Absent, Source, Memory}
 use Rattle.pom_source.specs.declared.found.Given.{Given}
-use Rattle.import_store.specs.Kept.{HoldsAll}
-use Rattle.import_store.specs.Lawful.{IsLawful}
-use Rattle.import_store.specs.declared.run_store.RunStore.{RunStore}
+use Rattle.effective.specs.Kept.{HoldsAll}
+use Rattle.effective.specs.Lawful.{IsLawful}
+use Rattle.effective.specs.declared.run_store.RunStore.{RunStore}
 use Rattle.model_resolver.specs.declared.resolver.ProjectPom.{ProjectPom}
 use Rattle.project_models.specs.Models.{AreModules, Gives, Modules, first_double, single, unless_double}
 use Rattle.project_models.specs.declared.doubles.Double.{Double}

@@ -7,12 +7,12 @@ use Rattle.pom_source.specs.Answers.{Built, ◌>>=◌}
 use Rattle.pom_source.specs.Chains.{bound, ok_is}
 use Rattle.pom_source.specs.Worlds.{World}
 use Rattle.pom_source.specs.declared.found.Given.{Given}
-use Rattle.module_poms.specs.Discovery.{discovered}
-use Rattle.module_discovery.proofs.Projects.{is_project}
-use Rattle.import_store.specs.Effective.{effective}
+use Rattle.discovery.specs.Discovery.{discovered}
+use Rattle.discovery.proofs.Projects.{is_project}
+use Rattle.effective.specs.Effective.{effective}
 use Rattle.model_resolver.specs.Finding.{world_of}
 use Rattle.model_resolver.specs.declared.resolver.ProjectPom.{ProjectPom}
-use Rattle.module_models.specs.Found.{each, found_pom, models_of, project_poms}
+use Rattle.project_models.specs.Found.{each, found_pom, models_of, project_poms}
 use Rattle.project_models.specs.Models.{Modules, first_double, modules_of, project_models, single, unless_double}
 use Rattle.project_models.specs.Projects.{AreEffective, AreOfProject}
 use Rattle.project_models.specs.Projects.AreEffective.{no_pom, one_more}

@@ -1,3 +1,6 @@
+pub mod Each
+pub mod Leading
+pub mod Paths
 pub mod Apart
 pub mod Giving
 pub mod Holding

@@ -7,7 +7,7 @@ use Rattle.std.proofs.lemmas.Option.{get_or_from_slice_get, slice_get_within}
 use Rattle.mvn_base.specs.declared.gav.Gav.{Gav}
 use Rattle.model_types.specs.declared.model.Model.{Model}
 use Rattle.mvn_base.specs.Gav.{gav_eq}
-use Rattle.pom_store.proofs.Holding.{same_gav}
+use Rattle.lineage.proofs.Holding.{same_gav}
 use Rattle.model_resolver.specs.declared.resolver.ProjectPom.{ProjectPom}
 use Rattle.project_models.specs.Models.{double, first_double, path_of}
 use Rattle.project_models.specs.declared.doubles.Double.{Double}

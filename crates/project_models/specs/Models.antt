@@ -16,10 +16,10 @@ use Rattle.pom_source.specs.declared.fault.BuildFault.{BuildFault}
 use Rattle.pom_source.specs.declared.found.Given.{Given}
 use Rattle.mvn_base.specs.Gav.{gav_eq}
 use Rattle.mvn_base.specs.Limits.{most_modules}
-use Rattle.import_store.specs.Lawful.{IsLawful}
+use Rattle.effective.specs.Lawful.{IsLawful}
 use Rattle.model_resolver.specs.Finding.{world_of}
 use Rattle.model_resolver.specs.declared.resolver.ProjectPom.{ProjectPom}
-use Rattle.module_models.specs.Found.{models_of, project_poms}
+use Rattle.project_models.specs.Found.{models_of, project_poms}
 use Rattle.project_models.specs.declared.doubles.Double.{Double}
 use Rattle.project_models.specs.declared.project.ProjectModels.{ProjectModels}
 

@@ -7,12 +7,12 @@ use Rattle.model_types.specs.declared.model.Model.{Model}
 use Rattle.pom_source.specs.Worlds.{World}
 use Rattle.pom_source.specs.declared.found.Given.{Given}
 use Rattle.mvn_base.specs.Gav.{gav_eq}
-use Rattle.module_discovery.specs.Listing.{IsProject}
-use Rattle.module_poms.specs.declared.pom.ModulePom.{ModulePom}
-use Rattle.import_store.specs.Effective.{effective}
+use Rattle.discovery.specs.Listing.{IsProject}
+use Rattle.discovery.specs.declared.pom.ModulePom.{ModulePom}
+use Rattle.effective.specs.Effective.{effective}
 use Rattle.model_resolver.specs.Finding.{world_of}
 use Rattle.model_resolver.specs.declared.resolver.ProjectPom.{ProjectPom}
-use Rattle.module_models.specs.Found.{found_pom}
+use Rattle.project_models.specs.Found.{found_pom}
 use Rattle.project_models.specs.Models.{Modules}
 
 -- a model for each POM, which is its effective model

@@ -1,4 +1,5 @@
-// Modules of the same coordinates.
+//! Modules of the same coordinates.
+
 ghost use Rattle.std.specs.Prelude.{◌≡◌, [], None, Some, Err, false, option_map, zip, IfOk, OnOk, if◌then◌else◌};
 ghost use Rattle.std.specs.HashMap.{get};
 ghost use Rattle.mvn_base.specs.declared.gav.Gav as gavs;

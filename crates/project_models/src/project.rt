@@ -1,33 +1,34 @@
-// From a project's devices to its modules.
+//! From a project's devices to its modules.
+
 ghost use Rattle.std.specs.Prelude.{◌≡◌, ◌≤◌, ◌+◌, [], None, Ok, false, length, zip, IfErr, IfOk};
 ghost use Rattle.std.specs.List.{AllByRecursion};
 ghost use Rattle.mvn_shared.specs.Cause.{HasCause};
 ghost use Rattle.mvn_base.specs.Limits.{most_modules};
-ghost use Rattle.import_store.specs.Kept.{HoldsAll};
-ghost use Rattle.import_store.specs.Lawful.{IsLawful};
+ghost use Rattle.effective.specs.Kept.{HoldsAll};
+ghost use Rattle.effective.specs.Lawful.{IsLawful};
 ghost use Rattle.model_resolver.specs.Devices.{Counted, IsCounted};
 ghost use Rattle.model_resolver.specs.Finding.{world_of};
-ghost use Rattle.pom_store.specs.Stores.{Holds};
+ghost use Rattle.lineage.specs.Stores.{Holds};
 ghost use Rattle.pom_source.specs.Answers.{Fails, Says, build_failed};
 ghost use Rattle.pom_source.specs.Worlds.{World};
-ghost use Rattle.module_models.specs.Found.{models_of, project_poms};
+ghost use Rattle.project_models.specs.Found.{models_of, project_poms};
 ghost use Rattle.project_models.specs.Models.{AreModules, Gives, first_double, modules_of, project_models, single};
 ghost use Rattle.project_models.specs.Telling.{IfTold};
 
 use crate::doubles::{first_double, refuse};
 use crate::whole::Whole;
-use import_store::RunStore;
+use crate::{models_of, own_store, project_poms};
+use effective::RunStore;
+use lineage::Store;
 use model_resolver::{Failures, ModelResolver, ProjectPom, ProjectPoms};
 use model_types::Model;
-use module_models::{models_of, own_store, project_poms};
 use mvn_outside::{Remote, Shelf, Tree};
 use mvn_shared::{List, Shared};
 use pom_source::{BuildFault, Given};
-use pom_store::Store;
 use std::alloc::Global;
 
-/// The modules of a project, in the order in which they are listed: their POMs, their effective models, and what was read and built for
-/// them, which serves the rest of the run.
+/// The modules of a project, in the order in which they are listed: their POMs, their effective models, and what was
+/// read and built for them, which serves the rest of the run.
 #[derive(Drop)]
 pub struct ProjectModels {
     pub poms: List<ProjectPom>,
@@ -275,7 +276,7 @@ fn over_store<T: Tree, S: Shelf, R: Remote>(
     }
 }
 
-// The same, with a store of what was read of the POMs.
+// The modules of a project, with a store of what was read of the POMs.
 #[tactic(auto, using(model_resolver::proofs::Counting::counted_none))]
 fn with_poms<T: Tree, S: Shelf, R: Remote>(
     alloc: Global,
@@ -322,12 +323,13 @@ fn with_poms<T: Tree, S: Shelf, R: Remote>(
     }
 }
 
-/// The modules of the project in `tree`, in the order in which they are listed, or the first refusal: what discovery refuses; then what
-/// the effective models refuse, module by module; then the first module whose effective coordinates one before it has, with the path of
-/// that one. A POM that coordinates name is looked up among the project's POMs first, then in the local repository, then in the remote
-/// one. What was read and built stays in the store, for the world of these devices. `Source` comes only where a device failed, and then
-/// `failures.first` names it. Each POM's file is read and parsed once; costs what effective models cost besides, and the coordinates of
-/// the modules. Guide to Working with Multiple Modules; Maven Model Builder, "Model building".
+/// The modules of the project in `tree`, in the order in which they are listed, or the first refusal: what discovery
+/// refuses; then what the effective models refuse, module by module; then the first module whose effective coordinates
+/// one before it has, with the path of that one. A POM that coordinates name is looked up among the project's POMs
+/// first, then in the local repository, then in the remote one. What was read and built stays in the store, for the
+/// world of these devices. `Source` comes only where a device failed, and then `failures.first` names it. Each POM's
+/// file is read and parsed once; costs what effective models cost besides, and the coordinates of the modules. Guide to
+/// Working with Multiple Modules; Maven Model Builder, "Model building".
 #[tactic(auto, using(model_resolver::proofs::Counting::counted_twice))]
 pub fn project_models<T: Tree, S: Shelf, R: Remote>(
     alloc: Global,

@@ -1,5 +1,6 @@
-// Calls of a source, all together.
-ghost use Rattle.profile_activation.specs.Judging.{TellsOn};
+//! Calls of a source, all together.
+
+ghost use Rattle.profiles.specs.Judging.{TellsOn};
 
 use model_resolver::ModelResolver;
 use mvn_outside::{Remote, Shelf, Tree};
@@ -12,7 +13,7 @@ pub trait Whole: PomSource {
 
 impl<'t, 's, 'r, 'p, T: Tree, S: Shelf, R: Remote> Whole
     for ModelResolver<'t, 's, 'r, 'p, T, S, R> {
-    ghost use Rattle.resolver_calls.specs.Composing.{told_whole};
+    ghost use Rattle.model_resolver.specs.Composing.{told_whole};
 
     ghost whole = { λ before now told. told_whole T.files T.faults S.told S.faults R.files R.faults told };
 }

@@ -1,3 +1,4 @@
+pub mod Single
 pub mod Marking
 pub mod Reaching
 pub mod Adjacency

@@ -1,3 +1,5 @@
+//! Checks that all numbers of edges or of a list are below the number of modules.
+
 ghost use Rattle.std.specs.Prelude.{◌≡◌, ◌↔◌, true};
 ghost use Rattle.reactor_order.specs.Graph.{AreBelow, AreEdgesBelow};
 

@@ -1,3 +1,5 @@
+//! Finds the cycle of modules that keeps the rest from being placed.
+
 ghost use Rattle.std.specs.Prelude.{◌≡◌, ℕ, ◌<◌, [], false, not, List, length, get_or, find, IfOk, IfSome};
 ghost use Rattle.reactor_order.specs.Graph.{has, AreBelow, AreEdgesBelow, Edges};
 ghost use Rattle.reactor_order.specs.Cycle.{cycle_of, from_first, walk};

@@ -1,4 +1,8 @@
+//! Why modules have no order: a cycle, or want of memory.
+
 use mvn_shared::{List, OutOfMemory};
+use std::fmt;
+use thiserror::Error;
 
 /// Modules of which each has the next as an upstream, and the last the first.
 #[derive(Drop)]
@@ -6,10 +10,19 @@ pub struct Cycle {
     pub list: List<u32>,
 }
 
+impl fmt::Debug for Cycle {
+    fn fmt<W: fmt::Write>(&self, f: &mut fmt::Formatter<W>) -> fmt::Result {
+        let length = self.list.len();
+        write!(f, "Cycle of {length}")
+    }
+}
+
 /// Why modules have no order.
-#[derive(Drop)]
+#[derive(Debug, Drop, Error)]
 pub enum OrderError {
+    #[error("modules depend on one another in a cycle")]
     Cycle(Cycle),
+    #[error("out of memory")]
     Memory,
 }
 

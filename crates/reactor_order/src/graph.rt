@@ -1,3 +1,5 @@
+//! The upstreams of each module as lists, and which modules one reaches over them.
+
 ghost use Rattle.std.specs.Prelude.{◌≡◌, ℕ, ◌<◌, [], ◌∷◌, ◌++◌, length, get_or, IfOk, OnOk};
 ghost use Rattle.reactor_order.specs.Graph.{AreBelow, AreEdgesBelow, Edges, IsGraph, upstreams};
 ghost use Rattle.reactor_order.specs.Marks.{AreFree, AreReached, IsMarked};

@@ -1,3 +1,5 @@
+//! Keeps the firm edges, and the soft edges that close no cycle.
+
 ghost use Rattle.std.specs.Prelude.{◌≡◌, ◌<◌, IfOk, OnOk};
 ghost use Rattle.reactor_order.specs.Graph.{AreEdgesBelow};
 ghost use Rattle.reactor_order.specs.Keep.{Keeps, Tries};
@@ -35,7 +37,7 @@ fn try_edge(
 /// The firm edges, and then each soft one, in order, that closes no cycle with the edges before it. Edges are a module and
 /// an upstream, each below `n`. Costs constant time for each edge; a sixty-fourth of the modules for each edge over which one comes to a
 /// module for the first time, and for each two modules of which one comes to lead to the other; and twice the square of the modules in
-/// bits, which is 256 KiB for the 1,024 modules that a project has at most. Own rules.
+/// bits, which is 256 KiB for the 1,024 modules that a project has at most. Project rule.
 pub fn keep(
     alloc: Global,
     n: u32,

@@ -1,3 +1,5 @@
+//! Marks on modules, with a list of those that are marked.
+
 ghost use Rattle.std.specs.Prelude.{◌≡◌, ◌<◌, [], ◌∷◌, ◌++◌, false, length, get_or, IfOk, OnOk};
 ghost use Rattle.reactor_order.specs.Graph.{AreBelow};
 ghost use Rattle.reactor_order.specs.Marks.{AreFree, AreMarked, IsMarked};

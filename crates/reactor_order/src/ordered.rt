@@ -1,3 +1,5 @@
+//! Orders modules, or answers the cycle that keeps them from having an order.
+
 ghost use Rattle.std.specs.Prelude.{◌≡◌, Ok, IfOk};
 ghost use Rattle.std.specs.Result.{IfErr};
 ghost use Rattle.reactor_order.specs.Answers.{Refuses};

@@ -1,3 +1,5 @@
+//! Places modules one after another, each time the earliest whose upstreams are all placed.
+
 ghost use Rattle.std.specs.Prelude.{◌≡◌, ℕ, ◌==◌, ◌&&◌, nat_lt, [], length, map, get_or, IfOk, OnOk};
 ghost use Rattle.reactor_order.specs.Graph.{flipped, upstreams, AreBelow, AreEdgesBelow, IsGraph};
 ghost use Rattle.reactor_order.specs.Ready.{is_in};

@@ -1,3 +1,5 @@
+//! Puts modules into the set of those that can follow, and takes the earliest out.
+
 ghost use Rattle.std.specs.Prelude.{◌≡◌, ℕ, ◌==◌, ◌||◌, OnOk};
 ghost use Rattle.reactor_order.specs.Ready.{is_in, TakesLeast};
 

@@ -1,3 +1,5 @@
+//! Selects the modules that are built, by what is chosen and what an order has.
+
 ghost use Rattle.std.specs.Prelude.{◌≡◌, ◌↔◌, ℕ, ◌<◌, ◌≤◌, ◌||◌, drop, Some, true, false, length, get_or, filter, IfOk, IfSome};
 ghost use Rattle.std.specs.Option.{option_copied};
 ghost use Rattle.reactor_order.specs.Graph.{has, AreBelow, AreEdgesBelow};

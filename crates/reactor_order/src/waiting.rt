@@ -1,3 +1,5 @@
+//! Counts how many upstreams each module still waits for.
+
 ghost use Rattle.std.specs.Prelude.{◌≡◌, ℕ, ◌<◌, ◌≤◌, [], ◌∷◌, get_or, OnOk};
 ghost use Rattle.reactor_order.specs.Waiting.{times, AreReleased};
 

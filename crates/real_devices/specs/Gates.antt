@@ -1,10 +1,10 @@
 -- What runs the goals: the program that a variable names, or the built-in goals. Own rule.
 use Rattle.std.specs.Prelude.{ℕ, List, [], ◌∷◌, Option, Some, None}
-use Rattle.child_real.specs.declared.spawner.RealSpawner.{RealSpawner}
-use Rattle.child_real.specs.Spawner.{spawner_program}
-use Rattle.gate_process.specs.Gate.{spawner_of}
-use Rattle.gate_process.specs.declared.any_gate.AnyGate.{AnyGate}
-use Rattle.gate_process.specs.declared.any_gate.AnyGate.TheVariants as gate
+use Rattle.children.specs.declared.real_spawner.RealSpawner.{RealSpawner}
+use Rattle.children.specs.RealSpawners.{spawner_program}
+use Rattle.gates.specs.Gate.{spawner_of}
+use Rattle.gates.specs.declared.any_gate.AnyGate.{AnyGate}
+use Rattle.gates.specs.declared.any_gate.AnyGate.TheVariants as gate
 
 -- the program that a value names: an empty one names none
 abbrev pub named_program : List ℕ → Option (List ℕ)

@@ -1,3 +1,3 @@
-pub use Rattle.child_real.specs.Spawner
-pub use Rattle.gate_process.specs.Gate
+pub use Rattle.children.specs.RealSpawners
+pub use Rattle.gates.specs.Gate
 pub mod Gates

@@ -3,9 +3,8 @@ ghost use Rattle.std.specs.Prelude.{◌≡◌, length, map, replicate, IfOk};
 ghost use Rattle.real_devices.specs.Gates.{gate_program, named_program};
 
 use crate::hands::{RealHand, hands};
-use disk_reading::RealTree;
 use mvn_shared::{Mem, Text};
-use outside_real::{RealShelf, RealSink};
+use outside_real::{RealShelf, RealSink, RealTree};
 use std::collections::BTreeMap;
 use std::os::fd::AsFd;
 use std::process;

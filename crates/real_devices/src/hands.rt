@@ -2,11 +2,10 @@
 ghost use Rattle.std.specs.Prelude.{◌≡◌, length, map, replicate, IfOk};
 ghost use Rattle.real_devices.specs.Gates.{named_program, gate_program};
 
-use crate::gates::{RealGate, gate};
-use disk_reading::RealRemote;
+use crate::hand_gates::{RealGate, gate};
 use mvn_outside::Hand;
 use mvn_shared::{Mem, Text};
-use outside_real::RealArea;
+use outside_real::{RealArea, RealRemote};
 use surroundings::Places;
 
 /// How many hands there are at most.

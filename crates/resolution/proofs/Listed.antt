@@ -5,7 +5,7 @@ use Rattle.std.proofs.lemmas.Bool.Decides.{nat_tests}
 use Rattle.std.proofs.lemmas.Grind.{flat_map-append}
 use Rattle.std.proofs.lemmas.List.{drop_all}
 use Rattle.mediation.specs.declared.winner.Winner.{Winner}
-use Rattle.tree_order.specs.Preorder.{Ascends}
+use Rattle.resolution.specs.Preorder.{Ascends}
 use Rattle.resolution.specs.Resolved.{above_at, aboves_from, earlier}
 
 next_drop : (rows : List Winner) (k : ℕ) → drop k rows ≡ option_to_list (slice_get rows k) ++ drop (suc k) rows

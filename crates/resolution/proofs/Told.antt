@@ -6,16 +6,16 @@ use Rattle.mvn_base.specs.declared.key.Key.{Key}
 use Rattle.mvn_base.specs.declared.rule.Rule.TheVariants.{RangeConflict}
 use Rattle.model_types.specs.declared.dependency.Dependency.{Dependency}
 use Rattle.classpaths.specs.declared.resolution.Resolution.{Resolution}
-use Rattle.library_lookup.specs.Faults.{Reason, Says}
-use Rattle.library_lookup.specs.Libraries.{Libraries, graph_of}
+use Rattle.mediation.specs.Faults.{Reason, Says}
+use Rattle.mediation.specs.Libraries.{Libraries, graph_of}
 use Rattle.mediation.specs.Rows.{IsWhole, Resolves, edges_below, reason}
-use Rattle.library_lookup.specs.declared.fault.MediationFault.{MediationFault}
-use Rattle.library_lookup.specs.declared.fault.MediationFault.TheVariants.{Refused, Lookup, Memory}
+use Rattle.mediation.specs.declared.fault.MediationFault.{MediationFault}
+use Rattle.mediation.specs.declared.fault.MediationFault.TheVariants.{Refused, Lookup, Memory}
 use Rattle.mediation.specs.declared.winner.Winner.{Winner}
 use Rattle.collector.specs.Edges.{direct_edges}
 use Rattle.collector.specs.declared.edge.Edge.{Edge}
-use Rattle.range_conflicts.specs.Conflicts.{conflict_among, first_conflict}
-use Rattle.winner_scopes.specs.Links.{AreDeclared}
+use Rattle.resolution.specs.Conflicts.{conflict_among, first_conflict}
+use Rattle.resolution.specs.Links.{AreDeclared}
 use Rattle.resolution.specs.Resolved.{IsMade, Mediates, reason_of}
 
 -- the first conflict among what is declared

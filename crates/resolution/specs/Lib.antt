@@ -1,7 +1,11 @@
-pub use Rattle.library_lookup.specs.Libraries
+pub mod Walks
+pub mod Search
+pub mod Example
+pub use Rattle.mediation.specs.Libraries
 pub use Rattle.mediation.specs.Rows
-pub use Rattle.winner_scopes.specs.Scopes
-pub use Rattle.range_conflicts.specs.Conflicts
-pub use Rattle.tree_order.specs.Preorder
+pub mod Scopes
+pub mod Links
+pub mod Conflicts
+pub mod Preorder
 pub mod Kept
 pub mod Resolved

@@ -6,22 +6,22 @@ use Rattle.classpaths.specs.declared.resolution.Note.{Note}
 use Rattle.classpaths.specs.declared.resolution.Note.TheVariants as notes
 use Rattle.classpaths.specs.declared.resolution.Resolution.{Resolution}
 use Rattle.classpaths.specs.declared.resolution.Resolved.{Resolved}
-use Rattle.library_lookup.specs.Faults.{Reason}
-use Rattle.library_lookup.specs.Libraries.{Libraries, gav_of, graph_of}
+use Rattle.mediation.specs.Faults.{Reason}
+use Rattle.mediation.specs.Libraries.{Libraries, gav_of, graph_of}
 use Rattle.mediation.specs.Rows.{IsWhole, first_reason, paths_of}
-use Rattle.library_lookup.specs.declared.fault.MediationFault.{MediationFault}
-use Rattle.library_lookup.specs.declared.fault.MediationFault.TheVariants.{Refused, Lookup, Memory}
-use Rattle.library_lookup.specs.declared.known.Known.{Known}
-use Rattle.library_lookup.specs.declared.known.Known.TheVariants as known
+use Rattle.mediation.specs.declared.fault.MediationFault.{MediationFault}
+use Rattle.mediation.specs.declared.fault.MediationFault.TheVariants.{Refused, Lookup, Memory}
+use Rattle.mediation.specs.declared.known.Known.{Known}
+use Rattle.mediation.specs.declared.known.Known.TheVariants as known
 use Rattle.mediation.specs.declared.winner.Winner.{Winner}
 use Rattle.model_types.specs.declared.dependency.Dependency.{Dependency}
 use Rattle.mvn_base.specs.Key.{key_text}
 use Rattle.mvn_base.specs.declared.key.Key.{Key}
 use Rattle.mvn_base.specs.declared.rule.Rule.TheVariants.{RangeConflict}
-use Rattle.range_conflicts.specs.Conflicts.{first_conflict}
-use Rattle.tree_order.specs.Preorder.{preorder}
-use Rattle.winner_law.specs.Winners.{Graph, Path, winners}
-use Rattle.winner_scopes.specs.Scopes.{IsScope}
+use Rattle.resolution.specs.Conflicts.{first_conflict}
+use Rattle.resolution.specs.Preorder.{preorder}
+use Rattle.collector.specs.Winners.{Graph, Path, winners}
+use Rattle.resolution.specs.Scopes.{IsScope}
 
 -- a note of a POM that is missing or refused
 abbrev pub note_of_known : Winner → Known → List Note

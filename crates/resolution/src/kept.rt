@@ -1,6 +1,7 @@
-// Rows that projects are built with, each held once.
+//! Rows that projects are built with, each held once.
+
 ghost use Rattle.std.specs.Prelude.{◌≡◌, true, IfOk, IfSome};
-ghost use Rattle.library_lookup.specs.Libraries.{gav_of};
+ghost use Rattle.mediation.specs.Libraries.{gav_of};
 ghost use Rattle.resolution.specs.Kept.{HasNoRows};
 ghost use Rattle.resolution.specs.Resolved.{resolved};
 
@@ -13,8 +14,8 @@ use mvn_shared::{List, Mem, Shared};
 use std::alloc::Global;
 use std::collections::HashMap;
 
-/// Rows that the projects of a run are built with, so that those that are the same are held once. What is found there is
-/// compared, so nothing need be known of it.
+/// Rows that the projects of a run are built with, so that those that are the same are held once. What is found there
+/// is compared, so nothing need be known of it.
 #[derive(Drop)]
 pub struct KeptRows {
     rows: HashMap<Gav, List<Shared<Resolved>>>,

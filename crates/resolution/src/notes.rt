@@ -1,12 +1,13 @@
+//! Notes on winners whose POMs lead to nothing.
+
 ghost use Rattle.std.specs.Prelude.{◌≡◌, ◌++◌, flat_map, IfOk, OnOk};
 ghost use Rattle.std.specs.Option.{option_to_list};
 ghost use Rattle.std.specs.Prelude.{slice_get};
-ghost use Rattle.library_lookup.specs.Libraries.{gav_of};
+ghost use Rattle.mediation.specs.Libraries.{gav_of};
 ghost use Rattle.resolution.specs.Resolved.{is_there, note_of, notes_of};
 
 use classpaths::Note;
-use library_lookup::Known;
-use mediation::{Winner, Winners};
+use mediation::{Known, Winner, Winners};
 use mvn_base::Gav;
 use mvn_shared::{List, Mem};
 use std::alloc::Global;
@@ -47,7 +48,7 @@ fn add_note(list: &mut List<Note>, winner: &Winner) -> Mem<()>
     }
 }
 
-// So of the winner at a place, if there is one.
+// The note of the winner at a place, if there is one.
 fn add_note_at(list: &mut List<Note>, winners: &Winners, place: usize) -> Mem<()>
     ensures { OnOk result (list.new
         ≡ list.old ++ flat_map note_of (option_to_list (slice_get winners.now place))) }

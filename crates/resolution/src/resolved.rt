@@ -1,3 +1,5 @@
+//! The winners as rows that a project is built with, in the order of the tree.
+
 ghost use Rattle.std.specs.Prelude.{◌≡◌, ◌++◌, ◌∷◌, [], flat_map, get_or, IfOk, IfSome, OnOk};
 ghost use Rattle.collector.specs.declared.scope.Scope.TheVariants as scope;
 ghost use Rattle.resolution.specs.Resolved.{resolved, resolved_at};
@@ -5,8 +7,7 @@ ghost use Rattle.resolution.specs.Resolved.{resolved, resolved_at};
 use crate::kept::{KeptRows, is_row, shared_row};
 use classpaths::Resolved;
 use collector::Scope;
-use library_lookup::Known;
-use mediation::{Winner, Winners};
+use mediation::{Known, Winner, Winners};
 use mvn_shared::{List, Mem, Shared};
 use std::alloc::Global;
 
@@ -73,7 +74,8 @@ fn with_room(alloc: Global, count: usize) -> Mem<List<Shared<Resolved>>>
     Ok(List::of(Vec::with_capacity(alloc, count)?))
 }
 
-// The winners at places, in their order. They are kept to the end of the run, so the list has no more room than it needs.
+// The winners at places, in their order. They are kept to the end of the run, so the list has no more room than it
+// needs.
 pub fn resolved_in(
     alloc: Global,
     rows: &mut KeptRows,

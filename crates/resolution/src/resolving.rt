@@ -1,32 +1,32 @@
+//! From the winners of a project to its resolution, or to the first refusal.
+
 ghost use Rattle.std.specs.Prelude.{◌≡◌, Err, Ok, false, IfOk};
 ghost use Rattle.std.specs.Prelude as logic;
 ghost use Rattle.mvn_base.specs.Key.{key_text};
 ghost use Rattle.mvn_base.specs.declared.rule.Rule.TheVariants.{RangeConflict};
 ghost use Rattle.mvn_shared.specs.Cause.{HasCause};
-ghost use Rattle.library_lookup.specs.Faults.{Says, is_faulty};
-ghost use Rattle.library_lookup.specs.Telling.{TellsOn};
-ghost use Rattle.library_lookup.specs.Libraries.{Libraries, graph_of};
+ghost use Rattle.mediation.specs.Faults.{Says, is_faulty};
+ghost use Rattle.mediation.specs.Telling.{TellsOn};
+ghost use Rattle.mediation.specs.Libraries.{Libraries, graph_of};
 ghost use Rattle.mediation.specs.Rows.{IsWhole};
 ghost use Rattle.model_types.specs.declared.dependency.Dependency as dependencies;
 ghost use Rattle.mvn_base.specs.declared.key.Key as names;
-ghost use Rattle.winner_scopes.specs.Links.{AreDeclared};
+ghost use Rattle.resolution.specs.Links.{AreDeclared};
 ghost use Rattle.resolution.specs.Resolved.{IsMade, Mediates};
 
 use crate::kept::KeptRows;
 use crate::notes::notes_of;
 use crate::resolved::resolved_in;
 use crate::tree::order_of;
+use crate::{first_conflict, scopes_of};
 use classpaths::Resolution;
 use collector::Edge;
-use library_lookup::{Lookup, MediationFault};
 use managed_deps::ManagedSet;
-use mediation::{DependencyGraph, Winner, Winners, find_winners};
+use mediation::{DependencyGraph, Lookup, MediationFault, Winner, Winners, find_winners};
 use model_types::Dependency;
 use mvn_base::{Rule, key_text};
 use mvn_shared::{List, Mem, Shared};
-use range_conflicts::first_conflict;
 use std::alloc::Global;
-use winner_scopes::scopes_of;
 
 // What winners come to.
 fn made(
@@ -114,12 +114,12 @@ fn resolved(
     )
 }
 
-/// What a project is built with: the winners of its dependency graph, each with its version, its scope and whether it has a POM,
-/// in the order of the dependency tree; and a note of each POM that is missing or refused, in the order in which they are met.
-/// Refused as `find_winners` refuses, and then by the first winner whose version a range of some declaration doesn't admit.
-/// `Lookup` comes only where the look-up failed. What is the same in several projects of a run is held once, if `rows` are theirs; what
-/// is answered is the same by any `rows`. Costs what `find_winners` costs, and a look-up for each declaration and for each winner.
-/// Introduction to the Dependency Mechanism.
+/// What a project is built with: the winners of its dependency graph, each with its version, its scope and whether it
+/// has a POM, in the order of the dependency tree; and a note of each POM that is missing or refused, in the order in
+/// which they are met. Refused as `find_winners` refuses, and then by the first winner whose version a range of some
+/// declaration doesn't admit. `Lookup` comes only where the look-up failed. What is the same in several projects of a
+/// run is held once, if `rows` are theirs; what is answered is the same by any `rows`. Costs what `find_winners` costs,
+/// and a look-up for each declaration and for each winner. Introduction to the Dependency Mechanism.
 pub fn mediate<L: Lookup>(
     alloc: Global,
     direct: &[Shared<Dependency>],

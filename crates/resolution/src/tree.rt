@@ -1,11 +1,13 @@
+//! The winners of a project in the order of the dependency tree.
+
 ghost use Rattle.std.specs.Prelude.{◌≡◌, ◌++◌, [], map, slice_get, IfOk, OnOk};
 ghost use Rattle.std.specs.Option.{option_to_list};
 ghost use Rattle.resolution.specs.Resolved.{above_at, aboves_from, earlier, tree_order};
 
+use crate::preorder;
 use mediation::Winners;
 use mvn_shared::{List, Mem};
 use std::alloc::Global;
-use tree_order::preorder;
 
 // The place above one, which comes before it.
 fn earlier(at: usize, above: Option<usize>) -> Option<usize>

@@ -89,7 +89,7 @@ fn push_marked(out: &mut Vec<u8>, piece: &[u8]) -> Mem<()>
     }
 }
 
-// What stands behind a backslash, up to the next one.
+// What stands after a backslash, up to the next one.
 fn push_spelled(alloc: Global, out: &mut Vec<u8>, piece: &str) -> Mem<()>
     ensures { OnOk result (out.new.items ≡ out.old.items ++ spelled piece.now) }
 {
@@ -107,7 +107,7 @@ fn by_backslash<'a>(alloc: Global, field: &'a str) -> Result<Vec<&'a str>, Alloc
     field.split('\\').collect(alloc)
 }
 
-// What stands behind each backslash.
+// What stands after each backslash.
 fn push_pieces(alloc: Global, out: &mut Vec<u8>, pieces: &[&str]) -> Mem<()>
     ensures { OnOk result
         (out.new.items ≡ out.old.items ++ flat_map spelled (map (λ x. x.now) pieces.now)) }

@@ -54,7 +54,7 @@ fn push_project(text: &mut Bytes, front: &str, inside: &[u8]) -> Mem<()> {
     text.extend_from_slice("</project>".as_bytes())
 }
 
-// A project with this in it, behind what is in front.
+// A project with this in it, after what is in front.
 fn within(alloc: Global, front: &str, inside: &str) -> Mem<Bytes> {
     let inside = unescaped(alloc, inside)?;
     let mut text = Bytes::of(Vec::new(alloc));
@@ -68,13 +68,13 @@ pub fn whole(alloc: Global, field: &str) -> Result<Shared<RawModel>, ModelError>
     read_pom(alloc, text.as_slice())
 }
 
-/// The model of a project with this in it, behind its `modelVersion`.
+/// The model of a project with this in it, after its `modelVersion`.
 pub fn project(alloc: Global, inside: &str) -> Result<Shared<RawModel>, ModelError> {
     let text = within(alloc, "", inside)?;
     read_pom(alloc, text.as_slice())
 }
 
-/// The same behind its coordinates g:a:1, of the POM of this name.
+/// The same after its coordinates g:a:1, of the POM of this name.
 pub fn named(alloc: Global, pom: &PomId, inside: &str) -> Result<Shared<RawModel>, ModelError> {
     let text = within(alloc, COORDINATES, inside)?;
     read(alloc, pom, text.as_slice())

@@ -31,7 +31,7 @@ pub(crate) fn put_file(alloc: Global, files: &mut Files, path: &str, bytes: &[u8
     files.tree.push(SourceFile { path, bytes })
 }
 
-/// One more POM of the project, with a field in it behind the coordinates demo:ARTIFACT:1.0.
+/// One more POM of the project, with a field in it after the coordinates demo:ARTIFACT:1.0.
 pub(crate) fn put_module(
     alloc: Global,
     files: &mut Files,
@@ -126,7 +126,7 @@ fn put(alloc: Global, files: &mut Files, field: &str) -> Mem<()> {
     }
 }
 
-/// Puts in the files of the fields behind the first.
+/// Puts in the files of the fields after the first.
 pub fn put_fields(alloc: Global, files: &mut Files, fields: &[&str]) -> Mem<()> {
     for at in 1..fields.len() {
         put(alloc, files, fields[at])?;

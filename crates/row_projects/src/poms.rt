@@ -24,7 +24,7 @@ fn push_element(pom: &mut Bytes, name: &str, text: &str) -> Mem<()> {
     pom.extend_from_slice(">".as_bytes())
 }
 
-// A POM of these coordinates, with this in it behind them.
+// A POM of these coordinates, with this in it after them.
 fn push_pom(pom: &mut Bytes, named: Coordinates, inside: &[u8]) -> Mem<()> {
     pom.extend_from_slice("<project><modelVersion>4.0.0</modelVersion>".as_bytes())?;
     push_element(pom, "groupId", named.0)?;
@@ -34,14 +34,14 @@ fn push_pom(pom: &mut Bytes, named: Coordinates, inside: &[u8]) -> Mem<()> {
     pom.extend_from_slice("</project>".as_bytes())
 }
 
-// The same.
+// The text of a POM of these coordinates, with this in it after them.
 fn pom_with(alloc: Global, named: Coordinates, inside: &[u8]) -> Mem<Bytes> {
     let mut pom = Bytes::of(Vec::new(alloc));
     push_pom(&mut pom, named, inside)?;
     Ok(pom)
 }
 
-/// A POM of these coordinates, with a field in it behind them.
+/// A POM of these coordinates, with a field in it after them.
 pub(crate) fn pom_of(alloc: Global, named: Coordinates, field: &str) -> Mem<Bytes> {
     let inside = unescaped(alloc, field)?;
     pom_with(alloc, named, inside.as_slice())

@@ -13,7 +13,7 @@ fn put_number(alloc: Global, files: &mut Files, artifact: &str, inside: &str) ->
     put_module(alloc, files, path.as_str(), artifact, inside)
 }
 
-// The same, and the root lists it.
+// Puts in the module of this number, and the root lists it.
 fn put_listed(alloc: Global, files: &mut Files, root: &mut String, number: u32) -> Mem<()> {
     push_listed(alloc, root, number)?;
     let artifact = format!(in alloc; "m{number}")?;

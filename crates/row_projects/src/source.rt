@@ -2,8 +2,8 @@
 use crate::poms::{Coordinates, pom_of, push_listed};
 use mvn_shared::{Bytes, List, Mem, Text};
 use outside_mem::Calls;
-use source_mem::MemPoms;
 use std::alloc::Global;
+use tree_projects::MemPoms;
 
 /// A project in memory.
 pub type Project = MemPoms<Calls>;
@@ -23,7 +23,7 @@ fn put_bytes(alloc: Global, project: &mut Project, path: &str, bytes: &[u8]) -> 
 
 const PLAIN: Coordinates<'static> = ("g", "a", "1");
 
-// One more POM, with this in it behind its coordinates.
+// One more POM, with this in it after its coordinates.
 fn put(
     alloc: Global,
     project: &mut Project,
@@ -48,7 +48,7 @@ fn put_named(alloc: Global, project: &mut Project, field: &str) -> Mem<()> {
     put(alloc, project, path, ("demo", artifact, "1.0"), inside)
 }
 
-// Puts in the files with artifacts of the fields behind the first.
+// Puts in the files with artifacts of the fields after the first.
 fn put_all_named(alloc: Global, project: &mut Project, fields: &[&str]) -> Mem<()> {
     for at in 1..fields.len() {
         put_named(alloc, project, fields[at])?;
@@ -56,7 +56,7 @@ fn put_all_named(alloc: Global, project: &mut Project, fields: &[&str]) -> Mem<(
     Ok(())
 }
 
-// Puts in the files of the fields behind the first.
+// Puts in the files of the fields after the first.
 fn put_fields(alloc: Global, project: &mut Project, fields: &[&str]) -> Mem<()> {
     for at in 1..fields.len() {
         put_field(alloc, project, fields[at])?;

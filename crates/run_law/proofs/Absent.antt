@@ -3,23 +3,23 @@ use Rattle.std.proofs.Common.{◌≡◌, ℕ, ◌<◌, ◌⊎◌, inl, inr, Bool
 use Rattle.std.specs.Option.{option_map_or}
 use Rattle.std.proofs.lemmas.Bool.{false≢true}
 use Rattle.std.proofs.lemmas.List.{get_or-set_other, get_or-set_same}
-use Rattle.module_scripts.specs.declared.deed.Deed.{Deed}
-use Rattle.module_scripts.specs.declared.deed.Deed.TheVariants as deed
+use Rattle.scripts.specs.declared.deed.Deed.{Deed}
+use Rattle.scripts.specs.declared.deed.Deed.TheVariants as deed
 use Rattle.build_core.specs.declared.event.Event.{Event}
 use Rattle.build_core.specs.declared.event.Event.TheVariants as event
-use Rattle.name_locks.specs.declared.mode.Mode.TheVariants.{Exclusive}
-use Rattle.module_scripts.specs.declared.outline.Outline.{Outline}
+use Rattle.build_core.specs.declared.mode.Mode.TheVariants.{Exclusive}
+use Rattle.scripts.specs.declared.outline.Outline.{Outline}
 use Rattle.build_core.specs.declared.plan.OwnFile.{OwnFile}
 use Rattle.build_core.specs.declared.plan.Plan.{Plan}
 use Rattle.build_core.specs.declared.plan.PlanModule.{PlanModule}
 use Rattle.event_core.specs.declared.entry.RunEntry.{RunEntry}
-use Rattle.module_scripts.specs.Climbing.{but}
+use Rattle.scripts.specs.Climbing.{but}
 use Rattle.event_core.specs.Enabled.{IsEnabled, IsRun, is_due}
 use Rattle.run_law.proofs.Invariants.{AreCoursesFit, IsCourseFit, files_fit}
-use Rattle.name_locks.specs.Locks.{hold}
-use Rattle.module_scripts.specs.Outlines.{is_empty, is_listed, module_outline, outline_of}
+use Rattle.build_core.specs.Locks.{hold}
+use Rattle.scripts.specs.Outlines.{is_empty, is_listed, module_outline, outline_of}
 use Rattle.event_core.specs.Runs.{IsRunOf, events_of, standing_of_run}
-use Rattle.module_scripts.specs.Scripts.{Script, absent, answers, done, fetches, frees, is_gathered, is_there, may_publish, publishes, reads, settled, step, takes, wanted, whole}
+use Rattle.scripts.specs.Scripts.{Script, absent, answers, done, fetches, frees, is_gathered, is_there, may_publish, publishes, reads, settled, step, takes, wanted, whole}
 use Rattle.event_core.specs.SoundPlans.{IsSoundPlan}
 use Rattle.event_core.specs.Standing.{Course, Standing, after, after_deed, after_free, at_first, course_of, goals_of, held_by, idle, module_of, off_course, on_course, standing_of, start_of}
 use Rattle.run_law.proofs.Alone.{AreGuarded, guarded, guarded_after, guarded_first, holds_now}

@@ -11,12 +11,12 @@ use Rattle.build_core.specs.declared.ending.Ending.{Ending}
 use Rattle.build_core.specs.declared.event.Event.TheVariants as event
 use Rattle.build_core.specs.declared.plan.Plan.{Plan}
 use Rattle.build_core.specs.declared.plan.PlanModule.{PlanModule}
-use Rattle.module_progress.specs.declared.progress.Progress.TheVariants.{Ended}
+use Rattle.event_core.specs.declared.module_steps.Progress.TheVariants.{Ended}
 use Rattle.event_core.specs.declared.entry.RunEntry.{RunEntry}
 use Rattle.event_core.specs.Enabled.{Enabled}
-use Rattle.module_scripts.specs.Outlines.{module_outline, outline_of}
+use Rattle.scripts.specs.Outlines.{module_outline, outline_of}
 use Rattle.event_core.specs.Runs.{IsRunOf, answers_in, events_of, kept_by, module_by, standing_of_run}
-use Rattle.module_progress.specs.HowFar.{progress_of}
+use Rattle.event_core.specs.HowFar.{progress_of}
 use Rattle.event_core.specs.Standing.{standing_of}
 use Rattle.event_core.specs.Worlds.{AllFit, Fits, HandTold, is_told, is_told_by}
 use Rattle.run_law.proofs.Complete.{by_entries, events_more}

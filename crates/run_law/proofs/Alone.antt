@@ -4,19 +4,19 @@ use Rattle.std.specs.List.{list_all}
 use Rattle.std.specs.Option.{option_map_or}
 use Rattle.std.proofs.lemmas.Bool.{eqb-true, false≢true}
 use Rattle.std.proofs.lemmas.List.{get_or-set_other, get_or-set_same}
-use Rattle.module_scripts.specs.declared.deed.Deed.{Deed}
-use Rattle.module_scripts.specs.declared.deed.Deed.TheVariants as deed
+use Rattle.scripts.specs.declared.deed.Deed.{Deed}
+use Rattle.scripts.specs.declared.deed.Deed.TheVariants as deed
 use Rattle.build_core.specs.declared.event.Event.{Event}
 use Rattle.build_core.specs.declared.event.Event.TheVariants as event
-use Rattle.name_locks.specs.declared.mode.Mode.{Mode}
-use Rattle.name_locks.specs.declared.mode.Mode.TheVariants.{Shared, Exclusive}
-use Rattle.module_scripts.specs.declared.outline.Outline.{Outline}
-use Rattle.module_scripts.specs.declared.outline.ModuleOutline.{ModuleOutline}
-use Rattle.module_scripts.specs.Climbing.{but}
+use Rattle.build_core.specs.declared.mode.Mode.{Mode}
+use Rattle.build_core.specs.declared.mode.Mode.TheVariants.{Shared, Exclusive}
+use Rattle.scripts.specs.declared.outline.Outline.{Outline}
+use Rattle.scripts.specs.declared.outline.ModuleOutline.{ModuleOutline}
+use Rattle.scripts.specs.Climbing.{but}
 use Rattle.event_core.specs.Enabled.{IsEnabled, IsRun, is_due}
-use Rattle.name_locks.specs.Locks.{Holds, below, hold, with_hold}
-use Rattle.module_scripts.specs.Outlines.{is_empty, is_listed}
-use Rattle.module_scripts.specs.Scripts.{Script, Step, absent, answers, choice_script, done, fetches, frees, install_script, is_there, is_gathered, is_wanted, may_publish, own_script, publishes, read_script, reads, release_script, script_of, settled, step, steps, takes, wanted, whole}
+use Rattle.build_core.specs.Locks.{Holds, below, hold, with_hold}
+use Rattle.scripts.specs.Outlines.{is_empty, is_listed}
+use Rattle.scripts.specs.Scripts.{Script, Step, absent, answers, choice_script, done, fetches, frees, install_script, is_there, is_gathered, is_wanted, may_publish, own_script, publishes, read_script, reads, release_script, script_of, settled, step, steps, takes, wanted, whole}
 use Rattle.event_core.specs.Standing.{Course, Standing, after, after_deed, after_free, at_first, course_of, goals_of, held_by, idle, off_course, on_course, standing_of, start_of}
 use Rattle.run_law.proofs.Complete.{IsStanding, by_events, standing_after, standing_first}
 use Rattle.event_core.proofs.Fits.{same_or_not}

@@ -1,7 +1,7 @@
 -- Small lemmas on truth values, options and scripts.
 use Rattle.std.proofs.Common.{◌≡◌, Bool, true, false, not, ◌&&◌, ◌||◌, Some, None, unwrap_or, refl, sym, ap, if◌then◌else◌}
 use Rattle.std.proofs.lemmas.Bool.{false≢true}
-use Rattle.module_scripts.specs.Scripts.{Script, whole}
+use Rattle.scripts.specs.Scripts.{Script, whole}
 use Rattle.event_core.proofs.Weights.{nothing_is}
 
 -- the parts of what holds together

@@ -3,12 +3,12 @@ use Rattle.std.proofs.Common.{◌≡◌, Bool, true, ◌&&◌, List, [], ◌∷�
 use Rattle.std.proofs.lemmas.Bool.{false≢true}
 use Rattle.build_core.specs.declared.event.Event.{Event}
 use Rattle.event_core.specs.declared.refused.NotEnabled.{NotEnabled}
-use Rattle.module_scripts.specs.declared.outline.Outline.{Outline}
+use Rattle.scripts.specs.declared.outline.Outline.{Outline}
 use Rattle.event_core.specs.Causes.{cause_now}
 use Rattle.event_core.specs.Enabled.{Enabled, IsRun}
 use Rattle.event_core.specs.Fitting.{IsFit}
 use Rattle.event_core.specs.Standing.{Standing, after, at_first, standing_of}
-use Rattle.module_scripts.proofs.Climbs.{both}
+use Rattle.scripts.proofs.Climbs.{both}
 use Rattle.event_core.proofs.Fits.{fit_after, fit_first, one_more}
 use Rattle.event_core.proofs.Law.{no_cause}
 

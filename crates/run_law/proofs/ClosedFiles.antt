@@ -5,7 +5,7 @@ use Rattle.std.specs.Option.{option_and_then, option_or}
 use Rattle.std.specs.Ordering.{eq_by_cmp, nat_cmp}
 use Rattle.std.specs.Cmp.Lexicographic.{slice_cmp}
 use Rattle.mvn_shared.specs.Files.{Files, file_at}
-use Rattle.name_locks.specs.declared.mode.Mode.TheVariants.{Exclusive}
+use Rattle.build_core.specs.declared.mode.Mode.TheVariants.{Exclusive}
 use Rattle.goal_types.specs.declared.goal.GoalAnswer.{GoalAnswer}
 use Rattle.goal_types.specs.declared.goal.OwnBytes.{OwnBytes}
 use Rattle.build_core.specs.declared.plan.OwnFile.{OwnFile}
@@ -20,11 +20,11 @@ use Rattle.run_law.specs.Closed.{available, had_prefix, missing_of, outputs_at, 
 use Rattle.event_core.specs.Enabled.{Enabled}
 use Rattle.run_law.proofs.Invariants.{IsFetchFile, IsOwnFile, outs, supply_of}
 use Rattle.run_law.specs.Given.{Extends, IsPresent, is_kept, supply_by}
-use Rattle.name_locks.specs.Locks.{hold}
+use Rattle.build_core.specs.Locks.{hold}
 use Rattle.build_core.specs.OneThread.{Supply, is_built, lacks_artifact, most_classpath, name_of, one_thread, own_bytes}
-use Rattle.module_scripts.specs.Outlines.{is_listed, outline_of}
+use Rattle.scripts.specs.Outlines.{is_listed, outline_of}
 use Rattle.event_core.specs.Runs.{IsComplete, IsQuiet, IsRunOf, answers_in, contents, events_of, goals_in, standing_of_run}
-use Rattle.module_scripts.specs.Scripts.{Script, wanted}
+use Rattle.scripts.specs.Scripts.{Script, wanted}
 use Rattle.event_core.specs.SoundPlans.{IsSoundPlan}
 use Rattle.event_core.specs.Standing.{course_of, on_course}
 use Rattle.event_core.specs.Worlds.{AllFit, HandTold, is_good, publishes}

@@ -6,24 +6,24 @@ use Rattle.std.proofs.lemmas.List.{append-nil, append_assoc, get_or-set_other, g
 use Rattle.build_core.specs.declared.ending.Ending.{Ending}
 use Rattle.build_core.specs.declared.event.Event.{Event}
 use Rattle.build_core.specs.declared.event.Event.TheVariants as event
-use Rattle.module_scripts.specs.declared.deed.Deed.{Deed}
-use Rattle.module_scripts.specs.declared.deed.Deed.TheVariants as deed
-use Rattle.module_scripts.specs.declared.outline.Outline.{Outline}
+use Rattle.scripts.specs.declared.deed.Deed.{Deed}
+use Rattle.scripts.specs.declared.deed.Deed.TheVariants as deed
+use Rattle.scripts.specs.declared.outline.Outline.{Outline}
 use Rattle.build_core.specs.declared.plan.Plan.{Plan}
-use Rattle.module_progress.specs.declared.progress.Progress.{Progress}
+use Rattle.event_core.specs.declared.module_steps.Progress.{Progress}
 use Rattle.event_core.specs.declared.entry.RunEntry.{RunEntry}
 use Rattle.mvn_shared.specs.Files.{Files}
-use Rattle.module_scripts.specs.Climbing.{but}
+use Rattle.scripts.specs.Climbing.{but}
 use Rattle.event_core.specs.Enabled.{Enabled, IsEnabled, IsRun, is_due, may_end_so}
 use Rattle.event_core.specs.Fitting.{IsFit, IsTied}
-use Rattle.module_scripts.specs.Outlines.{is_empty, is_listed, outline_of}
+use Rattle.scripts.specs.Outlines.{is_empty, is_listed, outline_of}
 use Rattle.event_core.specs.Runs.{events_of}
-use Rattle.module_scripts.specs.Scripts.{settled}
-use Rattle.module_progress.specs.HowFar.{is_over, is_waiting, progress_of}
+use Rattle.scripts.specs.Scripts.{settled}
+use Rattle.event_core.specs.HowFar.{is_over, is_waiting, progress_of}
 use Rattle.event_core.specs.Standing.{Course, Standing, after, after_deed, after_free, at_first, course_of, held_by, idle, is_complete, module_of, off_course, on_course, standing_of, start_of}
 use Rattle.event_core.specs.Worlds.{AllFit, Fits, HandTold}
-use Rattle.name_locks.specs.Locks.{hold}
-use Rattle.module_scripts.proofs.Climbs.{both}
+use Rattle.build_core.specs.Locks.{hold}
+use Rattle.scripts.proofs.Climbs.{both}
 use Rattle.event_core.proofs.Fits.{fit_after, fit_first, one_more, same_or_not}
 use Rattle.event_core.proofs.Ties.{deed_module, free_module, tied_after, tied_first, turned_module, waits_still}
 use Rattle.event_core.proofs.Weights.{nothing_is}

@@ -16,10 +16,10 @@ use Rattle.run_law.specs.Closed.{had_prefix, outputs_at, state_at}
 use Rattle.run_law.proofs.Invariants.{IsFetchFile, IsOwnFile, outs, supply_of}
 use Rattle.run_law.specs.Given.{Extends, IsPresent, supply_by}
 use Rattle.build_core.specs.OneThread.{Supply, is_built, name_of, one_thread}
-use Rattle.module_scripts.specs.Outlines.{is_listed, module_outline, outline_of}
+use Rattle.scripts.specs.Outlines.{is_listed, module_outline, outline_of}
 use Rattle.event_core.specs.Runs.{IsComplete, IsQuiet, IsRunOf, answers_in, contents, standing_of_run}
 use Rattle.event_core.specs.SoundPlans.{IsSoundPlan}
-use Rattle.module_progress.specs.HowFar.{state_of}
+use Rattle.event_core.specs.HowFar.{state_of}
 use Rattle.event_core.specs.Worlds.{AllFit, HandTold}
 use Rattle.run_law.proofs.Carried.{same_name}
 use Rattle.run_law.proofs.JudgedRuns.{core_ends}

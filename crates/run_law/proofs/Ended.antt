@@ -11,31 +11,31 @@ use Rattle.build_core.specs.declared.ending.Ending.TheVariants as ending
 use Rattle.build_core.specs.declared.plan.Entry.{Entry}
 use Rattle.build_core.specs.declared.event.Event.{Event}
 use Rattle.build_core.specs.declared.event.Event.TheVariants as event
-use Rattle.module_scripts.specs.declared.outline.Outline.{Outline}
-use Rattle.module_scripts.specs.declared.outline.ModuleOutline.{ModuleOutline}
+use Rattle.scripts.specs.declared.outline.Outline.{Outline}
+use Rattle.scripts.specs.declared.outline.ModuleOutline.{ModuleOutline}
 use Rattle.goal_types.specs.declared.goal.OwnBytes.{OwnBytes}
 use Rattle.build_core.specs.declared.plan.Plan.{Plan}
 use Rattle.build_core.specs.declared.plan.PlanModule.{PlanModule}
-use Rattle.module_progress.specs.declared.progress.Progress.{Progress}
-use Rattle.module_progress.specs.declared.progress.Progress.TheVariants.{Waiting, Running, Skipped, Ended}
+use Rattle.event_core.specs.declared.module_steps.Progress.{Progress}
+use Rattle.event_core.specs.declared.module_steps.Progress.TheVariants.{Waiting, Running, Skipped, Ended}
 use Rattle.event_core.specs.declared.entry.RunEntry.{RunEntry}
 use Rattle.build_core.specs.declared.ending.State.TheVariants as state
 use Rattle.run_law.specs.Closed.{Verdict, available, missing_of, total_len, verdict_of_fetch, verdict_of_goals, verdict_of_install}
-use Rattle.module_progress.specs.HowFar.{is_done, is_over, is_this, is_waiting, progress_of, upstream_of}
+use Rattle.event_core.specs.HowFar.{is_done, is_over, is_this, is_waiting, progress_of, upstream_of}
 use Rattle.event_core.specs.Enabled.{IsEnabled, ending_in_range, may_end_so, needs_artifact, off_ends, on_ends}
 use Rattle.run_law.proofs.Invariants.{AreCoursesFit, AreEnded, AreGathering, AreKept, IsCourseFit, IsGathering, IsPassed, IsShaped, IsStored, IsWanting, has_answer, is_begun, is_quiet_end, outs, pending, supply_of}
 use Rattle.run_law.specs.Given.{IsPresent}
 use Rattle.build_core.specs.OneThread.{Supply, answer_at, lacks_artifact, most_classpath, name_of, remote_bytes}
-use Rattle.module_scripts.specs.Outlines.{is_listed, module_outline, outline_of}
+use Rattle.scripts.specs.Outlines.{is_listed, module_outline, outline_of}
 use Rattle.event_core.specs.Runs.{answers_in, contents, goals_in, standing_of_run}
-use Rattle.module_scripts.specs.Scripts.{Script, absent, answers, answers_left, fetches, frees, is_there, is_to_install, may_end, may_publish, publishes, reads, stage_of, step, takes, wanted, whole}
-use Rattle.name_locks.specs.declared.mode.Mode.TheVariants.{Shared, Exclusive}
+use Rattle.scripts.specs.Scripts.{Script, absent, answers, answers_left, fetches, frees, is_there, is_to_install, may_end, may_publish, publishes, reads, stage_of, step, takes, wanted, whole}
+use Rattle.build_core.specs.declared.mode.Mode.TheVariants.{Shared, Exclusive}
 use Rattle.build_core.specs.Slots.{GoalsEnd, all_answered, goal_failed, kept_of, output_too_large, run_goals}
 use Rattle.event_core.specs.SoundPlans.{is_backed}
 use Rattle.event_core.specs.Standing.{Course, Standing, after, course_of, ended, goals_of, idle, module_of, off_course, on_course}
 use Rattle.event_core.specs.Worlds.{FitsEnd, HandTold, IsBeyond, IsWithin, has_failed_at, is_good, is_too_large_at, stood}
 use Rattle.run_law.proofs.Complete.{IsStanding}
-use Rattle.run_law.proofs.Gathering.{all_here, late_none, wanted_head}
+use Rattle.run_law.proofs.RunGathering.{all_here, late_none, wanted_head}
 use Rattle.run_law.proofs.Hand.{AreApart}
 use Rattle.run_law.proofs.Kept.{no_goals, outs_at, outs_none, outs_same}
 use Rattle.run_law.proofs.Once.{both, len_same, listed_first, listed_later}

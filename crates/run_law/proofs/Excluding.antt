@@ -3,12 +3,12 @@ use Rattle.std.proofs.Common.{◌≡◌, ℕ, zero, suc, ◌<◌, ◌⊎◌, inl
 use Rattle.std.proofs.lemmas.Bool.{eqb-true, false≢true}
 use Rattle.build_core.specs.declared.event.Event.{Event}
 use Rattle.build_core.specs.declared.event.Event.TheVariants as event
-use Rattle.name_locks.specs.declared.mode.Mode.{Mode}
-use Rattle.name_locks.specs.declared.mode.Mode.TheVariants.{Shared, Exclusive}
-use Rattle.module_scripts.specs.declared.outline.Outline.{Outline}
+use Rattle.build_core.specs.declared.mode.Mode.{Mode}
+use Rattle.build_core.specs.declared.mode.Mode.TheVariants.{Shared, Exclusive}
+use Rattle.scripts.specs.declared.outline.Outline.{Outline}
 use Rattle.event_core.specs.Enabled.{IsEnabled, IsRun}
-use Rattle.name_locks.specs.Locks.{Holds, below, blocker, blocks, excludes, hold, hold_in, with_hold}
-use Rattle.module_scripts.specs.Outlines.{is_listed}
+use Rattle.build_core.specs.Locks.{Holds, below, blocker, blocks, excludes, hold, hold_in, with_hold}
+use Rattle.scripts.specs.Outlines.{is_listed}
 use Rattle.event_core.specs.Standing.{Standing, after, at_first, standing_of}
 use Rattle.run_law.proofs.Complete.{IsStanding, by_events, standing_after, standing_first}
 use Rattle.run_law.proofs.Ended.{find_gone}

@@ -5,26 +5,26 @@ use Rattle.std.specs.Option.{option_or}
 use Rattle.std.proofs.lemmas.Bool.{false≢true}
 use Rattle.mvn_shared.specs.Files.{Files, file_at}
 use Rattle.event_core.specs.declared.entry.Carried.{Carried}
-use Rattle.module_scripts.specs.declared.deed.Deed.TheVariants as deed
+use Rattle.scripts.specs.declared.deed.Deed.TheVariants as deed
 use Rattle.build_core.specs.declared.ending.Ending.{Ending}
 use Rattle.build_core.specs.declared.ending.Ending.TheVariants as ending
 use Rattle.build_core.specs.declared.event.Event.{Event}
 use Rattle.build_core.specs.declared.event.Event.TheVariants as event
-use Rattle.module_scripts.specs.declared.outline.Outline.{Outline}
+use Rattle.scripts.specs.declared.outline.Outline.{Outline}
 use Rattle.build_core.specs.declared.plan.OwnFile.{OwnFile}
 use Rattle.build_core.specs.declared.plan.Plan.{Plan}
 use Rattle.build_core.specs.declared.plan.PlanModule.{PlanModule}
-use Rattle.module_progress.specs.declared.progress.Progress.TheVariants.{Ended}
+use Rattle.event_core.specs.declared.module_steps.Progress.TheVariants.{Ended}
 use Rattle.event_core.specs.declared.entry.RunEntry.{RunEntry}
 use Rattle.run_law.specs.Closed.{available, had_prefix}
 use Rattle.event_core.specs.Enabled.{Enabled, IsEnabled, ending_in_range, is_due, may_end_so, needs_artifact, off_ends, on_ends}
 use Rattle.run_law.proofs.Invariants.{IsCourseFit, IsFetchFile, IsGathering, IsPassed, IsShaped, IsWanting, is_begun, is_quiet_end, pending, supply_of}
 use Rattle.run_law.specs.Given.{IsPresent}
 use Rattle.build_core.specs.OneThread.{Supply, name_of, remote_bytes}
-use Rattle.module_scripts.specs.Outlines.{is_listed, module_outline, outline_of}
+use Rattle.scripts.specs.Outlines.{is_listed, module_outline, outline_of}
 use Rattle.event_core.specs.Runs.{IsRunOf, events_of, standing_of_run}
-use Rattle.module_scripts.specs.Scripts.{Script, answers_left, is_there, is_to_install, stage_of, wanted}
-use Rattle.module_progress.specs.HowFar.{progress_of}
+use Rattle.scripts.specs.Scripts.{Script, answers_left, is_there, is_to_install, stage_of, wanted}
+use Rattle.event_core.specs.HowFar.{progress_of}
 use Rattle.event_core.specs.Standing.{Course, Standing, after, at_first, course_of, ended, goals_of, idle, module_of, off_course, on_course, standing_of}
 use Rattle.event_core.specs.Worlds.{AllFit, Fits, FitsEnd, HandTold, stood}
 use Rattle.run_law.proofs.Complete.{by_entries, events_more}
@@ -32,7 +32,7 @@ use Rattle.run_law.proofs.JudgedRuns.{IsFitPlan, behind_first, behind_more, ende
 use Rattle.run_law.proofs.Courses.{due_file, there_grows}
 use Rattle.run_law.proofs.Ended.{Behind, begun_stays, end_none, install_late, listed_front, lt_is, set_cases, this_is}
 use Rattle.event_core.proofs.Fits.{one_more}
-use Rattle.run_law.proofs.Gathering.{all_here, late_none, wanted_head}
+use Rattle.run_law.proofs.RunGathering.{all_here, late_none, wanted_head}
 use Rattle.run_law.proofs.Once.{both, listed_first, listed_later}
 use Rattle.run_law.proofs.Ready.{all_listed, file_had}
 use Rattle.run_law.proofs.Step.{behind_of, end_on, place_of}

@@ -8,10 +8,10 @@ use Rattle.build_core.specs.declared.plan.Entry.{Entry}
 use Rattle.build_core.specs.declared.ending.State.TheVariants.{Waiting}
 use Rattle.build_core.specs.OneThread.{Progress, Supply, beginning, first_unbuilt, name_of, next_module, one_thread}
 use Rattle.run_law.specs.Closed.{AreJudged, Verdict, available, judge, outputs_at, state_at}
-use Rattle.module_scripts.specs.Outlines.{is_listed}
+use Rattle.scripts.specs.Outlines.{is_listed}
 use Rattle.event_core.specs.SoundPlans.{is_backed}
 use Rattle.run_law.proofs.Carried.{had}
-use Rattle.module_scripts.proofs.Dues.{below_or_not}
+use Rattle.scripts.proofs.Dues.{below_or_not}
 use Rattle.run_law.proofs.Hand.{AreApart, IsFetchFile, IsNext, next_is}
 use Rattle.run_law.proofs.Once.{judge_same}
 use Rattle.event_core.proofs.Weights.{nothing_is}

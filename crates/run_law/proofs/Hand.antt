@@ -18,7 +18,7 @@ use Rattle.build_core.specs.declared.ending.Ending.TheVariants as ending
 use Rattle.build_core.specs.Slots.{GoalsEnd, all_answered, goal_failed, output_too_large, run_goals}
 use Rattle.build_core.specs.OneThread.{Fetched, Progress, Supply, after_answers, after_fetch, after_goals, bytes_len, ends, entries_len, fetched, first_unbuilt, lacks_artifact, most_classpath, name_of, next_module, one_module, origin_bytes, own_bytes, path_entry, put_own, remote_bytes}
 use Rattle.run_law.specs.Closed.{Verdict, available, judge, missing_of, origin_len, outputs_at, state_at, total_len, verdict_of_fetch, verdict_of_goals, verdict_of_install, verdict_of_upstream}
-use Rattle.module_scripts.specs.Outlines.{is_listed}
+use Rattle.scripts.specs.Outlines.{is_listed}
 use Rattle.event_core.specs.SoundPlans.{is_backed}
 use Rattle.run_law.proofs.Carried.{IsFetched, at_insert, fetch_all, had}
 use Rattle.run_law.proofs.Once.{both, find_same, listed_first, listed_later}

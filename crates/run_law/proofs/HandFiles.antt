@@ -18,7 +18,7 @@ use Rattle.build_core.specs.Slots.{GoalsEnd, all_answered, goal_failed, output_t
 use Rattle.build_core.specs.OneThread.{Fetched, Progress, Supply, after_answers, after_fetch, after_goals, beginning, ends, fetched, first_unbuilt, installed, is_built, lacks_artifact, most_classpath, name_of, next_module, one_module, one_thread, own_bytes, put_own, remote_bytes, with_fetched}
 use Rattle.run_law.specs.Closed.{Verdict, available, had_prefix, judge, missing_of, outputs_at, state_at, total_len, verdict_of_fetch, verdict_of_goals, verdict_of_install, verdict_of_upstream}
 use Rattle.run_law.proofs.Invariants.{FilesDiffer, IsFetchFile, IsOwnFile}
-use Rattle.module_scripts.specs.Outlines.{is_listed}
+use Rattle.scripts.specs.Outlines.{is_listed}
 use Rattle.run_law.proofs.Carried.{IsFetched, Puts, at_insert, fetch_all, had, name_itself, put}
 use Rattle.run_law.proofs.JudgedRuns.{IsFitPlan}
 use Rattle.run_law.proofs.Fetches.{prefix_listed}

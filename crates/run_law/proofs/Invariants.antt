@@ -13,18 +13,18 @@ use Rattle.build_core.specs.declared.event.Answered.{Answered}
 use Rattle.build_core.specs.declared.ending.Ending.{Ending}
 use Rattle.build_core.specs.declared.ending.Ending.TheVariants as ending
 use Rattle.build_core.specs.declared.ending.State.TheVariants as state
-use Rattle.module_progress.specs.declared.progress.Progress.{Progress}
-use Rattle.module_progress.specs.declared.progress.Progress.TheVariants.{Running, Ended}
+use Rattle.event_core.specs.declared.module_steps.Progress.{Progress}
+use Rattle.event_core.specs.declared.module_steps.Progress.TheVariants.{Running, Ended}
 use Rattle.build_core.specs.Slots.{kept_of}
 use Rattle.build_core.specs.OneThread.{Supply, answer_at, most_classpath, name_of}
 use Rattle.run_law.specs.Closed.{Verdict, available, missing_of, total_len, verdict_of_fetch}
 use Rattle.event_core.specs.Runs.{goals_in}
-use Rattle.module_scripts.specs.declared.outline.Outline.{Outline}
-use Rattle.module_scripts.specs.declared.outline.ModuleOutline.{ModuleOutline}
-use Rattle.module_scripts.specs.Scripts.{Script, Step, absent, answers, fetches, is_there, may_publish, publishes, step, wanted, whole}
-use Rattle.module_progress.specs.HowFar.{progress_of}
+use Rattle.scripts.specs.declared.outline.Outline.{Outline}
+use Rattle.scripts.specs.declared.outline.ModuleOutline.{ModuleOutline}
+use Rattle.scripts.specs.Scripts.{Script, Step, absent, answers, fetches, is_there, may_publish, publishes, step, wanted, whole}
+use Rattle.event_core.specs.HowFar.{progress_of}
 use Rattle.event_core.specs.Standing.{Course, Standing, course_of, idle, off_course, on_course}
-use Rattle.module_scripts.specs.Outlines.{is_listed}
+use Rattle.scripts.specs.Outlines.{is_listed}
 
 -- the files of a script: those that are fetched, and behind them those that it is installed as
 abbrev pub files_fit : (fetch own : List ℕ) → Script → Bool

@@ -11,12 +11,12 @@ use Rattle.build_core.specs.declared.ending.Ending.TheVariants as ending
 use Rattle.build_core.specs.declared.plan.Entry.{Entry}
 use Rattle.build_core.specs.declared.event.Event.{Event}
 use Rattle.build_core.specs.declared.event.Event.TheVariants as event
-use Rattle.module_scripts.specs.declared.outline.ModuleOutline.{ModuleOutline}
-use Rattle.module_scripts.specs.declared.outline.Outline.{Outline}
+use Rattle.scripts.specs.declared.outline.ModuleOutline.{ModuleOutline}
+use Rattle.scripts.specs.declared.outline.Outline.{Outline}
 use Rattle.build_core.specs.declared.plan.Plan.{Plan}
 use Rattle.build_core.specs.declared.plan.PlanModule.{PlanModule}
-use Rattle.module_progress.specs.declared.progress.Progress.{Progress}
-use Rattle.module_progress.specs.declared.progress.Progress.TheVariants.{Waiting, Running, Skipped, Ended}
+use Rattle.event_core.specs.declared.module_steps.Progress.{Progress}
+use Rattle.event_core.specs.declared.module_steps.Progress.TheVariants.{Waiting, Running, Skipped, Ended}
 use Rattle.event_core.specs.declared.entry.RunEntry.{RunEntry}
 use Rattle.build_core.specs.declared.ending.State.{State}
 use Rattle.build_core.specs.declared.ending.State.TheVariants as state
@@ -25,10 +25,10 @@ use Rattle.event_core.specs.Enabled.{Enabled}
 use Rattle.run_law.proofs.Invariants.{AreCoursesFit, AreEnded, AreGathering, AreKept, FilesDiffer, IsStored, OwnApart, has_answer, is_begun, is_quiet_end, outs, supply_of}
 use Rattle.run_law.specs.Given.{Extends, IsPresent, is_kept, reaches, supply_by}
 use Rattle.build_core.specs.OneThread.{Supply, is_built, one_thread}
-use Rattle.module_scripts.specs.Outlines.{is_listed, module_outline, outline_of}
+use Rattle.scripts.specs.Outlines.{is_listed, module_outline, outline_of}
 use Rattle.event_core.specs.Runs.{IsComplete, IsQuiet, IsRunOf, answers_in, contents, events_of, is_quiet_event, put_carried, standing_of_run}
 use Rattle.event_core.specs.SoundPlans.{is_backed}
-use Rattle.module_progress.specs.HowFar.{first_lost, first_not_built, is_done, is_lost, is_over, progress_of, state_of, upstream_of}
+use Rattle.event_core.specs.HowFar.{first_lost, first_not_built, is_done, is_lost, is_over, progress_of, state_of, upstream_of}
 use Rattle.event_core.specs.Standing.{Standing, after, course_of, ended, module_of, standing_of}
 use Rattle.event_core.specs.Worlds.{AllFit, Fits, HandTold}
 use Rattle.run_law.proofs.Complete.{IsStanding, all_over, by_entries, events_more, standing_after, standing_first}
@@ -36,7 +36,7 @@ use Rattle.run_law.proofs.Courses.{courses_after, courses_first}
 use Rattle.run_law.proofs.Ended.{Behind, set_cases}
 use Rattle.event_core.proofs.Fits.{fold_more, one_more}
 use Rattle.run_law.proofs.Fold.{hand_judged, in_list}
-use Rattle.run_law.proofs.Gathering.{gathering_after, gathering_first}
+use Rattle.run_law.proofs.RunGathering.{gathering_after, gathering_first}
 use Rattle.run_law.proofs.Hand.{AreApart}
 use Rattle.run_law.proofs.Kept.{answers_more, outs_none}
 use Rattle.run_law.proofs.Once.{both, find_same, judged_once}

@@ -9,11 +9,11 @@ use Rattle.mvn_shared.specs.Files.{Files, file_at}
 use Rattle.build_core.specs.declared.event.Answered.{Answered}
 use Rattle.event_core.specs.declared.entry.Carried.{Carried}
 use Rattle.event_core.specs.declared.entry.Carried.TheVariants as carried
-use Rattle.module_scripts.specs.declared.deed.Deed.TheVariants as deed
+use Rattle.scripts.specs.declared.deed.Deed.TheVariants as deed
 use Rattle.build_core.specs.declared.event.Event.{Event}
 use Rattle.build_core.specs.declared.event.Event.TheVariants as event
-use Rattle.name_locks.specs.declared.mode.Mode.TheVariants.{Exclusive}
-use Rattle.module_scripts.specs.declared.outline.Outline.{Outline}
+use Rattle.build_core.specs.declared.mode.Mode.TheVariants.{Exclusive}
+use Rattle.scripts.specs.declared.outline.Outline.{Outline}
 use Rattle.build_core.specs.declared.plan.OwnFile.{OwnFile}
 use Rattle.build_core.specs.declared.plan.Plan.{Plan}
 use Rattle.build_core.specs.declared.plan.PlanModule.{PlanModule}
@@ -21,13 +21,13 @@ use Rattle.event_core.specs.declared.entry.RunEntry.{RunEntry}
 use Rattle.event_core.specs.Enabled.{Enabled, IsEnabled, IsRun, is_due}
 use Rattle.run_law.specs.Given.{Extends, Given, IsBetween, IsCover, IsFitting, is_answer, outputs_after}
 use Rattle.run_law.proofs.Invariants.{IsFetchFile, IsOwnFile, files_fit}
-use Rattle.name_locks.specs.Locks.{hold}
+use Rattle.build_core.specs.Locks.{hold}
 use Rattle.build_core.specs.OneThread.{answer_at, name_of}
-use Rattle.module_scripts.specs.Outlines.{is_listed, module_outline, outline_of}
+use Rattle.scripts.specs.Outlines.{is_listed, module_outline, outline_of}
 use Rattle.event_core.specs.Runs.{IsComplete, IsRunOf, answers_from, answers_in, contents, events_of, kept_by, module_by, standing_of_run}
-use Rattle.module_scripts.specs.Scripts.{Script, is_there, wanted}
+use Rattle.scripts.specs.Scripts.{Script, is_there, wanted}
 use Rattle.event_core.specs.SoundPlans.{IsSoundPlan}
-use Rattle.module_progress.specs.HowFar.{is_over, progress_of}
+use Rattle.event_core.specs.HowFar.{is_over, progress_of}
 use Rattle.event_core.specs.Standing.{Standing, after, course_of, module_of, on_course, standing_of}
 use Rattle.event_core.specs.Worlds.{AllFit, HandTold, publishes, was_published}
 use Rattle.run_law.proofs.Absent.{Stands, found, stands}

@@ -4,25 +4,25 @@ use Rattle.std.specs.List.{list_all}
 use Rattle.std.specs.Option.{option_map_or}
 use Rattle.std.proofs.lemmas.Bool.{eqb-true, false≢true}
 use Rattle.std.proofs.lemmas.List.{get_or-set_other, get_or-set_same}
-use Rattle.module_scripts.specs.declared.deed.Deed.{Deed}
-use Rattle.module_scripts.specs.declared.deed.Deed.TheVariants as deed
-use Rattle.name_locks.specs.declared.mode.Mode.TheVariants.{Shared, Exclusive}
+use Rattle.scripts.specs.declared.deed.Deed.{Deed}
+use Rattle.scripts.specs.declared.deed.Deed.TheVariants as deed
+use Rattle.build_core.specs.declared.mode.Mode.TheVariants.{Shared, Exclusive}
 use Rattle.build_core.specs.declared.ending.Ending.{Ending}
 use Rattle.build_core.specs.declared.ending.Ending.TheVariants as ending
 use Rattle.build_core.specs.declared.event.Event.{Event}
 use Rattle.build_core.specs.declared.event.Event.TheVariants as event
-use Rattle.module_scripts.specs.declared.outline.Outline.{Outline}
-use Rattle.module_scripts.specs.declared.outline.ModuleOutline.{ModuleOutline}
-use Rattle.module_progress.specs.declared.progress.Progress.{Progress}
-use Rattle.module_progress.specs.declared.progress.Progress.TheVariants.{Waiting, Running, Skipped, Ended}
-use Rattle.module_scripts.specs.Climbing.{but}
-use Rattle.module_progress.specs.HowFar.{is_over, is_this, is_waiting, progress_of}
+use Rattle.scripts.specs.declared.outline.Outline.{Outline}
+use Rattle.scripts.specs.declared.outline.ModuleOutline.{ModuleOutline}
+use Rattle.event_core.specs.declared.module_steps.Progress.{Progress}
+use Rattle.event_core.specs.declared.module_steps.Progress.TheVariants.{Waiting, Running, Skipped, Ended}
+use Rattle.scripts.specs.Climbing.{but}
+use Rattle.event_core.specs.HowFar.{is_over, is_this, is_waiting, progress_of}
 use Rattle.event_core.specs.Enabled.{IsEnabled, is_due, may_end_so, needs_artifact, on_ends, off_ends}
 use Rattle.run_law.proofs.Invariants.{pending}
-use Rattle.name_locks.specs.Locks.{below}
-use Rattle.module_scripts.specs.Scripts.{Script, Step, absent, answers, choice_script, done, fetches, frees, install_script, is_gathered, is_there, is_to_install, is_wanted, lock_script, may_publish, own_script, publishes, read_script, reads, release_script, script_of, settled, step, steps, takes, wanted, whole}
+use Rattle.build_core.specs.Locks.{below}
+use Rattle.scripts.specs.Scripts.{Script, Step, absent, answers, choice_script, done, fetches, frees, install_script, is_gathered, is_there, is_to_install, is_wanted, lock_script, may_publish, own_script, publishes, read_script, reads, release_script, script_of, settled, step, steps, takes, wanted, whole}
 use Rattle.event_core.specs.Standing.{Course, Standing, after, after_deed, after_free, after_publish, at_first, course_of, ended, goals_of, held_by, idle, module_of, off_course, on_course, start_of}
-use Rattle.module_scripts.specs.Outlines.{is_empty}
+use Rattle.scripts.specs.Outlines.{is_empty}
 use Rattle.run_law.proofs.Complete.{IsStanding}
 use Rattle.run_law.proofs.Courses.{at_place}
 use Rattle.event_core.proofs.Fits.{same_or_not}

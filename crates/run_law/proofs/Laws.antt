@@ -7,35 +7,35 @@ use Rattle.mvn_shared.specs.Files.{Files}
 use Rattle.build_core.specs.declared.event.Answered.{Answered}
 use Rattle.build_core.specs.declared.ending.Ending.{Ending}
 use Rattle.build_core.specs.declared.ending.Ending.TheVariants as ending
-use Rattle.module_scripts.specs.declared.outline.ModuleOutline.{ModuleOutline}
+use Rattle.scripts.specs.declared.outline.ModuleOutline.{ModuleOutline}
 use Rattle.goal_types.specs.declared.goal.OwnBytes.{OwnBytes}
 use Rattle.build_core.specs.declared.plan.Plan.{Plan}
 use Rattle.build_core.specs.declared.plan.PlanModule.{PlanModule}
-use Rattle.module_progress.specs.declared.progress.Progress.{Progress}
-use Rattle.module_progress.specs.declared.progress.Progress.TheVariants.{Waiting, Running, Skipped, Ended}
+use Rattle.event_core.specs.declared.module_steps.Progress.{Progress}
+use Rattle.event_core.specs.declared.module_steps.Progress.TheVariants.{Waiting, Running, Skipped, Ended}
 use Rattle.event_core.specs.declared.entry.RunEntry.{RunEntry}
 use Rattle.build_core.specs.declared.ending.State.{State}
 use Rattle.build_core.specs.declared.ending.State.TheVariants as state
 use Rattle.run_law.specs.Closed.{AreJudged, outputs_at, state_at}
 use Rattle.run_law.specs.Given.{Answers, Extends, Given, IsBetween, IsFitting, IsUntouched, IsWhole, is_fault, is_kept, sequential, outputs_after, reaches, state_after, states_after, supply_by, untouched}
 use Rattle.run_law.proofs.Invariants.{is_quiet_end, outs}
-use Rattle.name_locks.specs.Locks.{below}
+use Rattle.build_core.specs.Locks.{below}
 use Rattle.build_core.specs.OneThread.{Supply, beginning, one_thread}
-use Rattle.module_scripts.specs.Outlines.{is_listed, module_outline, outline_of}
+use Rattle.scripts.specs.Outlines.{is_listed, module_outline, outline_of}
 use Rattle.event_core.specs.Runs.{IsComplete, answers_in, contents, outputs_from, outputs_in, standing_of_run}
 use Rattle.event_core.specs.SoundPlans.{IsSoundPlan}
-use Rattle.module_progress.specs.HowFar.{first_lost, progress_of}
+use Rattle.event_core.specs.HowFar.{first_lost, progress_of}
 use Rattle.run_law.proofs.Betweens.{ended_alike, lies}
 use Rattle.run_law.proofs.JudgedRuns.{IsFitPlan, behind_all, core_ends, isolation, run_judged}
 use Rattle.run_law.proofs.Contents.{core, sound_owns}
 use Rattle.run_law.proofs.Fold.{IsSoFar, fold_judged, hand_judged, in_list}
 use Rattle.run_law.proofs.Kept.{outputs_are}
-use Rattle.module_scripts.proofs.ScriptPlaces.{length_below}
+use Rattle.scripts.proofs.ScriptPlaces.{length_below}
 use Rattle.run_law.proofs.Reruns.{ends_again, files_again}
 use Rattle.run_law.proofs.Sounds.{sound_fit}
 use Rattle.run_law.proofs.Stored.{get_in, get_map, length_map}
 use Rattle.run_law.proofs.Telling.{all_told, fits_all, told}
-use Rattle.module_scripts.specs.Bounds.{most_events}
+use Rattle.scripts.specs.Bounds.{most_events}
 use Rattle.run_law.proofs.AllAnswered.{all_answered_in}
 use Rattle.run_law.proofs.Once.{judged_once}
 use Rattle.run_law.proofs.Lengths.{all_fit}

@@ -9,18 +9,18 @@ use Rattle.mvn_shared.specs.Files.{Files, file_at}
 use Rattle.build_core.specs.declared.event.Answered.{Answered}
 use Rattle.event_core.specs.declared.entry.Carried.{Carried}
 use Rattle.event_core.specs.declared.entry.Carried.TheVariants as carried
-use Rattle.module_scripts.specs.declared.deed.Deed.TheVariants as deed
+use Rattle.scripts.specs.declared.deed.Deed.TheVariants as deed
 use Rattle.build_core.specs.declared.ending.Ending.{Ending}
 use Rattle.build_core.specs.declared.ending.Ending.TheVariants as ending
 use Rattle.build_core.specs.declared.event.Event.{Event}
 use Rattle.build_core.specs.declared.event.Event.TheVariants as event
-use Rattle.module_scripts.specs.declared.outline.Outline.{Outline}
+use Rattle.scripts.specs.declared.outline.Outline.{Outline}
 use Rattle.goal_types.specs.declared.goal.OwnBytes.{OwnBytes}
 use Rattle.build_core.specs.declared.plan.OwnFile.{OwnFile}
 use Rattle.build_core.specs.declared.plan.Plan.{Plan}
 use Rattle.build_core.specs.declared.plan.PlanModule.{PlanModule}
-use Rattle.module_progress.specs.declared.progress.Progress.{Progress}
-use Rattle.module_progress.specs.declared.progress.Progress.TheVariants.{Waiting, Running, Skipped, Ended}
+use Rattle.event_core.specs.declared.module_steps.Progress.{Progress}
+use Rattle.event_core.specs.declared.module_steps.Progress.TheVariants.{Waiting, Running, Skipped, Ended}
 use Rattle.event_core.specs.declared.entry.RunEntry.{RunEntry}
 use Rattle.build_core.specs.declared.ending.State.{State}
 use Rattle.build_core.specs.declared.ending.State.TheVariants as state
@@ -29,11 +29,11 @@ use Rattle.event_core.specs.Enabled.{Enabled, IsEnabled, is_due}
 use Rattle.run_law.proofs.Invariants.{IsCourseFit, IsFetchFile, IsOwnFile, is_begun, is_quiet_end, outs, supply_of}
 use Rattle.run_law.specs.Given.{IsPresent}
 use Rattle.build_core.specs.OneThread.{Supply, answer_at, is_built, lacks_artifact, most_classpath, name_of, own_bytes}
-use Rattle.module_scripts.specs.Outlines.{is_listed, module_outline, outline_of}
+use Rattle.scripts.specs.Outlines.{is_listed, module_outline, outline_of}
 use Rattle.event_core.specs.Runs.{IsComplete, IsQuiet, IsRunOf, answers_in, contents, events_of, goals_in, kept_by, put_carried, standing_of_run}
-use Rattle.module_scripts.specs.Scripts.{Script, is_there, wanted}
+use Rattle.scripts.specs.Scripts.{Script, is_there, wanted}
 use Rattle.build_core.specs.Slots.{GoalsEnd, all_answered, goal_failed, kept_of, output_too_large, run_goals}
-use Rattle.module_progress.specs.HowFar.{is_done, is_over, progress_of, state_of}
+use Rattle.event_core.specs.HowFar.{is_done, is_over, progress_of, state_of}
 use Rattle.event_core.specs.Standing.{Standing, after, course_of, ended, module_of, on_course, standing_of}
 use Rattle.event_core.specs.Worlds as worlds
 use Rattle.event_core.specs.Worlds.{AllFit, Fits, FitsEnd, HandTold, stood}

@@ -8,27 +8,27 @@ use Rattle.build_core.specs.declared.plan.Entry.{Entry}
 use Rattle.build_core.specs.declared.plan.Origin.{Origin}
 use Rattle.build_core.specs.declared.plan.Origin.TheVariants as origin
 use Rattle.build_core.specs.declared.plan.OwnFile.{OwnFile}
-use Rattle.name_locks.specs.declared.mode.Mode.TheVariants.{Shared, Exclusive}
-use Rattle.module_scripts.specs.declared.outline.Outline.{Outline}
-use Rattle.module_scripts.specs.declared.outline.ModuleOutline.{ModuleOutline}
+use Rattle.build_core.specs.declared.mode.Mode.TheVariants.{Shared, Exclusive}
+use Rattle.scripts.specs.declared.outline.Outline.{Outline}
+use Rattle.scripts.specs.declared.outline.ModuleOutline.{ModuleOutline}
 use Rattle.build_core.specs.declared.plan.Plan.{Plan}
 use Rattle.build_core.specs.declared.plan.PlanModule.{PlanModule}
 use Rattle.event_core.specs.declared.entry.RunEntry.{RunEntry}
 use Rattle.event_core.specs.EventsLeft.{events_left}
-use Rattle.module_scripts.specs.Bounds.{module_events, most_events, script_events, step_events, total}
-use Rattle.module_scripts.specs.Climbing.{but}
+use Rattle.scripts.specs.Bounds.{module_events, most_events, script_events, step_events, total}
+use Rattle.scripts.specs.Climbing.{but}
 use Rattle.event_core.specs.Enabled.{Enabled, IsRun}
 use Rattle.event_core.specs.Fitting.{IsFit}
-use Rattle.name_locks.specs.Locks.{below}
-use Rattle.module_scripts.specs.Outlines.{files_of, files_read, is_listed, module_outline, once_more, outline_of}
+use Rattle.build_core.specs.Locks.{below}
+use Rattle.scripts.specs.Outlines.{files_of, files_read, is_listed, module_outline, once_more, outline_of}
 use Rattle.event_core.specs.Runs.{IsRunOf, events_of}
-use Rattle.module_scripts.specs.Scripts.{Script, Step, answers, choice_script, fetches, frees, install_script, may_publish, own_script, read_script, reads, release_script, step, steps, takes, whole}
+use Rattle.scripts.specs.Scripts.{Script, Step, answers, choice_script, fetches, frees, install_script, may_publish, own_script, read_script, reads, release_script, step, steps, takes, whole}
 use Rattle.event_core.specs.SoundPlans.{IsSoundPlan, IsSoundPlanModule, greatest_events, is_backed}
 use Rattle.event_core.specs.Standing.{standing_of}
-use Rattle.module_scripts.proofs.Climbs.{but_shorter, listed_but, listed_last, listed_more}
+use Rattle.scripts.proofs.Climbs.{but_shorter, listed_but, listed_last, listed_more}
 use Rattle.event_core.proofs.Fits.{fewer_after, fit_after, fit_first, most_first, one_more, same_or_not}
 use Rattle.run_law.proofs.Once.{both, listed_first, listed_later}
-use Rattle.module_scripts.proofs.ScriptPlaces.{length_below}
+use Rattle.scripts.proofs.ScriptPlaces.{length_below}
 
 -- there is an event for each entry
 events_long : (entries : List RunEntry) → length (events_of entries) ≡ length entries

@@ -1,3 +1,12 @@
+pub mod Fitting
+pub mod Staying
+pub mod Answering
+pub mod Ending
+pub mod Freeing
+pub mod Leaving
+pub mod Orders
+pub mod Paths
+pub mod Settling
 pub mod Absent
 pub mod AllAnswered
 pub mod Alone
@@ -14,7 +23,7 @@ pub mod Excluding
 pub mod Extending
 pub mod Fetches
 pub mod Fold
-pub mod Gathering
+pub mod RunGathering
 pub mod Hand
 pub mod HandFiles
 pub mod Invariants

@@ -11,7 +11,7 @@ use Rattle.build_core.specs.declared.plan.Origin.TheVariants as origin
 use Rattle.build_core.specs.declared.ending.State.{State}
 use Rattle.build_core.specs.OneThread.{Supply, bytes_len, is_built, output_of}
 use Rattle.run_law.specs.Closed.{AreJudged, Verdict, judge, missing_of, origin_len, total_len, verdict_of_fetch, verdict_of_upstream}
-use Rattle.module_scripts.specs.Outlines.{is_listed}
+use Rattle.scripts.specs.Outlines.{is_listed}
 use Rattle.event_core.specs.SoundPlans.{is_backed}
 
 -- a search is the same by two tests that agree on what is listed

@@ -4,12 +4,12 @@ use Rattle.std.proofs.lemmas.Bool.{false≢true}
 use Rattle.std.proofs.lemmas.List.{get_or-set_other}
 use Rattle.build_core.specs.declared.event.Event.{Event}
 use Rattle.build_core.specs.declared.event.Event.TheVariants as event
-use Rattle.module_scripts.specs.declared.outline.Outline.{Outline}
-use Rattle.module_progress.specs.declared.progress.Progress.{Progress}
-use Rattle.module_progress.specs.declared.progress.Progress.TheVariants.{Waiting, Running, Skipped, Ended}
+use Rattle.scripts.specs.declared.outline.Outline.{Outline}
+use Rattle.event_core.specs.declared.module_steps.Progress.{Progress}
+use Rattle.event_core.specs.declared.module_steps.Progress.TheVariants.{Waiting, Running, Skipped, Ended}
 use Rattle.event_core.specs.Enabled.{IsEnabled}
 use Rattle.run_law.proofs.Invariants.{is_begun}
-use Rattle.module_progress.specs.HowFar.{first_lost, first_not_built, is_done, is_lost, is_over, is_waiting, progress_of, upstream_of}
+use Rattle.event_core.specs.HowFar.{first_lost, first_not_built, is_done, is_lost, is_over, is_waiting, progress_of, upstream_of}
 use Rattle.event_core.specs.Standing.{Standing, after, at_first, course_of, ended, module_of}
 use Rattle.run_law.proofs.Complete.{IsStanding}
 use Rattle.event_core.proofs.Fits.{same_or_not}

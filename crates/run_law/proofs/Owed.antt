@@ -4,17 +4,17 @@ use Rattle.std.specs.List.{list_all}
 use Rattle.std.proofs.lemmas.Bool.{eqb-true, false≢true, lt-ltb}
 use Rattle.std.proofs.lemmas.Cmp.{nat_eq_equiv}
 use Rattle.run_law.proofs.Ended.{lt_is}
-use Rattle.module_scripts.specs.declared.deed.Deed.{Deed}
-use Rattle.module_scripts.specs.declared.deed.Deed.TheVariants as deed
-use Rattle.name_locks.specs.declared.mode.Mode.TheVariants.{Shared, Exclusive}
-use Rattle.module_scripts.specs.declared.outline.ModuleOutline.{ModuleOutline}
-use Rattle.module_scripts.specs.Climbing.{Climbs}
-use Rattle.name_locks.specs.Locks.{below}
-use Rattle.module_scripts.specs.Outlines.{is_listed}
-use Rattle.module_scripts.proofs.Climbs.{all_more, climbs_more}
+use Rattle.scripts.specs.declared.deed.Deed.{Deed}
+use Rattle.scripts.specs.declared.deed.Deed.TheVariants as deed
+use Rattle.build_core.specs.declared.mode.Mode.TheVariants.{Shared, Exclusive}
+use Rattle.scripts.specs.declared.outline.ModuleOutline.{ModuleOutline}
+use Rattle.scripts.specs.Climbing.{Climbs}
+use Rattle.build_core.specs.Locks.{below}
+use Rattle.scripts.specs.Outlines.{is_listed}
+use Rattle.scripts.proofs.Climbs.{all_more, climbs_more}
 use Rattle.run_law.proofs.Excluding.{listed_below}
 use Rattle.run_law.proofs.Once.{both}
-use Rattle.module_scripts.specs.Scripts.{Script, Step, absent, choice_script, install_script, is_to_install, own_script, read_script, release_script, script_of, steps, answers, done, fetches, frees, is_there, is_wanted, may_publish, publishes, reads, settled, step, takes, whole}
+use Rattle.scripts.specs.Scripts.{Script, Step, absent, choice_script, install_script, is_to_install, own_script, read_script, release_script, script_of, steps, answers, done, fetches, frees, is_there, is_wanted, may_publish, publishes, reads, settled, step, takes, whole}
 use Rattle.event_core.proofs.Weights.{nothing_is}
 use Rattle.run_law.proofs.Basics.{chosen}
 

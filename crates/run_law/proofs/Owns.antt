@@ -9,25 +9,25 @@ use Rattle.mvn_shared.specs.Files.{Files, file_at}
 use Rattle.build_core.specs.declared.event.Answered.{Answered}
 use Rattle.event_core.specs.declared.entry.Carried.{Carried}
 use Rattle.event_core.specs.declared.entry.Carried.TheVariants as carried
-use Rattle.module_scripts.specs.declared.deed.Deed.TheVariants as deed
+use Rattle.scripts.specs.declared.deed.Deed.TheVariants as deed
 use Rattle.build_core.specs.declared.event.Event.{Event}
 use Rattle.build_core.specs.declared.event.Event.TheVariants as event
-use Rattle.module_scripts.specs.declared.outline.Outline.{Outline}
+use Rattle.scripts.specs.declared.outline.Outline.{Outline}
 use Rattle.build_core.specs.declared.plan.OwnFile.{OwnFile}
 use Rattle.build_core.specs.declared.plan.Plan.{Plan}
 use Rattle.build_core.specs.declared.plan.PlanModule.{PlanModule}
-use Rattle.module_progress.specs.declared.progress.Progress.{Progress}
-use Rattle.module_progress.specs.declared.progress.Progress.TheVariants.{Running}
+use Rattle.event_core.specs.declared.module_steps.Progress.{Progress}
+use Rattle.event_core.specs.declared.module_steps.Progress.TheVariants.{Running}
 use Rattle.event_core.specs.declared.entry.RunEntry.{RunEntry}
 use Rattle.run_law.specs.Closed.{total_len}
 use Rattle.event_core.specs.Enabled.{Enabled, IsEnabled, is_due}
 use Rattle.run_law.proofs.Invariants.{IsCourseFit, IsGathering, files_fit, is_begun, outs, pending, supply_of}
 use Rattle.run_law.specs.Given.{IsPresent, is_answer, is_kept}
 use Rattle.build_core.specs.OneThread.{Supply, answer_at, lacks_artifact, most_classpath, name_of}
-use Rattle.module_scripts.specs.Outlines.{is_listed, module_outline, outline_of}
+use Rattle.scripts.specs.Outlines.{is_listed, module_outline, outline_of}
 use Rattle.event_core.specs.Runs.{IsRunOf, answers_in, contents, events_of, kept_by, put_carried, standing_of_run}
-use Rattle.module_scripts.specs.Scripts.{Script, absent, answers, fetches, frees, may_publish, publishes, reads, step, takes, wanted, whole}
-use Rattle.module_progress.specs.HowFar.{is_over, progress_of}
+use Rattle.scripts.specs.Scripts.{Script, absent, answers, fetches, frees, may_publish, publishes, reads, step, takes, wanted, whole}
+use Rattle.event_core.specs.HowFar.{is_over, progress_of}
 use Rattle.event_core.specs.Standing.{Standing, after, course_of, module_of, on_course, standing_of}
 use Rattle.event_core.specs.Worlds as worlds
 use Rattle.event_core.specs.Worlds.{AllFit, Fits, FitsBehind, FitsBytes, HandTold, is_answered, is_good, stood}
@@ -37,7 +37,7 @@ use Rattle.run_law.proofs.JudgedRuns.{IsFitPlan, behind_first, behind_more}
 use Rattle.run_law.proofs.Courses.{due_file}
 use Rattle.run_law.proofs.Ended.{Behind, len_stays}
 use Rattle.event_core.proofs.Fits.{fold_more, one_more, same_or_not}
-use Rattle.run_law.proofs.Gathering.{all_here}
+use Rattle.run_law.proofs.RunGathering.{all_here}
 use Rattle.run_law.proofs.Kept.{answers_more, other_answers, outs_at, outs_same}
 use Rattle.run_law.proofs.Lates.{AreOwnsLate, IsLate, IsLateAt, is_late, late_begins, late_deed, late_pending, late_stays, owns_after, owns_first}
 use Rattle.run_law.proofs.Once.{both}

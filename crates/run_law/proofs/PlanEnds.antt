@@ -3,7 +3,7 @@ use Rattle.std.proofs.Common.{◌≡◌, ℕ, ◌+◌, nat_le, true, false, List
 use Rattle.std.proofs.lemmas.Bool.{false≢true}
 use Rattle.std.proofs.lemmas.List.{length-replicate}
 use Rattle.mvn_shared.specs.Files.{Files, file_at}
-use Rattle.name_locks.specs.declared.mode.Mode.TheVariants.{Shared, Exclusive}
+use Rattle.build_core.specs.declared.mode.Mode.TheVariants.{Shared, Exclusive}
 use Rattle.goal_types.specs.declared.goal.GoalAnswer.{GoalAnswer}
 use Rattle.goal_types.specs.declared.goal.GoalAnswer.TheVariants.{Done, Failed, Produced}
 use Rattle.build_core.specs.declared.event.Event.{Event}
@@ -12,7 +12,7 @@ use Rattle.build_core.specs.declared.ending.Ending.TheVariants as ending
 use Rattle.event_core.specs.declared.entry.RunEntry.{RunEntry}
 use Rattle.event_core.specs.Causes.{cause_now}
 use Rattle.build_core.specs.OneThread.{bytes_len, most_classpath, most_fetched, remote_bytes}
-use Rattle.module_scripts.specs.Outlines.{outline_of}
+use Rattle.scripts.specs.Outlines.{outline_of}
 use Rattle.event_core.specs.Runs.{IsComplete, IsQuiet, IsRunOf, events_of}
 use Rattle.event_core.specs.Standing.{after}
 use Rattle.event_core.specs.Worlds.{AllFit, HandTold}

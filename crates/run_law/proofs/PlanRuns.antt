@@ -1,7 +1,7 @@
 -- Runs on the sample plan, which the checker computes: two workers fetch, read, answer and install; each fits.
 use Rattle.std.proofs.Common.{Bool, List, None, Option, Some, ℕ, [], ap, false, nat_eq, nat_le, refl, sym, take, true, ◌+◌, ◌∙◌, ◌∷◌, ◌≡◌}
 use Rattle.mvn_shared.specs.Files.{Files, file_at}
-use Rattle.name_locks.specs.declared.mode.Mode.TheVariants.{Shared, Exclusive}
+use Rattle.build_core.specs.declared.mode.Mode.TheVariants.{Shared, Exclusive}
 use Rattle.goal_types.specs.declared.goal.GoalAnswer.{GoalAnswer}
 use Rattle.goal_types.specs.declared.goal.GoalAnswer.TheVariants.{Done, Produced}
 use Rattle.build_core.specs.declared.event.Event.{Event}
@@ -14,7 +14,7 @@ use Rattle.event_core.specs.Runs.{IsComplete, IsQuiet, IsRunOf, contents, events
 use Rattle.std.specs.FinMap as finite
 use Rattle.build_core.specs.OneThread.{bytes_len, most_classpath, remote_bytes}
 use Rattle.run_law.proofs.Carried.{at_insert}
-use Rattle.module_scripts.specs.Outlines.{outline_of}
+use Rattle.scripts.specs.Outlines.{outline_of}
 use Rattle.event_core.specs.Standing.{after}
 use Rattle.event_core.specs.Worlds.{AllFit, Fits, HandTold}
 use Rattle.run_law.specs.SamplePlan.{plan}

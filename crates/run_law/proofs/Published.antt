@@ -2,14 +2,14 @@
 use Rattle.std.proofs.Common.{◌≡◌, ℕ, ◌⊎◌, inl, inr, Bool, true, false, ◌&&◌, ◌||◌, nat_eq, List, [], ◌∷◌, Some, unwrap_or, refl, sym, ap, subst, if◌then◌else◌}
 use Rattle.std.specs.List.{IsDistinct, AllByRecursion, list_all}
 use Rattle.std.proofs.lemmas.Bool.{eqb-true, false≢true}
-use Rattle.module_scripts.specs.declared.deed.Deed.{Deed}
-use Rattle.module_scripts.specs.declared.deed.Deed.TheVariants as deed
-use Rattle.name_locks.specs.declared.mode.Mode.TheVariants.{Shared, Exclusive}
-use Rattle.module_scripts.specs.declared.outline.ModuleOutline.{ModuleOutline}
+use Rattle.scripts.specs.declared.deed.Deed.{Deed}
+use Rattle.scripts.specs.declared.deed.Deed.TheVariants as deed
+use Rattle.build_core.specs.declared.mode.Mode.TheVariants.{Shared, Exclusive}
+use Rattle.scripts.specs.declared.outline.ModuleOutline.{ModuleOutline}
 use Rattle.run_law.proofs.Invariants.{files_fit}
-use Rattle.name_locks.specs.Locks.{below}
-use Rattle.module_scripts.specs.Outlines.{is_listed}
-use Rattle.module_scripts.specs.Scripts.{Script, Step, absent, answers, choice_script, done, fetches, frees, install_script, is_there, is_wanted, may_publish, own_script, publishes, read_script, reads, release_script, script_of, settled, step, steps, takes, whole}
+use Rattle.build_core.specs.Locks.{below}
+use Rattle.scripts.specs.Outlines.{is_listed}
+use Rattle.scripts.specs.Scripts.{Script, Step, absent, answers, choice_script, done, fetches, frees, install_script, is_there, is_wanted, may_publish, own_script, publishes, read_script, reads, release_script, script_of, settled, step, steps, takes, whole}
 use Rattle.run_law.proofs.Courses.{start_fit}
 use Rattle.run_law.proofs.Once.{both}
 use Rattle.event_core.proofs.Weights.{nothing_is}

@@ -4,26 +4,26 @@ use Rattle.std.specs.List.{list_any}
 use Rattle.std.specs.Option.{option_map_or}
 use Rattle.std.proofs.lemmas.Bool.{eqb-true, false≢true}
 use Rattle.std.proofs.lemmas.List.{append-nil, append_assoc, get_or-set_other, get_or-set_same, length-set}
-use Rattle.module_scripts.specs.declared.deed.Deed.{Deed}
-use Rattle.module_scripts.specs.declared.deed.Deed.TheVariants as deed
+use Rattle.scripts.specs.declared.deed.Deed.{Deed}
+use Rattle.scripts.specs.declared.deed.Deed.TheVariants as deed
 use Rattle.build_core.specs.declared.ending.Ending.{Ending}
 use Rattle.build_core.specs.declared.event.Event.{Event}
 use Rattle.build_core.specs.declared.event.Event.TheVariants as event
-use Rattle.module_scripts.specs.declared.outline.Outline.{Outline}
+use Rattle.scripts.specs.declared.outline.Outline.{Outline}
 use Rattle.build_core.specs.declared.plan.OwnFile.{OwnFile}
 use Rattle.build_core.specs.declared.plan.Plan.{Plan}
 use Rattle.build_core.specs.declared.plan.PlanModule.{PlanModule}
-use Rattle.module_progress.specs.declared.progress.Progress.{Progress}
-use Rattle.module_progress.specs.declared.progress.Progress.TheVariants.{Running, Skipped, Ended}
+use Rattle.event_core.specs.declared.module_steps.Progress.{Progress}
+use Rattle.event_core.specs.declared.module_steps.Progress.TheVariants.{Running, Skipped, Ended}
 use Rattle.event_core.specs.declared.entry.RunEntry.{RunEntry}
-use Rattle.module_scripts.specs.Climbing.{but}
+use Rattle.scripts.specs.Climbing.{but}
 use Rattle.event_core.specs.Enabled.{Enabled, IsEnabled, IsRun, is_due}
 use Rattle.run_law.proofs.Invariants.{files_fit}
-use Rattle.module_scripts.specs.Outlines.{is_empty, is_listed, module_outline, outline_of}
+use Rattle.scripts.specs.Outlines.{is_empty, is_listed, module_outline, outline_of}
 use Rattle.event_core.specs.Runs.{IsRunOf, events_of}
-use Rattle.module_scripts.specs.Scripts.{Script, done, is_gathered, is_there, script_of, settled, wanted, whole}
+use Rattle.scripts.specs.Scripts.{Script, done, is_gathered, is_there, script_of, settled, wanted, whole}
 use Rattle.event_core.specs.SoundPlans.{IsSoundPlan, is_own}
-use Rattle.module_progress.specs.HowFar.{is_waiting, progress_of}
+use Rattle.event_core.specs.HowFar.{is_waiting, progress_of}
 use Rattle.event_core.specs.Standing.{Course, Standing, after, after_deed, after_free, at_first, course_of, ended, goals_of, held_by, idle, module_of, off_course, on_course, standing_of, start_of}
 use Rattle.event_core.specs.Worlds.{publishes}
 use Rattle.run_law.proofs.Absent.{IsAbsentAt, Stands, found, stands, stands_after, stands_first}

@@ -13,9 +13,9 @@ use Rattle.event_core.specs.declared.entry.RunEntry.{RunEntry}
 use Rattle.run_law.specs.Closed.{available, missing_of, total_len}
 use Rattle.run_law.proofs.Invariants.{IsStored, outs, supply_of}
 use Rattle.build_core.specs.OneThread.{entries_len, most_classpath, name_of, path_entry}
-use Rattle.module_scripts.specs.Outlines.{is_listed}
+use Rattle.scripts.specs.Outlines.{is_listed}
 use Rattle.event_core.specs.Runs.{answers_in, contents, outputs_in, standing_of_run}
-use Rattle.module_scripts.specs.Scripts.{is_there}
+use Rattle.scripts.specs.Scripts.{is_there}
 use Rattle.event_core.specs.SoundPlans.{is_backed}
 use Rattle.event_core.specs.Worlds.{IsBeyond, IsWithin, stood}
 use Rattle.run_law.proofs.Hand.{AreApart, len_is}

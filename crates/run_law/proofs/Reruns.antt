@@ -19,7 +19,7 @@ use Rattle.run_law.specs.Closed.{AreJudged, available, had_prefix, judge, missin
 use Rattle.run_law.proofs.Invariants.{IsFetchFile}
 use Rattle.run_law.specs.Given.{supply_by}
 use Rattle.build_core.specs.OneThread.{Progress, Supply, bytes_len, is_built, most_classpath, name_of, one_thread, remote_bytes}
-use Rattle.module_scripts.specs.Outlines.{is_listed}
+use Rattle.scripts.specs.Outlines.{is_listed}
 use Rattle.build_core.specs.Slots.{run_goals}
 use Rattle.event_core.specs.SoundPlans.{is_backed}
 use Rattle.run_law.proofs.Betweens.{option_or_some}

@@ -7,7 +7,7 @@ use Rattle.std.proofs.lemmas.Bool.{eq-eqb, false≢true}
 use Rattle.build_core.specs.declared.plan.Plan.{Plan}
 use Rattle.run_law.proofs.Invariants.{FilesDiffer, IsFetchFile, IsOwnFile}
 use Rattle.build_core.specs.OneThread.{name_of}
-use Rattle.module_scripts.specs.Outlines.{module_outline}
+use Rattle.scripts.specs.Outlines.{module_outline}
 use Rattle.event_core.specs.SoundPlans.{IsSoundPlan, same_text}
 use Rattle.run_law.proofs.Carried.{same_name}
 use Rattle.run_law.proofs.JudgedRuns.{IsFitPlan}

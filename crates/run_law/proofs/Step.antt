@@ -8,19 +8,19 @@ use Rattle.build_core.specs.declared.event.Answered.{Answered}
 use Rattle.goal_types.specs.declared.goal.GoalAnswer.{GoalAnswer}
 use Rattle.event_core.specs.declared.entry.Carried.{Carried}
 use Rattle.event_core.specs.declared.entry.Carried.TheVariants as carried
-use Rattle.module_scripts.specs.declared.deed.Deed.{Deed}
-use Rattle.module_scripts.specs.declared.deed.Deed.TheVariants as deed
+use Rattle.scripts.specs.declared.deed.Deed.{Deed}
+use Rattle.scripts.specs.declared.deed.Deed.TheVariants as deed
 use Rattle.event_core.specs.Causes.{stage_at}
 use Rattle.build_core.specs.declared.ending.Ending.{Ending}
 use Rattle.build_core.specs.declared.ending.Ending.TheVariants as ending
 use Rattle.build_core.specs.declared.plan.Entry.{Entry}
 use Rattle.build_core.specs.declared.event.Event.{Event}
 use Rattle.build_core.specs.declared.event.Event.TheVariants as event
-use Rattle.module_scripts.specs.declared.outline.Outline.{Outline}
+use Rattle.scripts.specs.declared.outline.Outline.{Outline}
 use Rattle.build_core.specs.declared.plan.Plan.{Plan}
 use Rattle.build_core.specs.declared.plan.PlanModule.{PlanModule}
-use Rattle.module_progress.specs.declared.progress.Progress.{Progress}
-use Rattle.module_progress.specs.declared.progress.Progress.TheVariants.{Running, Skipped, Ended}
+use Rattle.event_core.specs.declared.module_steps.Progress.{Progress}
+use Rattle.event_core.specs.declared.module_steps.Progress.TheVariants.{Running, Skipped, Ended}
 use Rattle.event_core.specs.declared.entry.RunEntry.{RunEntry}
 use Rattle.build_core.specs.declared.ending.State.TheVariants as state
 use Rattle.run_law.specs.Closed.{Verdict, missing_of, total_len, verdict_of_fetch}
@@ -28,16 +28,16 @@ use Rattle.event_core.specs.Enabled.{IsEnabled, ending_in_range, is_due, may_end
 use Rattle.run_law.proofs.Invariants.{AreEnded, AreKept, IsGathering, has_answer, is_begun, outs, pending, supply_of}
 use Rattle.run_law.specs.Given.{IsPresent}
 use Rattle.build_core.specs.OneThread.{Supply, answer_at, most_classpath}
-use Rattle.module_scripts.specs.Outlines.{module_outline, outline_of}
+use Rattle.scripts.specs.Outlines.{module_outline, outline_of}
 use Rattle.event_core.specs.Runs.{answers_in, kept_by, standing_of_run}
-use Rattle.module_scripts.specs.Scripts.{done, is_there}
+use Rattle.scripts.specs.Scripts.{done, is_there}
 use Rattle.event_core.specs.SoundPlans.{is_backed}
-use Rattle.module_progress.specs.HowFar.{is_over, progress_of}
+use Rattle.event_core.specs.HowFar.{is_over, progress_of}
 use Rattle.event_core.specs.Standing.{Course, Standing, after, course_of, idle, module_of, off_course, on_course}
 use Rattle.event_core.specs.Standing
 use Rattle.event_core.specs.Worlds.{Fits, FitsAnswer, FitsBehind, FitsEnd, HandTold, IsWithin, is_answered, stood, FitsModule}
 use Rattle.run_law.proofs.Ended.{Behind, begun_stays, ended_stays, judged_end, len_stays, set_cases}
-use Rattle.run_law.proofs.Gathering.{all_here, done_leaves}
+use Rattle.run_law.proofs.RunGathering.{all_here, done_leaves}
 use Rattle.run_law.proofs.Hand.{AreApart}
 use Rattle.run_law.proofs.Kept.{has_more, other_answers}
 use Rattle.run_law.proofs.Ready.{all_had, within_is}

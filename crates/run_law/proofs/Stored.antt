@@ -9,11 +9,11 @@ use Rattle.std.proofs.lemmas.List.{get_or-set_other, get_or-set_same, length-set
 use Rattle.mvn_shared.specs.Files.{Files, file_at}
 use Rattle.event_core.specs.declared.entry.Carried.{Carried}
 use Rattle.event_core.specs.declared.entry.Carried.TheVariants as carried
-use Rattle.module_scripts.specs.declared.deed.Deed.{Deed}
-use Rattle.module_scripts.specs.declared.deed.Deed.TheVariants as deed
+use Rattle.scripts.specs.declared.deed.Deed.{Deed}
+use Rattle.scripts.specs.declared.deed.Deed.TheVariants as deed
 use Rattle.build_core.specs.declared.event.Event.{Event}
 use Rattle.build_core.specs.declared.event.Event.TheVariants as event
-use Rattle.module_scripts.specs.declared.outline.Outline.{Outline}
+use Rattle.scripts.specs.declared.outline.Outline.{Outline}
 use Rattle.build_core.specs.declared.plan.OwnFile.{OwnFile}
 use Rattle.build_core.specs.declared.plan.Plan.{Plan}
 use Rattle.build_core.specs.declared.plan.PlanModule.{PlanModule}
@@ -23,9 +23,9 @@ use Rattle.event_core.specs.Enabled.{Enabled, IsEnabled, is_due}
 use Rattle.run_law.proofs.Invariants.{AreCoursesFit, FilesDiffer, IsCourseFit, IsFetchFile, IsStored, OwnApart}
 use Rattle.run_law.specs.Given.{IsPresent}
 use Rattle.build_core.specs.OneThread.{Supply, name_of, remote_bytes}
-use Rattle.module_scripts.specs.Outlines.{is_listed, module_outline, outline_of}
+use Rattle.scripts.specs.Outlines.{is_listed, module_outline, outline_of}
 use Rattle.event_core.specs.Runs.{IsRunOf, contents, events_of, put_carried, standing_of_run}
-use Rattle.module_scripts.specs.Scripts.{Script, is_there, wanted}
+use Rattle.scripts.specs.Scripts.{Script, is_there, wanted}
 use Rattle.event_core.specs.Standing.{Course, Standing, after, at_first, course_of, idle, module_of, off_course, on_course, standing_of}
 use Rattle.event_core.specs.Worlds.{AllFit, Fits, FitsBehind, FitsBytes, FitsPublish, HandTold, TellsBytes, is_published, is_told, stood}
 use Rattle.run_law.proofs.Carried.{at_insert, name_itself}

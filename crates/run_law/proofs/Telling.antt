@@ -4,12 +4,12 @@ use Rattle.std.specs.Option.{option_map_or}
 use Rattle.std.proofs.lemmas.Bool.{lt-ltb, ltb-true}
 use Rattle.build_core.specs.declared.event.Event.{Event}
 use Rattle.build_core.specs.declared.event.Event.TheVariants as event
-use Rattle.module_scripts.specs.declared.outline.Outline.{Outline}
+use Rattle.scripts.specs.declared.outline.Outline.{Outline}
 use Rattle.event_core.specs.declared.entry.RunEntry.{RunEntry}
 use Rattle.event_core.specs.Causes.{stage_at}
 use Rattle.event_core.specs.Enabled.{Enabled, IsEnabled, IsRun}
 use Rattle.run_law.specs.Given.{AllTell, Given, IsFitting}
-use Rattle.module_scripts.specs.Outlines.{outline_of}
+use Rattle.scripts.specs.Outlines.{outline_of}
 use Rattle.event_core.specs.Runs.{events_of, module_by, standing_of_run}
 use Rattle.event_core.specs.Standing.{Standing, course_of, standing_of}
 use Rattle.event_core.specs.Worlds.{AllFit, Fits, FitsBehind, FitsModule, HandTold, is_told, stood, worker_of}

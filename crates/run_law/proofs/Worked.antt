@@ -5,14 +5,14 @@ use Rattle.std.specs.FinMap as finite
 use Rattle.std.proofs.lemmas.Bool.{false≢true}
 use Rattle.mvn_shared.specs.Files.{Files, file_at}
 use Rattle.goal_types.specs.declared.goal.GoalCall.{GoalCall}
-use Rattle.module_scripts.specs.declared.outline.ModuleOutline.{ModuleOutline}
+use Rattle.scripts.specs.declared.outline.ModuleOutline.{ModuleOutline}
 use Rattle.mvn_base.specs.declared.gav.Gav.{Gav}
 use Rattle.build_core.specs.declared.plan.PlanModule.{PlanModule}
 use Rattle.event_core.specs.Enabled.{Enabled}
 use Rattle.run_law.proofs.Invariants.{supply_of}
 use Rattle.run_law.specs.Given.{IsPresent}
 use Rattle.build_core.specs.OneThread.{answer_at, one_thread}
-use Rattle.module_scripts.specs.Outlines.{is_listed, module_outline, outline_of}
+use Rattle.scripts.specs.Outlines.{is_listed, module_outline, outline_of}
 use Rattle.event_core.specs.RunExamples.{built, complete, jar, plan, quiet}
 use Rattle.event_core.specs.Runs.{IsRunOf, answers_in}
 use Rattle.event_core.specs.Sound.{IsSoundModule}

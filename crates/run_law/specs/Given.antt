@@ -1,7 +1,7 @@
 -- What a build on many workers is given, what its runs are to meet, and what stands behind them. Project rule.
 use Rattle.std.specs.Prelude.{◌≡◌, ℕ, ◌<◌, ◌⊎◌, Bool, true, false, ◌&&◌, ◌==◌, List, [], length, map, find, nat_le, slice_get, Option, Some, is_some}
 use Rattle.std.specs.List.{slice_index_or}
-use Rattle.name_locks.specs.Locks.{below}
+use Rattle.build_core.specs.Locks.{below}
 use Rattle.mvn_shared.specs.Files.{Files, file_at}
 use Rattle.build_core.specs.declared.event.Answered.{Answered}
 use Rattle.build_core.specs.declared.ending.Ending.{Ending}
@@ -14,11 +14,11 @@ use Rattle.event_core.specs.declared.entry.RunEntry.{RunEntry}
 use Rattle.build_core.specs.declared.ending.State.{State}
 use Rattle.build_core.specs.declared.ending.State.TheVariants as state
 use Rattle.build_core.specs.OneThread.{Progress, Supply, name_of, one_thread}
-use Rattle.module_scripts.specs.Outlines.{is_listed, outline_of}
+use Rattle.scripts.specs.Outlines.{is_listed, outline_of}
 use Rattle.event_core.specs.Runs.{IsComplete, IsQuiet, IsRunOf, outputs_in, standing_of_run}
-use Rattle.module_scripts.specs.Scripts.{is_there}
+use Rattle.scripts.specs.Scripts.{is_there}
 use Rattle.event_core.specs.SoundPlans.{IsSoundPlan}
-use Rattle.module_progress.specs.HowFar.{state_of, upstream_of}
+use Rattle.event_core.specs.HowFar.{state_of, upstream_of}
 use Rattle.event_core.specs.Worlds.{AllFit, HandTold}
 
 -- the answers to all goals, by module and goal

@@ -1,3 +1,9 @@
+pub mod Hands
+pub mod Others
+pub mod Absent
+pub mod Gathered
+pub mod Placed
+pub mod Twice
 pub mod Closed
 pub mod ClosedExamples
 pub mod Given

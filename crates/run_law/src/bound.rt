@@ -1,9 +1,9 @@
-// How long runs are.
+// The law that a sound plan has room for the events of every run.
 ghost use Rattle.std.specs.Prelude.{◌≡◌, ◌≤◌, List, length};
 ghost use Rattle.build_core.specs.declared.plan.Plan.{Plan};
 ghost use Rattle.event_core.specs.declared.entry.RunEntry.{RunEntry};
-ghost use Rattle.module_scripts.specs.Bounds.{most_events};
-ghost use Rattle.module_scripts.specs.Outlines.{outline_of};
+ghost use Rattle.scripts.specs.Bounds.{most_events};
+ghost use Rattle.scripts.specs.Outlines.{outline_of};
 ghost use Rattle.event_core.specs.Runs.{IsRunOf};
 ghost use Rattle.event_core.specs.SoundPlans.{IsSoundPlan};
 

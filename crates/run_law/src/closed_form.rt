@@ -1,4 +1,4 @@
-// How modules end, without an order of events.
+// The law that says how modules end without an order of events.
 ghost use Rattle.std.specs.Prelude.{◌≡◌, ℕ, ◌<◌, List, length, false};
 ghost use Rattle.goal_types.specs.declared.goal.OwnBytes.{OwnBytes};
 ghost use Rattle.build_core.specs.declared.ending.State.{State};

@@ -1,4 +1,4 @@
-// Whole runs.
+// The law that whole runs end as the sequential build does.
 ghost use Rattle.std.specs.Prelude.{◌≡◌, ℕ, ◌<◌, List, length, slice_get, Some, true};
 ghost use Rattle.build_core.specs.declared.ending.Ending.{Ending};
 ghost use Rattle.build_core.specs.declared.ending.State.TheVariants.{Ended};

@@ -1,16 +1,16 @@
-// Who holds a name alone.
+// The law of names that one worker holds alone.
 ghost use Rattle.std.specs.Prelude.{◌≡◌, ℕ, ◌<◌, List, slice_get, Some, is_some, true, false};
-ghost use Rattle.name_locks.specs.declared.mode.Mode.TheVariants.{Exclusive};
-ghost use Rattle.name_locks.specs.Locks.{hold};
+ghost use Rattle.build_core.specs.declared.mode.Mode.TheVariants.{Exclusive};
+ghost use Rattle.build_core.specs.Locks.{hold};
 ghost use Rattle.build_core.specs.declared.event.Event.{Event};
 ghost use Rattle.build_core.specs.declared.event.Event.TheVariants.{Publish};
 ghost use Rattle.build_core.specs.declared.plan.Plan.{Plan};
 ghost use Rattle.build_core.specs.declared.plan.PlanModule.{PlanModule};
 ghost use Rattle.event_core.specs.declared.entry.RunEntry.{RunEntry};
 ghost use Rattle.event_core.specs.Enabled.{Enabled};
-ghost use Rattle.module_scripts.specs.Outlines.{is_listed, outline_of};
+ghost use Rattle.scripts.specs.Outlines.{is_listed, outline_of};
 ghost use Rattle.event_core.specs.Runs.{IsRunOf, events_of, module_by, standing_of_run};
-ghost use Rattle.module_scripts.specs.Scripts.{is_there};
+ghost use Rattle.scripts.specs.Scripts.{is_there};
 ghost use Rattle.event_core.specs.SoundPlans.{IsSoundPlan};
 ghost use Rattle.event_core.specs.Standing.{after};
 ghost use Rattle.run_law.specs.Given.{IsCover, IsFetched};

@@ -1,4 +1,4 @@
-// The sequential build, once more.
+// The law that the sequential build, made again over what a stop left, ends as before.
 ghost use Rattle.std.specs.Prelude.{◌≡◌};
 ghost use Rattle.mvn_shared.specs.Files.{Files};
 ghost use Rattle.build_core.specs.declared.plan.Plan.{Plan};

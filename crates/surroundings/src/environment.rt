@@ -31,7 +31,7 @@ impl Wanted {
     }
 }
 
-// The bytes of a word or a variable; nothing behind the last.
+// The bytes of a word or a variable; nothing after the last.
 fn bytes_of<R: Env>(rt: &R, alloc: Global, wanted: Wanted) -> Mem<Option<Vec<u8>>> {
     for size in SIZES {
         let mut bytes = vec![in alloc; 0u8; size]?;
@@ -47,7 +47,7 @@ fn bytes_of<R: Env>(rt: &R, alloc: Global, wanted: Wanted) -> Mem<Option<Vec<u8>
     Err(OutOfMemory)
 }
 
-/// The words behind the program's name.
+/// The words after the program's name.
 pub fn words<R: Env>(rt: &R, alloc: Global) -> Mem<Vec<Bytes>> {
     let mut words = Vec::new(alloc);
     for i in 1..usize::MAX {

@@ -1,4 +1,4 @@
-// The texts of the program's own.
+// The texts that the program prints of itself: its help and its version.
 use mvn_outside::{DeviceFault, Sink, write_all};
 
 const HELP: &str = "\

@@ -1,9 +1,11 @@
-//! Rows about texts, each with its answer. A line of standard input is a word, which says what is asked for, and fields with a space
-//! between two of them, spelled as `row_fields` says; the answer is printed as one line. In it all bytes but the printed ones of ASCII are
-//! spelled `\xNN`. A line that begins with `#` is printed as it stands.
+//! The program `text_rows` answers rows about texts: POM texts, versions, requirements, expressions and paths.
 //!
-//! - `pom TEXT`: the elements of a POM text, each as `name[attribute,](text){child,}`, or why it is none; `count TEXT`: how many
-//!   elements and attributes it has, and how many bytes their names and texts
+//! A line of standard input is a word, which says what is asked for, and fields with a space between two of them, spelled as
+//! `row_fields` says; the answer is printed as one line. In it all bytes but the printed ones of ASCII are spelled `\xNN`. A line that
+//! begins with `#` is printed as it stands.
+//!
+//! - `pom TEXT`: the elements of a POM text, each as `name[attribute,](text){child,}`, or why it is none; `count TEXT`: how many elements
+//!   and attributes it has, and how many bytes their names and texts
 //! - `sorted VERSION ..`: the versions in order, with how each compares with the next; `compare A B`: how they compare; `among-short A`:
 //!   how it compares with each of all texts of four bytes of `01a.-`
 //! - `admits REQUIREMENT VERSION ..`: whether it is hard, and which versions it admits; `highest REQUIREMENT VERSION ..`: the place of
@@ -13,7 +15,7 @@
 
 mod poms;
 mod values;
-mod versions;
+mod version_rows;
 
 use mvn_shared::{Mem, Text};
 use row_fields::{escaped, texts, unescaped};
@@ -23,7 +25,7 @@ use std::alloc::Global;
 fn told_of_texts(alloc: Global, kind: &str, texts: &[Text]) -> Mem<String> {
     match kind {
         "sorted" | "compare" | "among-short" | "admits" | "highest" => {
-            versions::told(alloc, kind, texts)
+            version_rows::told(alloc, kind, texts)
         }
         _ => values::told(alloc, kind, texts),
     }

@@ -3,7 +3,7 @@ use mvn_shared::{Mem, Text};
 use pom_text::{Node, PomText, read_text};
 use std::alloc::Global;
 
-// Names in brackets, each with a comma behind it.
+// Names in brackets, each with a comma after it.
 fn push_names(shown: &mut String, names: &[Text]) -> Mem<()> {
     if names.is_empty() {
         return Ok(());
@@ -17,7 +17,7 @@ fn push_names(shown: &mut String, names: &[Text]) -> Mem<()> {
     Ok(())
 }
 
-// Numbers in braces, each with a comma behind it.
+// Numbers in braces, each with a comma after it.
 fn push_numbers(alloc: Global, shown: &mut String, numbers: &[u32]) -> Mem<()> {
     if numbers.is_empty() {
         return Ok(());

@@ -1,9 +1,8 @@
 // Expressions, values by name, and paths.
-use expressions::{Part, Values, parts};
-use mvn_base::Pair;
+use interpolation::{Part, Values, parts};
+use mvn_base::{Pair, joined};
 use mvn_shared::{List, Mem, Text};
-use pom_paths::joined;
-use row_values::word;
+use row_fields::word;
 use std::alloc::Global;
 
 fn push_text(shown: &mut String, front: &str, text: &Text, back: &str) -> Mem<()> {
@@ -33,7 +32,7 @@ fn shown_parts(alloc: Global, parts: &[Part]) -> Mem<String> {
     Ok(shown)
 }
 
-// The parts of a text, an expression in angle brackets, each with a bar behind it.
+// The parts of a text, an expression in angle brackets, each with a bar after it.
 fn split(alloc: Global, text: &Text) -> Mem<String> {
     let parts = parts(alloc, text)?;
     shown_parts(alloc, parts.as_slice())

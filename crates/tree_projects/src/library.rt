@@ -1,11 +1,11 @@
 // The POMs of a repository.
+use crate::MemPoms;
 use crate::reading::{all_files, pom_bytes};
 use mvn_base::{Gav, PomId};
 use mvn_outside::{ReadFault, Tree};
 use mvn_shared::{Bytes, Mem, Text};
 use outside_mem::NoFailures;
 use pom_source::Found;
-use source_mem::MemPoms;
 use std::alloc::Global;
 
 // The group that folders stand for.

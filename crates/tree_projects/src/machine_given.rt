@@ -66,5 +66,6 @@ pub fn given(alloc: Global) -> Mem<Given> {
         machine,
         defines: List::new(alloc),
         choice,
+        ci: List::new(alloc),
     })
 }

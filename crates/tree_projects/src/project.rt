@@ -1,14 +1,13 @@
 // The POMs of a project.
+use crate::MemPoms;
 use crate::reading::{all_files, pom_bytes};
+use lineage::{raw_gav, read};
 use model_types::RawModel;
 use mvn_base::{Gav, PomId};
 use mvn_outside::{ReadFault, Tree};
 use mvn_shared::{Bytes, Mem, OutOfMemory, Shared, Text};
 use outside_mem::NoFailures;
 use pom_source::{BuildFault, Found};
-use pom_store::read;
-use poms_by_path::raw_gav;
-use source_mem::MemPoms;
 use std::alloc::Global;
 
 /// The POMs of a project, in memory: the source has those of a repository too, and the paths are those of the project's POMs.
@@ -32,7 +31,7 @@ fn gav_of(alloc: Global, raw: &Result<Shared<RawModel>, BuildFault>) -> Mem<Opti
     }
 }
 
-// The same of a POM.
+// The coordinates of the POM with these bytes; none where it is refused.
 fn gav_in(alloc: Global, pom: &PomId, bytes: &Bytes) -> Mem<Option<Gav>> {
     gav_of(alloc, &read(alloc, pom, bytes))
 }

@@ -4,7 +4,7 @@ use mvn_outside::{ListFault, ReadFault, Tree};
 use mvn_shared::{Bytes, List, Mem, Text};
 use std::alloc::Global;
 
-// As many bytes as no POM has.
+// More bytes than a POM may have.
 fn too_many(alloc: Global) -> Mem<Bytes> {
     Ok(Bytes::of(vec![in alloc; b' '; 1 + POM_LIMIT as usize]?))
 }

@@ -1,10 +1,12 @@
 // The lock and its calls.
 //
-// The table's first word is twice the length of the log, and one more while a turn is out. On the second those park that wait for a turn, on the third
-// those that rest. Each of these two is odd where a thread asked to be called, and a call makes it the next even number. Each step is sequentially
-// consistent; who parks asks before it looks at the first word again, and a giver writes that word before it looks whether one asked. So either the
-// giver finds that one asked, and calls, or the thread finds what was given, and doesn't park; and where the call comes in between, the word on which
-// the thread would park is another by then. A call for the turn wakes one thread, which asks again for those that may still be parked.
+// The table's first word is twice the length of the log, and one more while a turn is out. On the second those park
+// that wait for a turn, on the third those that rest. Each of these two is odd where a thread asked to be called, and
+// a call makes it the next even number. Each step is sequentially consistent; who parks asks before it looks at the
+// first word again, and a giver writes that word before it looks whether one asked. So either the giver finds that
+// one asked, and calls, or the thread finds what was given, and doesn't park; and where the call comes in between,
+// the word on which the thread would park is another by then. A call for the turn wakes one thread, which asks again
+// for those that may still be parked.
 ghost use Rattle.std.specs.Prelude.{◌≡◌, ◌+◌, ◌<◌, ◌≤◌, true, List, [], ◌∷◌, Some, None, IfOk, IfErr, IfSome, IfNone};
 ghost use Rattle.std.specs.Result.{is_ok};
 ghost use Rattle.turn_lock.specs.declared.lock.NewError.TheVariants.{Memory};
@@ -22,9 +24,9 @@ use std::marker::Model;
 use std::snapshot::Snapshot;
 use std::sync::Wait;
 
-/// A value behind a lock. It may cross threads, and be shared by them, where the value may cross. Of waiting nothing is promised: not that a thread
-/// that waits is woken, nor that it is served at last or in its order, nor that threads with several locks don't wait for one another for ever.
-/// Project rule.
+/// A value under a lock. It may cross threads, and be shared by them, where the value may cross. Of waiting nothing
+/// is promised: not that a thread that waits is woken, nor that it is served at last or in its order, nor that
+/// threads with several locks don't wait for one another for ever. Project rule.
 #[derive(Drop)]
 pub struct TurnLock<V: Kept> {
     table: Table<Option<V>, View<V::Fixed, V::Entry>, Snapshot<V>, TurnRule<V>, Global>,
@@ -43,9 +45,9 @@ impl<V: Kept> Model for TurnLock<V> {
     ghost invariant = { λ lock. (lock.table.shared.table_id.words ≡ 3) × (lock.table.shared.table_id.slots ≡ 1) };
 }
 
-/// A caller's token: what it knows of the value, which is said by its view ([`View`]). It may cross threads where the value may. At run time
-/// it is its seat at the table and the length of the log that it has seen. It can't be dropped, since a lock is closed by the pass that all others
-/// were joined to: who fails hands it back. Project rule.
+/// A caller's token: what it knows of the value, which is said by its view ([`View`]). It may cross threads where the
+/// value may. At run time it is its seat at the table and the length of the log that it has seen. It can't be
+/// dropped, since a lock is closed by the pass that all others were joined to: who fails hands it back. Project rule.
 pub struct Pass<V: Kept> {
     seat: Seat<Option<V>, View<V::Fixed, V::Entry>>,
     entries: u64,
@@ -64,8 +66,8 @@ impl<V: Kept> Model for Pass<V> {
     ghost invariant = { λ pass. (pass.entries ≡ length pass.seat.me.0.seen) × (pass.seat.me.0.spent ≡ false) × Carries pass.seat.me.0.turn pass.seat.me.1 };
 }
 
-/// A turn: the value, until it is given back. It can't be dropped, since a turn that isn't given back keeps all others waiting: who fails gives it
-/// back. Project rule.
+/// A turn: the value, until it is given back. It can't be dropped, since a turn that isn't given back keeps all
+/// others waiting: who fails gives it back. Project rule.
 pub struct Turn<V> {
     pub value: V,
 }
@@ -104,7 +106,7 @@ fn whole<V>(value: Option<V>) -> V
     }
 }
 
-// Nothing.
+// Takes a value that isn't there.
 fn nothing<V>(value: Option<V>)
     requires { value ≡ None }
 {
@@ -122,8 +124,8 @@ fn value_in<V>(mut slots: Vec<Option<V>>) -> V
 }
 
 impl<V: Kept> TurnLock<V> {
-    /// A lock over a value, and its first pass, which has seen the value's log, owes nothing, and has the number 0, all workers as its reach and the
-    /// whole weight. Where memory is missing the value comes back. Project rule.
+    /// A lock over a value, and its first pass, which has seen the value's log, owes nothing, and has the number 0,
+    /// all workers as its reach and the whole weight. Where memory is missing the value comes back. Project rule.
     pub fn new(alloc: Global, value: V) -> Result<(TurnLock<V>, Pass<V>), NewError<V>>
         requires some_worker { 0 < V.count value }
         requires fresh { IsFresh V.role (V.log value) }
@@ -218,8 +220,9 @@ impl<V: Kept> TurnLock<V> {
         }
     }
 
-    /// The value, when no other turn is out. May wait; a thread that waits parks until a turn is given. Takes no memory; two atomic steps besides
-    /// waiting. That a thread that waits is woken or served isn't promised. Project rule.
+    /// The value, when no other turn is out. May wait; a thread that waits parks until a turn is given. Takes no
+    /// memory; two atomic steps besides waiting. That a thread that waits is woken or served isn't promised. Project
+    /// rule.
     #[inline]
     pub fn take<R: Wait>(&self, rt: &R, pass: &mut Pass<V>) -> Turn<V>
         requires own { lock_of pass.old ≡ self.now }
@@ -238,8 +241,9 @@ impl<V: Kept> TurnLock<V> {
         unreachable!()
     }
 
-    /// Gives the turn back that the pass took last, with at most one entry of the pass more. Wakes a thread that waits for a turn, and where there is
-    /// an entry more all that rest. Takes no memory; two atomic steps, and calls of the system only where a thread waits or rests. Project rule.
+    /// Gives the turn back that the pass took last, with at most one entry of the pass more. Wakes a thread that
+    /// waits for a turn, and where there is an entry more all that rest. Takes no memory; two atomic steps, and calls
+    /// of the system only where a thread waits or rests. Project rule.
     #[inline]
     pub fn give(&self, pass: &mut Pass<V>, turn: Turn<V>)
         requires own { lock_of pass.old ≡ self.now }
@@ -271,8 +275,8 @@ impl<V: Kept> TurnLock<V> {
         self.table.shared.peek(0) / 2 != pass.entries
     }
 
-    /// Waits until a turn was given with an entry that the pass hasn't seen, or for no reason shorter; a thread that waits parks. May wait. Takes no
-    /// memory. Nothing is claimed of when it returns. Project rule.
+    /// Waits until a turn was given with an entry that the pass hasn't seen, or for no reason shorter; a thread that
+    /// waits parks. May wait. Takes no memory. Nothing is claimed of when it returns. Project rule.
     pub fn rest<R: Wait>(&self, rt: &R, pass: &mut Pass<V>)
         requires own { lock_of pass.old ≡ self.now }
         requires free { (view_of pass.old).turn ≡ None }
@@ -287,8 +291,9 @@ impl<V: Kept> TurnLock<V> {
         }
     }
 
-    /// Cuts a pass in two that owes nothing and has at least two workers in its reach. The new one has the last half of the reach, rounded down,
-    /// and as much of the weight; it has seen the same log and owes nothing. Takes no memory, and so is never refused; one atomic step. Project rule.
+    /// Cuts a pass in two that owes nothing and has at least two workers in its reach. The new one has the last half
+    /// of the reach, rounded down, and as much of the weight; it has seen the same log and owes nothing. Takes no
+    /// memory, and so is never refused; one atomic step. Project rule.
     pub fn split(&self, pass: &mut Pass<V>) -> Mem<Pass<V>>
         requires own { lock_of pass.old ≡ self.now }
         requires free { ((view_of pass.old).turn ≡ None) × ((view_of pass.old).owed ≡ None) }
@@ -328,8 +333,9 @@ impl<V: Kept> TurnLock<V> {
         self.table.shared.load::<Look<V>>(&mut pass.seat, 0)
     }
 
-    /// Takes another pass in that owes nothing: the pass then has seen the longer log, which both old ones begin, and has the other's weight besides
-    /// its own; the other's reach isn't given back. Takes no memory; two atomic steps. Project rule.
+    /// Takes another pass in that owes nothing: the pass then has seen the longer log, which both old ones begin, and
+    /// has the other's weight besides its own; the other's reach isn't given back. Takes no memory; two atomic steps.
+    /// Project rule.
     pub fn join(&self, pass: &mut Pass<V>, other: Pass<V>)
         requires own { (lock_of pass.old ≡ self.now) × (lock_of other ≡ self.now) }
         requires free { ((view_of pass.old).turn ≡ None) × ((view_of other).turn ≡ None) ×
@@ -342,8 +348,8 @@ impl<V: Kept> TurnLock<V> {
         let _found = self.look(pass);
     }
 
-    /// Ends the lock by the pass that has the whole weight, so that all others were joined to it, and that owes nothing; so it has seen the whole
-    /// log. Takes no memory; constant time. Project rule.
+    /// Ends the lock by the pass that has the whole weight, so that all others were joined to it, and that owes
+    /// nothing; so it has seen the whole log. Takes no memory; constant time. Project rule.
     pub fn close(self, pass: Pass<V>) -> V
         requires own { lock_of pass ≡ self }
         requires free { ((view_of pass).turn ≡ None) × ((view_of pass).owed ≡ None) }

@@ -89,7 +89,7 @@ impl Tally {
     }
 }
 
-// The next number of a worker behind a note.
+// The next number of a worker after a note.
 fn with_note(next: u64, note: Note, worker: u32) -> u64
     requires { next ≤ 2 ^ 32 }
     ensures value { result ≡ with_next worker next note }
@@ -141,8 +141,9 @@ pub fn note_down<R: Wait>(
     added
 }
 
-/// What each worker does: how many numbers it notes; whether they go in rounds of so many workers, each resting until all before it have noted (0:
-/// none rests); and how many milliseconds it sleeps before each note, without a turn and with one. Project rule.
+/// What each worker does: how many numbers it notes; whether they go in rounds of so many workers, each resting until
+/// all before it have noted (0: none rests); and how many milliseconds it sleeps before each note, without a turn and
+/// with one. Project rule.
 #[derive(Drop)]
 pub struct Task {
     pub count: u32,
@@ -311,9 +312,9 @@ fn fork<R: Threads + Wait + Clock + Sync>(
     )
 }
 
-/// What so many workers note, each its task's numbers in a thread of its own: whatever the threads do, of each worker's notes the first are just
-/// these numbers, in their order. May wait; where one has no memory, those that rest until it has noted wait for ever. A turn for each note, and more
-/// where they go in rounds. Project rule.
+/// What so many workers note, each its task's numbers in a thread of its own: whatever the threads do, of each
+/// worker's notes the first are just these numbers, in their order. May wait; where one has no memory, those that
+/// rest until it has noted wait for ever. A turn for each note, and more where they go in rounds. Project rule.
 pub fn tallied<R: Threads + Wait + Clock + Sync>(
     rt: &R,
     alloc: Global,

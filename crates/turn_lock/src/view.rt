@@ -1,8 +1,11 @@
+//! What a pass of the turn lock knows, as a value of contracts alone.
+
 use mvn_shared::List;
 
-/// What a pass knows: the fixed part and the number of workers, its number with its reach (the workers from its number on, below `reach`, for
-/// which it alone may add entries), its weight, the log that it has seen, logs that this begins with, the module that its worker has open there,
-/// and the log of the turn that it has out. A pass that was joined to another is spent and knows nothing. No value of it is made. Project rule.
+/// What a pass knows: the fixed part and the number of workers, its number with its reach (the workers from its
+/// number on, below `reach`, for which it alone may add entries), its weight, the log that it has seen, logs that
+/// this begins with, the module that its worker has open there, and the log of the turn that it has out. A pass that
+/// was joined to another is spent and knows nothing. No value of it is made. Project rule.
 pub struct View<F, E> {
     pub fixed: Option<F>,
     pub workers: u32,

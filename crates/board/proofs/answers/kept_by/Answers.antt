@@ -1,5 +1,5 @@
 use Rattle.std.proofs.Common.{ap, sym, ◌∙◌}
-use Rattle.goal_answers.specs.Walks.{goals_of}
+use Rattle.board.specs.Walks.{goals_of}
 use Rattle.board.specs.Builds.{kept_so}
 use Rattle.board.proofs.AnswerMore.{stand_kept}
 use Rattle.board.proofs.answers.kept_by.Goals as goal

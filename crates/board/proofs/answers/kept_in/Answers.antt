@@ -1,7 +1,7 @@
 use Rattle.std.proofs.Common.{ap, sym, ◌∙◌}
 use Rattle.std.specs.Option.{option_map, option_map_or}
 use Rattle.build_core.specs.declared.plan.PlanModule.{PlanModule}
-use Rattle.goal_answers.specs.Walks.{goals_of}
+use Rattle.board.specs.Walks.{goals_of}
 use Rattle.board.specs.Builds.{answer_kept}
 use Rattle.board.specs.declared.next.AnswerKept.TheVariants.{Held}
 use Rattle.board.proofs.AnswerMore.{count_is}

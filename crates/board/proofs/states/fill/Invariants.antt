@@ -1,6 +1,6 @@
 use Rattle.std.proofs.Common.{◌≡◌, ◌≤◌, length, map, vec_capacity}
-use Rattle.name_locks.specs.Locks.{below}
-use Rattle.module_progress.specs.HowFar.{state_of}
+use Rattle.build_core.specs.Locks.{below}
+use Rattle.event_core.specs.HowFar.{state_of}
 use Rattle.event_core.specs.Standing.{standing_of}
 use Rattle.board.proofs.states.fill.Given as goal
 

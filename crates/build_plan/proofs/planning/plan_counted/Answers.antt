@@ -1,7 +1,7 @@
 use Rattle.std.proofs.Common.{◌≡◌, ℕ, Option, Ok, Err, IfOk, subst}
 use Rattle.mvn_outside.specs.declared.shelf.ShelfTold.{ShelfTold}
 use Rattle.pom_source.specs.Answers.{Fails}
-use Rattle.import_store.specs.Kept.{HoldsAll}
+use Rattle.effective.specs.Kept.{HoldsAll}
 use Rattle.model_resolver.specs.Devices.{Counts}
 use Rattle.model_resolver.specs.Finding.{world_of}
 use Rattle.model_resolver.proofs.Counting.{counted_twice}

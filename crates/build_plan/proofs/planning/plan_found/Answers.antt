@@ -3,7 +3,7 @@ use Rattle.classpaths.specs.declared.resolution.Resolution.{Resolution}
 use Rattle.model_types.specs.declared.model.Model.{Model}
 use Rattle.mvn_outside.specs.declared.shelf.ShelfTold.{ShelfTold}
 use Rattle.pom_source.specs.declared.fault.BuildFault.{BuildFault}
-use Rattle.import_store.specs.Kept.{HoldsAll}
+use Rattle.effective.specs.Kept.{HoldsAll}
 use Rattle.model_resolver.specs.Devices.{Counts}
 use Rattle.model_resolver.specs.Finding.{world_of}
 use Rattle.model_resolver.specs.declared.resolver.ProjectPom.{ProjectPom}

@@ -2,7 +2,7 @@ use Rattle.std.proofs.Common.{◌≡◌, ℕ, List, length, IfOk, IfSome, ap, su
 use Rattle.goal_types.specs.declared.goal.SourceFile.{SourceFile}
 use Rattle.model_types.specs.declared.model.Model.{Model}
 use Rattle.pom_source.specs.Answers.{Says}
-use Rattle.module_sources.specs.Modules.{module_sources}
+use Rattle.sources.specs.Modules.{module_sources}
 use Rattle.build_plan.proofs.Lists.{as_many}
 use Rattle.build_plan.proofs.reading.built_sources.Goals as goal
 

@@ -4,7 +4,7 @@ use Rattle.model_resolver.specs.Devices.{Counts}
 use Rattle.model_resolver.proofs.Counting.{counted_twice}
 use Rattle.project_models.specs.Models.{Modules}
 use Rattle.project_models.proofs.Told.{told_two}
-use Rattle.module_sources.specs.Modules.{module_sources}
+use Rattle.sources.specs.Modules.{module_sources}
 use Rattle.build_plan.specs.Planning.{IsReactor, Plans, built_models, sources_of}
 use Rattle.build_plan.specs.declared.planning.PlanFault.TheVariants as faults
 use Rattle.build_plan.proofs.Steps.{sources_fail}

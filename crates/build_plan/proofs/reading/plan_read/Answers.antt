@@ -1,7 +1,7 @@
 use Rattle.std.proofs.Common.{◌≡◌, Ok, Err}
 use Rattle.pom_source.specs.Answers.{Fails}
 use Rattle.project_models.specs.Models.{Modules}
-use Rattle.plan_parts.specs.Plans.{numbered}
+use Rattle.module_plan.specs.Plans.{numbered}
 use Rattle.build_plan.specs.Planning.{IsPlanned, IsReactor, Plans, sources_of}
 use Rattle.build_plan.specs.declared.planning.PlanFault.TheVariants as faults
 use Rattle.build_plan.proofs.Made.{all_named, is_plan}

@@ -1,4 +1,4 @@
-use Rattle.mvn_call.proofs.Workers.{workers_of}
+use Rattle.call_plan.proofs.Workers.{workers_of}
 use Rattle.call_plan.proofs.command.asked.Goals as goal
 
 pub returns-in-Ok-clause-workers : goal.returns-in-Ok-clause-workers

@@ -1,10 +1,10 @@
 use Rattle.std.proofs.Common.{ℕ, Option, IfOk, None, ap, get_or, subst, sym}
 use Rattle.mvn_shared.specs.Files.{Files}
 use Rattle.model_resolver.specs.Devices.{Counted, Counts}
-use Rattle.crew_stages.specs.Hands.{HandState, state_by}
-use Rattle.crew_outcome.specs.Left.{outside_by}
+use Rattle.crew_turns.specs.Hands.{HandState, state_by}
+use Rattle.build_outcome.specs.Left.{outside_by}
 use Rattle.call_plan.specs.Project.{GivesPlan}
-use Rattle.mvn_call.specs.Seen.{counts_of}
+use Rattle.call_plan.specs.Seen.{counts_of}
 use Rattle.call_plan.proofs.FirstHand.{asked_first, first_of, first_set, others_set}
 use Rattle.call_plan.proofs.project.plan_by_first.Goals as goal
 

@@ -1,5 +1,5 @@
 use Rattle.std.proofs.Common.{◌+◌, length, slice_index_or, subst, sym}
-use Rattle.crew_stages.specs.Hands.{state_by}
+use Rattle.crew_turns.specs.Hands.{state_by}
 use Rattle.crew_turns.specs.Seen.{seen_by}
 use Rattle.crew.specs.Crews.{HasLeft, IsReady, opened_by}
 use Rattle.crew.specs.Whole.{IsBuilt}

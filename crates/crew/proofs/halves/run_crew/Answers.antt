@@ -1,5 +1,5 @@
 use denote.Param.Send.{sendable}
-use Rattle.board_sharing.proofs.Sharing.{lock_sync, pass_send}
+use Rattle.board.proofs.Sharing.{lock_sync, pass_send}
 use Rattle.crew.proofs.Sharing.{crew_sync}
 use Rattle.crew.proofs.halves.run_crew.Goals as goal
 

@@ -1,6 +1,6 @@
 use Rattle.std.proofs.Common.{◌<◌, sym, subst}
 use Rattle.build_core.specs.declared.plan.Plan.{Plan}
-use Rattle.crew_stages.specs.Hands.{state_by}
+use Rattle.crew_turns.specs.Hands.{state_by}
 use Rattle.crew_turns.specs.Seen.{IsOf}
 use Rattle.crew.specs.Between.{IsBetween}
 use Rattle.crew.proofs.Works.{built_more, seen_more}

@@ -1,5 +1,5 @@
 use Rattle.std.proofs.Common.{◌∙◌}
-use Rattle.crew_stages.specs.Hands.{state_by}
+use Rattle.crew_turns.specs.Hands.{state_by}
 use Rattle.crew.proofs.Works.{at_first}
 use Rattle.crew.proofs.worker.work_on.Goals as goal
 

@@ -1,4 +1,4 @@
-use Rattle.crew_stages.specs.Hands.{state_by}
+use Rattle.crew_turns.specs.Hands.{state_by}
 use Rattle.crew.specs.Between.{IsBetween}
 use Rattle.crew.proofs.worker.work_on.Given as goal
 

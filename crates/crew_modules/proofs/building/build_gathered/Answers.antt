@@ -3,8 +3,8 @@ use Rattle.event_core.specs.Enabled.{may_end_so}
 use Rattle.event_core.specs.Standing.{module_of}
 use Rattle.crew_modules.proofs.Counts.{installed, not_answered}
 use Rattle.crew_modules.proofs.Ended.{ended_later, has_ended}
-use Rattle.crew_stages.specs.Hands.{told_by}
-use Rattle.crew_stages.specs.Stops.{freed_course}
+use Rattle.crew_turns.specs.Hands.{told_by}
+use Rattle.crew_turns.specs.Stops.{freed_course}
 use Rattle.crew_turns.specs.Seen.{course_by}
 use Rattle.crew_turns.specs.Tasks.{plan_outline}
 use Rattle.crew_modules.proofs.building.build_gathered.Goals as goal

@@ -2,7 +2,7 @@ use Rattle.std.proofs.Common.{◌∷◌, [], None, refl, sym, ap, subst, ◌∙�
 use Rattle.event_core.specs.Standing.{module_of}
 use Rattle.crew_modules.proofs.Counts.{not_ready, ready}
 use Rattle.crew_modules.proofs.Ended.{ended_later}
-use Rattle.crew_stages.specs.Hands.{IsWorked, state_by}
+use Rattle.crew_turns.specs.Hands.{IsWorked, state_by}
 use Rattle.crew_turns.specs.Seen.{KeepsFit}
 use Rattle.crew_modules.proofs.building.build_module.Goals as goal
 

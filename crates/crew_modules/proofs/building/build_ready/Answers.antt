@@ -1,15 +1,15 @@
 use Rattle.std.proofs.Common.{length, None, refl, sym, ap, subst, ◌∙◌}
-use Rattle.module_scripts.specs.Outlines.{files_read}
+use Rattle.scripts.specs.Outlines.{files_read}
 use Rattle.event_core.specs.Standing.{module_of}
 use Rattle.crew_modules.proofs.Counts.{not_gathered}
 use Rattle.crew_modules.proofs.Ended.{ended_later, follows_all}
 use Rattle.crew_modules.proofs.Freed.{freed, path_stays}
-use Rattle.crew_stages.specs.Hands.{state_by}
-use Rattle.crew_stages.specs.Paths.{IsPath}
-use Rattle.crew_stages.specs.Stages.{HasAnswered}
+use Rattle.crew_turns.specs.Hands.{state_by}
+use Rattle.crew_turns.specs.Paths.{IsPath}
+use Rattle.crew_turns.specs.Stages.{HasAnswered}
 use Rattle.crew_turns.specs.Seen.{there_by, course_by}
 use Rattle.crew_turns.specs.Tasks.{IsTask, plan_outline}
-use Rattle.crew_stages.specs.Stops.{freed_course}
+use Rattle.crew_turns.specs.Stops.{freed_course}
 use Rattle.crew_modules.proofs.building.build_ready.Goals as goal
 
 pub free_all-requires : goal.free_all-requires

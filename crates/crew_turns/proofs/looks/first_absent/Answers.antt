@@ -1,7 +1,7 @@
 use Rattle.std.proofs.Common.{◌≡◌, suc, ◌+◌, ◌<◌, ◌≤◌, true, false, length, None, Some, arith, sym, subst, ◌∙◌}
 use Rattle.std.proofs.lemmas.Bool.Decides.{nat_tests}
 use Rattle.board.specs.Builds.{standing_at}
-use Rattle.crew_laws.specs.Absent.{IsFirstAbsent}
+use Rattle.run_law.specs.Absent.{IsFirstAbsent}
 use Rattle.crew_turns.proofs.Firsts.{none_left, one_there, this_one}
 use Rattle.crew_turns.proofs.looks.first_absent.Goals as goal
 

@@ -1,6 +1,6 @@
 use Rattle.std.specs.Prelude.{ℕ, Option}
 use Rattle.board.specs.Builds.{standing_at}
-use Rattle.crew_laws.specs.Absent.{IsFirstAbsent}
+use Rattle.run_law.specs.Absent.{IsFirstAbsent}
 use Rattle.crew_turns.proofs.looks.first_absent.Given as goal
 
 -- the first that isn't there from here on is the first of all

@@ -1,6 +1,6 @@
 use Rattle.std.proofs.Common.{◌≡◌, ◌<◌, true, ap, sym, subst, Some, ◌∙◌}
 use Rattle.event_core.specs.Runs.{IsRunOf}
-use Rattle.module_scripts.specs.declared.deed.Deed.TheVariants as deed
+use Rattle.scripts.specs.declared.deed.Deed.TheVariants as deed
 use Rattle.board.specs.Builds.{after_try, standing_at}
 use Rattle.event_core.specs.Enabled.{is_due}
 use Rattle.event_core.specs.Standing.{course_of}

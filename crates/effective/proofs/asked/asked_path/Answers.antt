@@ -1,6 +1,6 @@
 use Rattle.std.proofs.Common.{refl}
-use Rattle.import_store.specs.declared.run_store.RunStore.{RunStore}
-use Rattle.import_store.proofs.Storing.{lineages_put}
+use Rattle.effective.specs.declared.run_store.RunStore.{RunStore}
+use Rattle.effective.proofs.Storing.{lineages_put}
 use Rattle.effective.proofs.asked.asked_path.Goals as goal
 
 pub returns-in_err-raw-clause-holds : goal.returns-in_err-raw-clause-holds

@@ -1,7 +1,7 @@
 use Rattle.std.proofs.Common.{◌≡◌, true, nat_lt, sym, ap, subst, ◌∙◌}
 use Rattle.std.specs.List.{list_all}
 use Rattle.std.specs.Option.{option_to_list}
-use Rattle.module_scripts.specs.Climbing.{Climbs}
+use Rattle.scripts.specs.Climbing.{Climbs}
 use Rattle.event_core.specs.Taken.{ends_freed}
 use Rattle.event_core.proofs.Taken.{all_front, climbs_front, dropped}
 use Rattle.event_core.proofs.holdings.drop_freed.Goals as goal

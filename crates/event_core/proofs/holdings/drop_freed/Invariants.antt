@@ -1,6 +1,6 @@
 use Rattle.std.proofs.Common.{◌≡◌, ℕ, true, nat_lt, filter, vec_capacity, vec_len}
 use Rattle.std.specs.List.{list_all}
-use Rattle.module_scripts.specs.Climbing.{Climbs}
+use Rattle.scripts.specs.Climbing.{Climbs}
 use Rattle.event_core.specs.Taken.{is_held}
 use Rattle.event_core.proofs.holdings.drop_freed.Given as goal
 

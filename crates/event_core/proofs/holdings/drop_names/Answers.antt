@@ -2,9 +2,9 @@ use Rattle.std.proofs.Common.{◌≡◌, ◌<◌, true, filter, nat_lt, sym, ap,
 use Rattle.std.specs.List.{list_all}
 use Rattle.std.proofs.lemmas.List.{map-set}
 use Rattle.std.proofs.lemmas.List.Elements.{All-set}
-use Rattle.module_scripts.specs.Climbing.{Climbs}
+use Rattle.scripts.specs.Climbing.{Climbs}
 use Rattle.event_core.specs.Taken.{is_held}
-use Rattle.module_scripts.proofs.Climbs.{all_at, row_at}
+use Rattle.scripts.proofs.Climbs.{all_at, row_at}
 use Rattle.event_core.proofs.holdings.drop_names.Goals as goal
 
 pub returns : goal.returns

@@ -1,5 +1,5 @@
 use Rattle.std.proofs.Common.{◌<◌, ◌∷◌, [], ◌++◌, length, vec_capacity}
-use Rattle.module_scripts.proofs.Climbs.{all_at, set_at}
+use Rattle.scripts.proofs.Climbs.{all_at, set_at}
 use Rattle.event_core.proofs.holdings.push_name.Goals as goal
 
 pub push_in-requires : goal.push_in-requires

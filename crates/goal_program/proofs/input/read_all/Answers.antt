@@ -1,5 +1,5 @@
 use Rattle.std.proofs.Common.{◌≡◌, ◌-◌, Some, IfSome, ◌+◌, ◌<◌, ◌≤◌, length, length-take, take, vec_len, refl, sym, subst, ◌∙◌, arith}
-use Rattle.goal_requests.specs.Requests.{most_request}
+use Rattle.goal_program.specs.Requests.{most_request}
 use Rattle.goal_program.specs.Reading.{most_read}
 use Rattle.goal_program.proofs.Steps.{ReadSoFar, whole, read_nothing, read_step, read_to_end, read_too_much, read_none, read_further, read_so_far}
 use Rattle.goal_program.proofs.input.read_all.Goals as goal

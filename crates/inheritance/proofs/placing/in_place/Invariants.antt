@@ -1,6 +1,6 @@
 use Rattle.std.proofs.Common.{◌≡◌, ◌++◌, ◌∷◌, [], flat_map}
 use Rattle.std.specs.Vec.Iter.{into_iter_items}
-use Rattle.keyed_lists.specs.Keys.{key_of_plugin}
+use Rattle.model_merge.specs.Keys.{key_of_plugin}
 use Rattle.inheritance.specs.Others.{listed}
 use Rattle.inheritance.proofs.placing.in_place.Given as goal
 

@@ -2,8 +2,8 @@ use Rattle.std.proofs.Common.{◌≡◌, ◌||◌, drop}
 use Rattle.std.specs.HashSet.{contains}
 use Rattle.std.specs.List.{list_any}
 use Rattle.mvn_base.specs.declared.key.Key.{Key}
-use Rattle.keyed_lists.specs.Keyed.{same_key}
-use Rattle.keyed_lists.specs.Keys.{key_of_plugin}
+use Rattle.model_merge.specs.Keyed.{same_key}
+use Rattle.model_merge.specs.Keys.{key_of_plugin}
 use Rattle.inheritance.proofs.placing.keys_of.Given as goal
 
 abbrev pub invariant-loop-plugin : goal.invariant-loop-plugin

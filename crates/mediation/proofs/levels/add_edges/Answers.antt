@@ -1,13 +1,13 @@
 use Rattle.std.proofs.Common.{◌≡◌, ◌≤◌, ◌+◌, ℕ, [], ◌∷◌, drop, length, map, Err, Ok, arith, refl, sym, subst, ◌∙◌}
-use Rattle.library_lookup.specs.Libraries.{Libraries}
+use Rattle.mediation.specs.Libraries.{Libraries}
 use Rattle.mediation.specs.Rows.{Adds, Grows, Leads, paths_of}
-use Rattle.library_lookup.specs.Telling.TellsOn.{here}
-use Rattle.winner_law.specs.Winners.{Path, firsts}
+use Rattle.mediation.specs.Telling.TellsOn.{here}
+use Rattle.collector.specs.Winners.{Path, firsts}
 use Rattle.mediation.proofs.Growing.{add_more, fault_stays, refused_early, same_rows}
 use Rattle.mediation.proofs.Paths.{leads_more, next_edge, no_edge}
 use Rattle.mediation.proofs.Prefixes.{onward, whole}
 use Rattle.mediation.proofs.Standing.{all_placed, begun_placed, next_placed}
-use Rattle.library_lookup.proofs.Telling.{told_both}
+use Rattle.mediation.proofs.Telling.{told_both}
 use Rattle.mediation.proofs.levels.add_edges.Goals as goal
 
 pub loop-edge-init : goal.loop-edge-init

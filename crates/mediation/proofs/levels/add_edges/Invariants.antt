@@ -1,11 +1,11 @@
 use Rattle.std.proofs.Common.{◌≡◌, List, ◌∷◌, ◌++◌, drop, map, take, Result}
 use Rattle.collector.specs.declared.edge.Edge.{Edge}
-use Rattle.library_lookup.specs.declared.fault.MediationFault.{MediationFault}
+use Rattle.mediation.specs.declared.fault.MediationFault.{MediationFault}
 use Rattle.mediation.specs.declared.winner.Winner.{Winner}
-use Rattle.library_lookup.specs.Libraries.{Libraries}
+use Rattle.mediation.specs.Libraries.{Libraries}
 use Rattle.mediation.specs.Rows.{Adds, ArePlaced, IsPrefix, Leads, paths_of}
-use Rattle.winner_law.specs.Winners.{Path}
-use Rattle.library_lookup.specs.Telling.{TellsOn}
+use Rattle.collector.specs.Winners.{Path}
+use Rattle.mediation.specs.Telling.{TellsOn}
 use Rattle.mediation.proofs.levels.add_edges.Given as goal
 
 -- what the rest adds, all of it adds

@@ -1,15 +1,15 @@
 use Rattle.std.proofs.Common.{List, ◌++◌, ◌<◌, ◌≤◌, [], length, slice_get, flat_map, Ok, Err, refl, arith, ◌∙◌}
 use Rattle.collector.specs.declared.edge.Edge.{Edge}
 use Rattle.std.specs.Option.{option_to_list}
-use Rattle.library_lookup.specs.Libraries.{graph_of}
+use Rattle.mediation.specs.Libraries.{graph_of}
 use Rattle.mediation.specs.Rows.{paths_of}
-use Rattle.winner_law.specs.Winners.{longer}
+use Rattle.collector.specs.Winners.{longer}
 use Rattle.mediation.proofs.Growing.{fault_stays}
 use Rattle.mediation.proofs.Places.{level_done, level_step, level_stopped, stands_more}
 use Rattle.mediation.proofs.Prefixes.{level_below, next_below, onward, whole}
 use Rattle.mediation.proofs.Standing.{list_placed}
-use Rattle.library_lookup.proofs.Telling.{told_both}
-use Rattle.library_lookup.specs.Telling.TellsOn.{here}
+use Rattle.mediation.proofs.Telling.{told_both}
+use Rattle.mediation.specs.Telling.TellsOn.{here}
 use Rattle.mediation.proofs.levels.add_level.Goals as goal
 
 pub loop-place-init : goal.loop-place-init

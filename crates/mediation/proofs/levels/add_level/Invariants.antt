@@ -1,13 +1,13 @@
 use Rattle.std.proofs.Common.{◌≡◌, ◌++◌, List, drop, take, map, flat_map, Result, All}
 use Rattle.model_types.specs.declared.dependency.Dependency.{Dependency}
 use Rattle.collector.specs.declared.edge.Edge.{Edge}
-use Rattle.library_lookup.specs.declared.fault.MediationFault.{MediationFault}
+use Rattle.mediation.specs.declared.fault.MediationFault.{MediationFault}
 use Rattle.mediation.specs.declared.winner.Winner.{Winner}
-use Rattle.library_lookup.specs.Libraries.{Libraries, graph_of}
+use Rattle.mediation.specs.Libraries.{Libraries, graph_of}
 use Rattle.mediation.specs.Rows.{Adds, ArePlaced, IsPicked, IsPrefix, edges_below, paths_of}
-use Rattle.winner_law.specs.Winners.{longer}
+use Rattle.collector.specs.Winners.{longer}
 use Rattle.mediation.proofs.Places.{Stands}
-use Rattle.library_lookup.specs.Telling.{TellsOn}
+use Rattle.mediation.specs.Telling.{TellsOn}
 use Rattle.mediation.proofs.levels.add_level.Given as goal
 
 -- what the rest of the level adds, the level adds

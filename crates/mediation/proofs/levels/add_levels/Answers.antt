@@ -1,9 +1,9 @@
 use Rattle.std.proofs.Common.{◌≤◌, [], length, refl, sym, subst, arith, ◌∙◌}
-use Rattle.library_lookup.specs.Libraries.{graph_of}
+use Rattle.mediation.specs.Libraries.{graph_of}
 use Rattle.mediation.proofs.Lengths.{IsUpTo, begun, ended, not_begun, not_turned, turned}
 use Rattle.mediation.proofs.Prefixes.{all_below}
 use Rattle.mediation.proofs.Standing.{own_placed}
-use Rattle.library_lookup.proofs.Telling.{told_both}
+use Rattle.mediation.proofs.Telling.{told_both}
 use Rattle.mediation.proofs.levels.add_levels.Goals as goal
 
 pub returns-in-Err-clause-resolves : goal.returns-in-Err-clause-resolves

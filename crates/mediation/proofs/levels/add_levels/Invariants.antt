@@ -2,9 +2,9 @@ use Rattle.std.proofs.Common.{◌≡◌, ◌-◌, List, ◌++◌, flat_map, map,
 use Rattle.model_types.specs.declared.dependency.Dependency.{Dependency}
 use Rattle.collector.specs.Edges.{direct_edges}
 use Rattle.mediation.specs.Rows.{ArePlaced, edges_below}
-use Rattle.library_lookup.specs.Libraries.{Libraries, graph_of, most_winners}
+use Rattle.mediation.specs.Libraries.{Libraries, graph_of, most_winners}
 use Rattle.mediation.proofs.Lengths.{IsUpTo}
-use Rattle.library_lookup.specs.Telling.{TellsOn}
+use Rattle.mediation.specs.Telling.{TellsOn}
 use Rattle.mediation.proofs.levels.add_levels.Given as goal
 
 -- the winners up to some length stand, and those from a place on are of that length

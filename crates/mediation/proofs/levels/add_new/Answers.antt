@@ -1,6 +1,6 @@
 use Rattle.std.proofs.Common.{List, ℕ, Err, is_some, sym, ap, subst, ◌∙◌}
-use Rattle.library_lookup.specs.Faults.{Says}
-use Rattle.library_lookup.specs.Libraries.{chosen}
+use Rattle.mediation.specs.Faults.{Says}
+use Rattle.mediation.specs.Libraries.{chosen}
 use Rattle.mediation.proofs.Growing.{settled, stopped}
 use Rattle.mediation.proofs.levels.add_new.Goals as goal
 

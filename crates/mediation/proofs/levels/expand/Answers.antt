@@ -2,10 +2,10 @@ use Rattle.std.proofs.Common.{List, ◌++◌, flat_map, slice_get, Ok, Err, ap, 
 use Rattle.collector.specs.declared.edge.Edge.{Edge}
 use Rattle.std.specs.Option.{option_to_list}
 use Rattle.mediation.specs.Rows.{ArePlaced, edges_below, paths_of}
-use Rattle.winner_law.specs.Winners.{longer}
+use Rattle.collector.specs.Winners.{longer}
 use Rattle.mediation.proofs.Growing.{fault_stays}
 use Rattle.mediation.proofs.Prefixes.{none_some, same_winner}
-use Rattle.library_lookup.specs.Libraries.{graph_of}
+use Rattle.mediation.specs.Libraries.{graph_of}
 use Rattle.mediation.proofs.Places.{expanded, nothing_there}
 use Rattle.mediation.proofs.levels.expand.Goals as goal
 

@@ -1,4 +1,4 @@
-use Rattle.keyed_lists.specs.Keys.{key_of_execution}
+use Rattle.model_merge.specs.Keys.{key_of_execution}
 use Rattle.model_merge.specs.Merging.{merged_execution}
 use Rattle.model_laws.proofs.Merges.{item_merged, join_merged}
 use Rattle.model_laws.proofs.Plugins.{execution_keeps}

@@ -1,5 +1,5 @@
-use Rattle.keyed_lists.specs.Keyed.{absorb}
-use Rattle.keyed_lists.proofs.UnderKeys.{fold_more}
+use Rattle.model_merge.specs.Keyed.{absorb}
+use Rattle.model_merge.proofs.UnderKeys.{fold_more}
 use Rattle.model_merge.proofs.joined.absorbed.Goals as goal
 
 pub loop-item-preserved : goal.loop-item-preserved

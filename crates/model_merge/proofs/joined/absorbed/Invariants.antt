@@ -1,5 +1,5 @@
 use Rattle.std.proofs.Common.{◌≡◌, List, fold, drop}
-use Rattle.keyed_lists.specs.Keyed.{absorb, absorbed, keyed}
+use Rattle.model_merge.specs.Keyed.{absorb, absorbed, keyed}
 use Rattle.model_merge.proofs.joined.absorbed.Given as goal
 
 abbrev pub invariant-loop-item : goal.invariant-loop-item

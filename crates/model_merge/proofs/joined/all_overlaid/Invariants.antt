@@ -1,6 +1,6 @@
 use Rattle.std.proofs.Common.{◌≡◌, ◌++◌, List, map}
 use Rattle.std.specs.Vec.Iter.{into_iter_items}
-use Rattle.keyed_lists.specs.Keyed.{keyed, overlaid}
+use Rattle.model_merge.specs.Keyed.{keyed, overlaid}
 use Rattle.model_merge.proofs.joined.all_overlaid.Given as goal
 
 abbrev pub invariant-loop-item : goal.invariant-loop-item

@@ -1,5 +1,5 @@
 use Rattle.std.proofs.Common.{◌≡◌, ◌++◌, List, map, drop}
-use Rattle.keyed_lists.specs.Keyed.{keyed, underlaid}
+use Rattle.model_merge.specs.Keyed.{keyed, underlaid}
 use Rattle.model_merge.proofs.joined.all_underlaid.Given as goal
 
 abbrev pub invariant-loop-item : goal.invariant-loop-item

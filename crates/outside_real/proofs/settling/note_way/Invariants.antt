@@ -4,7 +4,7 @@ use Rattle.std.specs.Cmp.Lexicographic.{slice_cmp}
 use Rattle.std.specs.List.{list_any}
 use Rattle.std.specs.BTreeMap.{is_at}
 use Rattle.std.specs.BTreeSet.{contains}
-use Rattle.disk_reading.specs.FullPath.{full_path}
+use Rattle.outside_real.specs.FullPath.{full_path}
 use Rattle.outside_real.specs.Ways.{folders_above, Keeps}
 use Rattle.outside_real.proofs.settling.note_way.Given as goal
 use denote.Shadow.{shadow}

@@ -1,6 +1,6 @@
 use Rattle.std.proofs.Common.{◌≡◌, ◌≤◌, ◌+◌, drop}
-use Rattle.plan_parts.specs.Plans.{most_events}
-use Rattle.plan_parts.specs.Ready.{all_ready_events}
+use Rattle.module_plan.specs.Plans.{most_events}
+use Rattle.module_plan.specs.Ready.{all_ready_events}
 use Rattle.plan_numbers.proofs.events.count_events.Given as goal
 
 -- the modules before this one are counted, and they aren't too many

@@ -1,6 +1,6 @@
 use Rattle.std.proofs.Common.{◌≡◌, drop, fold}
 use Rattle.classpaths.specs.Classpaths.{with_name}
-use Rattle.plan_parts.specs.Ready.{names_in}
+use Rattle.module_plan.specs.Ready.{names_in}
 use Rattle.plan_numbers.proofs.tables.add_outputs.Given as goal
 
 abbrev pub invariant-loop-output : goal.invariant-loop-output

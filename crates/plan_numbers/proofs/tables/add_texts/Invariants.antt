@@ -1,5 +1,5 @@
 use Rattle.std.proofs.Common.{◌≡◌, drop}
-use Rattle.plan_files.specs.Numbers.{with_texts}
+use Rattle.module_plan.specs.Numbers.{with_texts}
 use Rattle.plan_numbers.proofs.tables.add_texts.Given as goal
 
 abbrev pub invariant-loop-text : goal.invariant-loop-text

@@ -1,7 +1,7 @@
 use Rattle.std.proofs.Common.{◌≡◌, drop, flat_map}
 use Rattle.std.specs.FinMap as finite
-use Rattle.plan_files.specs.Numbers.{with_texts}
-use Rattle.plan_parts.specs.Ready.{ready_locks}
+use Rattle.module_plan.specs.Numbers.{with_texts}
+use Rattle.module_plan.specs.Ready.{ready_locks}
 use Rattle.plan_numbers.proofs.tables.all_locks.Given as goal
 
 abbrev pub invariant-loop-ready : goal.invariant-loop-ready

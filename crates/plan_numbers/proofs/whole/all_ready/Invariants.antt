@@ -1,7 +1,7 @@
 use Rattle.std.proofs.Common.{◌≡◌, ◌++◌, map}
 use Rattle.std.specs.List.{AllByRecursion}
 use Rattle.std.specs.Vec.Iter.{into_iter_items}
-use Rattle.plan_parts.specs.Ready.{ready}
+use Rattle.module_plan.specs.Ready.{ready}
 use Rattle.plan_numbers.specs.Whole.{HasGav}
 use Rattle.plan_numbers.proofs.whole.all_ready.Given as goal
 

@@ -1,5 +1,5 @@
 use Rattle.std.proofs.Common.{◌≡◌, ◌++◌, drop}
-use Rattle.plan_files.specs.Uses.{gavs}
+use Rattle.module_plan.specs.Uses.{gavs}
 use Rattle.plan_numbers.proofs.whole.gavs_of.Given as goal
 
 abbrev pub invariant-loop-selected : goal.invariant-loop-selected

@@ -1,5 +1,5 @@
 use Rattle.std.proofs.Common.{◌≡◌, IfOk, subst}
-use Rattle.pom_table.specs.Elements.{text_of}
+use Rattle.pom_model.specs.Elements.{text_of}
 use Rattle.pom_model.specs.Fields.{file_text}
 use Rattle.pom_model.proofs.profile.file_text.Goals as goal
 

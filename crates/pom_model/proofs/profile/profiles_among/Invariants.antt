@@ -1,5 +1,5 @@
 use Rattle.std.proofs.Common.{◌≡◌, ◌++◌, codes, map, drop}
-use Rattle.pom_table.specs.Elements.{named_among}
+use Rattle.pom_model.specs.Elements.{named_among}
 use Rattle.pom_model.specs.Fields.{profile}
 use Rattle.pom_model.proofs.profile.profiles_among.Given as goal
 

@@ -1,7 +1,7 @@
 use Rattle.std.proofs.Common.{rules, ◌++◌, append-nil, ap, sym, ◌∙◌}
 use Rattle.std.specs.Str.{chars}
-use Rattle.pom_words.specs.Reads.{attributes_of, names_of}
-use Rattle.pom_words.proofs.Attributes.{attributes_end, names_more, shorter}
+use Rattle.pom_text.specs.Reads.{attributes_of, names_of}
+use Rattle.pom_text.proofs.Attributes.{attributes_end, names_more, shorter}
 use Rattle.pom_text.proofs.attribute.names_in.Goals as goal
 
 pub loop-attribute-smaller : goal.loop-attribute-smaller

@@ -2,7 +2,7 @@ use Rattle.std.proofs.Common.{◌≡◌, ◌++◌, length}
 use denote.Text.{Utf8}
 use denote.Shadow.{shadow}
 use Rattle.std.specs.Str.{chars}
-use Rattle.pom_words.specs.Reads.{attributes_of, names_of}
+use Rattle.pom_text.specs.Reads.{attributes_of, names_of}
 use Rattle.pom_text.proofs.attribute.names_in.Given as goal
 
 abbrev pub invariant-loop-attribute : goal.invariant-loop-attribute

@@ -1,6 +1,6 @@
 use Rattle.std.proofs.Common.{arith, ap, ◌∙◌, length, refl, ◌+◌, ◌-◌}
 use Rattle.std.specs.Str.{chars}
-use Rattle.pom_words.specs.Encodings.{encoded}
+use Rattle.pom_text.specs.Encodings.{encoded}
 use Rattle.pom_text.proofs.Bounds.{encoded_within}
 use Rattle.pom_text.proofs.Places.{front_within, place_of, unread_within}
 use Rattle.pom_text.proofs.read.place_of.Goals as goal

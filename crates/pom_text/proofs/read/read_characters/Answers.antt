@@ -1,7 +1,7 @@
 use Rattle.std.proofs.Common.{arith, ap, sym, subst, ◌∙◌}
 use Rattle.std.specs.List.{prefix_len}
 use Rattle.std.specs.Str.{chars}
-use Rattle.pom_words.specs.Characters.{is_allowed}
+use Rattle.pom_text.specs.Characters.{is_allowed}
 use Rattle.pom_text.specs.Answers.{Agrees}
 use Rattle.pom_text.specs.Running.{outcome_of, run}
 use Rattle.pom_text.specs.Tree.{nothing_yet}

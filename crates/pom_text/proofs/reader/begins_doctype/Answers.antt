@@ -1,6 +1,6 @@
 use Rattle.std.proofs.Common.{codes}
 use Rattle.std.specs.Str.{chars}
-use Rattle.pom_words.proofs.Firsts.{starts_not, starts_so}
+use Rattle.pom_text.proofs.Firsts.{starts_not, starts_so}
 use Rattle.pom_text.proofs.reader.begins_doctype.Goals as goal
 
 pub returns-in-Some : goal.returns-in-Some

@@ -1,8 +1,8 @@
 use Rattle.std.proofs.Common.{rules, ◌++◌, false, ap, ◌∙◌}
 use Rattle.std.specs.Str.{chars, encode_utf8_all}
-use Rattle.pom_words.specs.Parts.{lines}
+use Rattle.pom_text.specs.Parts.{lines}
 use Rattle.pom_text.proofs.Breaks.{line_last, line_more, line_shorter}
-use Rattle.pom_words.proofs.Bytes.{whole_again}
+use Rattle.pom_text.proofs.Bytes.{whole_again}
 use Rattle.pom_text.proofs.spelled.push_lines.Goals as goal
 
 pub loop-line-smaller : goal.loop-line-smaller

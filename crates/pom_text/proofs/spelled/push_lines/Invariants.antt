@@ -2,7 +2,7 @@ use Rattle.std.proofs.Common.{◌≡◌, ◌++◌, false, length}
 use denote.Text.{Utf8}
 use denote.Shadow.{shadow}
 use Rattle.std.specs.Str.{chars, encode_utf8_all}
-use Rattle.pom_words.specs.Parts.{lines}
+use Rattle.pom_text.specs.Parts.{lines}
 use Rattle.pom_text.proofs.spelled.push_lines.Given as goal
 
 abbrev pub invariant-loop-line : goal.invariant-loop-line

@@ -1,5 +1,5 @@
 use Rattle.std.proofs.Common.{◌≡◌, IfOk, subst}
-use Rattle.import_store.specs.Effective.{effective}
+use Rattle.effective.specs.Effective.{effective}
 use Rattle.project_libraries.specs.Known.{known_of}
 use Rattle.project_libraries.proofs.known.built.Goals as goal
 

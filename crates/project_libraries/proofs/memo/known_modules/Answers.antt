@@ -1,7 +1,7 @@
 use Rattle.std.proofs.Common.{◌≡◌, ◌+◌, ◌++◌, [], ◌∷◌, take, sym, ap, ◌∙◌, arith}
 use Rattle.std.specs.Option.{option_map}
 use Rattle.std.proofs.lemmas.List.{take_all, take_more}
-use Rattle.library_lookup.specs.declared.known.Known.TheVariants as known
+use Rattle.mediation.specs.declared.known.Known.TheVariants as known
 use Rattle.project_libraries.specs.Known.{module_of}
 use Rattle.project_libraries.proofs.memo.known_modules.Goals as goal
 

@@ -3,7 +3,7 @@ use Rattle.std.specs.Option.{option_map}
 use Rattle.std.specs.HashMap.{get}
 use Rattle.mvn_base.specs.declared.gav.Gav.{Gav}
 use Rattle.mvn_base.specs.Gav.{gav_eq}
-use Rattle.library_lookup.specs.declared.known.Known.TheVariants as known
+use Rattle.mediation.specs.declared.known.Known.TheVariants as known
 use Rattle.project_libraries.specs.Known.{module_of}
 use Rattle.project_libraries.proofs.memo.known_modules.Given as goal
 

@@ -1,5 +1,5 @@
 use Rattle.std.proofs.Common.{◌≡◌, ◌+◌, ◌++◌, ◌∷◌, [], length, length-append, slice_get, take, Some, Ok, Err, refl, sym, ap, subst, arith, ◌∙◌}
-use Rattle.library_lookup.proofs.Telling.{told_both}
+use Rattle.mediation.proofs.Telling.{told_both}
 use Rattle.project_libraries.specs.Resolving.{AreResolved, ResolvesModule}
 use Rattle.std.proofs.lemmas.Option.{slice_get_read}
 use Rattle.project_libraries.proofs.Modules.{all_resolved, refused_here, resolved_more}

@@ -1,6 +1,6 @@
 use Rattle.std.proofs.Common.{◌≡◌, ◌≤◌, length, take}
-use Rattle.library_lookup.specs.Libraries.{Libraries}
-use Rattle.library_lookup.specs.Telling.{TellsOn}
+use Rattle.mediation.specs.Libraries.{Libraries}
+use Rattle.mediation.specs.Telling.{TellsOn}
 use Rattle.project_libraries.specs.Resolving.{AreResolved}
 use Rattle.project_libraries.proofs.resolving.resolve_each.Given as goal
 

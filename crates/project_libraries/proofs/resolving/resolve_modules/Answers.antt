@@ -2,7 +2,7 @@ use Rattle.std.proofs.Common.{◌≡◌, List, sym, ap, subst}
 use Rattle.std.specs.HashMap.{get}
 use Rattle.mvn_outside.specs.Shelf.{files_now}
 use Rattle.mvn_base.specs.Gav.{gav_eq}
-use Rattle.import_store.specs.Kept.{HoldsAll}
+use Rattle.effective.specs.Kept.{HoldsAll}
 use Rattle.model_resolver.specs.Finding.{world_of}
 use Rattle.model_resolver.specs.declared.resolver.ProjectPom.{ProjectPom}
 use Rattle.project_libraries.specs.Known.{libraries_of}

@@ -2,7 +2,7 @@ use Rattle.std.proofs.Common.{sym, ap, ◌∙◌, arith}
 use Rattle.std.specs.HashMap.{get}
 use Rattle.std.specs.Option.{option_copied}
 use Rattle.mvn_base.specs.Gav.{gav_eq}
-use Rattle.module_models.proofs.Each.{none_left}
+use Rattle.project_models.proofs.Each.{none_left}
 use Rattle.project_models.proofs.Looking.{double_is, no_model, no_pom, one_looked}
 use Rattle.project_models.proofs.doubles.first_double.Goals as goal
 

@@ -2,13 +2,13 @@ use Rattle.std.proofs.Common.{◌≡◌, [], Err, List, sym, subst, ◌∙◌}
 use Rattle.pom_source.specs.Answers.{Says}
 use Rattle.pom_source.specs.Worlds.{World}
 use Rattle.pom_source.specs.declared.fault.BuildFault.TheVariants.{Memory}
-use Rattle.pom_store.specs.Stores.{Holds}
+use Rattle.lineage.specs.Stores.{Holds}
 use Rattle.model_resolver.specs.Devices.{Counts, FitsTold, Told}
 use Rattle.model_resolver.specs.Finding.{world_of}
 use Rattle.model_resolver.specs.declared.resolver.ProjectPom.{ProjectPom}
 use Rattle.model_resolver.proofs.Counting.{counted_none}
 use Rattle.model_resolver.proofs.Finding.{told_fits}
-use Rattle.module_models.specs.Found.{project_poms}
+use Rattle.project_models.specs.Found.{project_poms}
 use Rattle.project_models.proofs.Told.{told_any}
 use Rattle.project_models.proofs.project.find_poms.Goals as goal
 

@@ -1,9 +1,9 @@
 use Rattle.std.proofs.Common.{Ok, Err, IfOk}
 use Rattle.pom_source.specs.Answers.{Says}
 use Rattle.pom_source.specs.Chains.{stop_fails}
-use Rattle.import_store.specs.Kept.{HoldsAll}
+use Rattle.effective.specs.Kept.{HoldsAll}
 use Rattle.model_resolver.specs.Finding.{world_of}
-use Rattle.module_models.specs.Found.{models_of}
+use Rattle.project_models.specs.Found.{models_of}
 use Rattle.project_models.specs.Models.{Gives, modules_of, single}
 use Rattle.project_models.specs.declared.project.ProjectModels.{ProjectModels}
 use Rattle.project_models.proofs.Giving.{gives_on, holds_on}

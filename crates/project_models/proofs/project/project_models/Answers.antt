@@ -1,12 +1,12 @@
 use Rattle.std.proofs.Common.{◌≡◌, ℕ, [], Ok, Err, IfOk}
 use Rattle.pom_source.specs.Answers.{Says}
 use Rattle.pom_source.specs.Chains.{stop_fails}
-use Rattle.pom_store.specs.Stores.{Holds}
-use Rattle.import_store.specs.Kept.{HoldsAll}
+use Rattle.lineage.specs.Stores.{Holds}
+use Rattle.effective.specs.Kept.{HoldsAll}
 use Rattle.model_resolver.specs.Devices.{Counts}
 use Rattle.model_resolver.specs.Finding.{world_of}
 use Rattle.model_resolver.proofs.Counting.{counted_twice}
-use Rattle.module_models.specs.Found.{project_poms}
+use Rattle.project_models.specs.Found.{project_poms}
 use Rattle.project_models.specs.Models.{Gives, modules_of, project_models}
 use Rattle.project_models.specs.declared.project.ProjectModels.{ProjectModels}
 use Rattle.project_models.proofs.Giving.{gives_on}

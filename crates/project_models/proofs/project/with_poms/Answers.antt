@@ -1,11 +1,11 @@
 use Rattle.std.proofs.Common.{◌≡◌, [], Ok, Err, IfOk}
 use Rattle.pom_source.specs.declared.fault.BuildFault.TheVariants.{Memory}
-use Rattle.pom_store.specs.Stores.{Holds}
-use Rattle.import_store.specs.Kept.{HoldsAll}
+use Rattle.lineage.specs.Stores.{Holds}
+use Rattle.effective.specs.Kept.{HoldsAll}
 use Rattle.model_resolver.specs.Devices.{Counts}
 use Rattle.model_resolver.specs.Finding.{world_of}
 use Rattle.model_resolver.proofs.Counting.{counted_none}
-use Rattle.module_models.specs.Found.{project_poms}
+use Rattle.project_models.specs.Found.{project_poms}
 use Rattle.project_models.specs.Models.{Gives, modules_of}
 use Rattle.project_models.specs.declared.project.ProjectModels.{ProjectModels}
 use Rattle.project_models.proofs.Told.{told_any}

@@ -1,5 +1,5 @@
 use Rattle.std.proofs.Common.{subst, sym, ◌∙◌}
-use Rattle.tree_order.specs.Preorder.{Ascends}
+use Rattle.resolution.specs.Preorder.{Ascends}
 use Rattle.resolution.proofs.Listed.{ascend}
 use Rattle.resolution.proofs.tree.order_of.Goals as goal
 

@@ -6,7 +6,7 @@ use Rattle.event_core.specs.Enabled.{Enabled}
 use Rattle.event_core.specs.Runs.{answers_in}
 use Rattle.event_core.specs.Standing.{course_of, module_of, standing_of}
 use Rattle.event_core.specs.declared.entry.Carried.TheVariants as carried
-use Rattle.goal_answers.specs.Walks.{goals_of}
+use Rattle.board.specs.Walks.{goals_of}
 use Rattle.board.specs.Builds.{MayCome, answer_kept, module_at, with_entry}
 use Rattle.board.specs.Keeping.{log_by, room_of}
 use Rattle.board.specs.declared.next.AnswerKept.TheVariants.{Held}

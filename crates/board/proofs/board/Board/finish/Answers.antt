@@ -1,7 +1,7 @@
 use Rattle.std.proofs.Common.{◌≡◌, ◌≤◌, true, length, map, ap, subst, sym, ◌∙◌}
-use Rattle.name_locks.specs.Locks.{below}
+use Rattle.build_core.specs.Locks.{below}
 use Rattle.event_core.specs.Runs.{IsQuiet, answers_in, events_of}
-use Rattle.module_progress.specs.HowFar.{state_of}
+use Rattle.event_core.specs.HowFar.{state_of}
 use Rattle.event_core.specs.Standing.{is_complete, standing_of}
 use Rattle.run_law.specs.Given.{states_after}
 use Rattle.board.specs.Builds.{standing_at}

@@ -1,4 +1,4 @@
-use Rattle.module_scripts.specs.Outlines.{outline_of}
+use Rattle.scripts.specs.Outlines.{outline_of}
 use Rattle.event_core.specs.Runs.{events_of}
 use Rattle.board.proofs.Steps.{no_why}
 use Rattle.board.proofs.board.Board.go.Goals as goal

@@ -1,5 +1,5 @@
 use Rattle.std.proofs.Common.{◌≡◌, subst}
-use Rattle.module_scripts.specs.Scripts.{is_there}
+use Rattle.scripts.specs.Scripts.{is_there}
 use Rattle.event_core.specs.Standing.{standing_of}
 use Rattle.board.specs.Builds.{standing_at}
 use Rattle.board.specs.Keeping.{room_of}

@@ -1,6 +1,6 @@
 use Rattle.std.proofs.Common.{◌≡◌, subst, sym, ◌∙◌}
 use Rattle.event_core.specs.Going.{NeverWaits}
-use Rattle.module_scripts.specs.Outlines.{outline_of}
+use Rattle.scripts.specs.Outlines.{outline_of}
 use Rattle.event_core.specs.Runs.{events_of}
 use Rattle.event_core.specs.Sound.{IsSound}
 use Rattle.event_core.specs.Standing.{standing_of}

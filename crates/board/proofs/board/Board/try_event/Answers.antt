@@ -1,6 +1,6 @@
 use Rattle.std.proofs.Common.{◌≡◌, Some, OnOk, IfErr, subst}
 use Rattle.event_core.specs.Causes.{cause_now}
-use Rattle.module_scripts.specs.Outlines.{outline_of}
+use Rattle.scripts.specs.Outlines.{outline_of}
 use Rattle.board.specs.Builds.{MayCome, standing_at, with_event}
 use Rattle.board.specs.Keeping.{room_of}
 use Rattle.board.proofs.Steps.{build, tried_board, tried_err, tried_ok}

@@ -1,4 +1,4 @@
-use Rattle.crew_stages.specs.Hands.{state_by}
+use Rattle.crew_turns.specs.Hands.{state_by}
 use Rattle.crew_turns.specs.Seen.{seen_by}
 use Rattle.crew.specs.Crews.{opened_by}
 use Rattle.crew.proofs.Rests.{left_still, made_one}

@@ -1,4 +1,4 @@
-use Rattle.crew_stages.specs.Hands.{state_by}
+use Rattle.crew_turns.specs.Hands.{state_by}
 use Rattle.crew.specs.Crews.{opened_by}
 use Rattle.crew.proofs.Rests.{done, fits, left, of}
 use Rattle.crew.proofs.halves.CrewTeamTurnLockBoardHandAreaPassBoard.work.Goals as goal

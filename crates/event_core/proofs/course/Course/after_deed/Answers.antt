@@ -1,6 +1,6 @@
 use Rattle.std.proofs.Common.{refl, subst, ◌∙◌}
 use Rattle.event_core.specs.Holders.{CourseHolds}
-use Rattle.module_scripts.specs.HeldAt.{RestHoldsBehind}
+use Rattle.scripts.specs.HeldAt.{RestHoldsBehind}
 use Rattle.event_core.proofs.HeldAt.{then_held}
 use Rattle.event_core.proofs.course.Course.after_deed.Goals as goal
 

@@ -1,5 +1,5 @@
 use Rattle.std.proofs.Common.{[], None, refl, ap, ◌∙◌}
-use Rattle.module_scripts.specs.Scripts.{settled}
+use Rattle.scripts.specs.Scripts.{settled}
 use Rattle.event_core.specs.Standing.{on_course}
 use Rattle.event_core.proofs.Starts.{start_is}
 use Rattle.event_core.proofs.course.Course.begun.Goals as goal

@@ -1,6 +1,6 @@
 use Rattle.std.proofs.Common.{◌≡◌, ◌<◌, false, None, [], filter, get_or, map, set, sym, ap, subst, vec_capacity, ◌∙◌}
-use Rattle.name_locks.specs.Locks.{IsSeat, names_of, with_hold}
-use Rattle.module_scripts.specs.Climbing.{but}
+use Rattle.build_core.specs.Locks.{IsSeat, names_of, with_hold}
+use Rattle.scripts.specs.Climbing.{but}
 use Rattle.event_core.specs.Taken.{AreStacks, ends_freed, held_from, is_held}
 use Rattle.event_core.proofs.Taken.{freed_stacks, freed_view}
 use Rattle.event_core.proofs.holdings.Holdings.free.Goals as goal

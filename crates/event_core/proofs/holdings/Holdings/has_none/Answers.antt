@@ -1,5 +1,5 @@
 use Rattle.std.proofs.Common.{[], get_or, map, ap, ◌∙◌}
-use Rattle.module_scripts.specs.Outlines.{is_empty}
+use Rattle.scripts.specs.Outlines.{is_empty}
 use Rattle.event_core.proofs.Taken.{none_is}
 use Rattle.event_core.proofs.holdings.Holdings.has_none.Goals as goal
 

@@ -1,6 +1,6 @@
 use Rattle.std.proofs.Common.{◌≡◌, ◌≤◌, ◌<◌, true, Some, [], ◌∷◌, ◌++◌, length, get_or, map, nat_lt, set, arith, sym, ap, subst, vec_capacity, ◌∙◌}
 use Rattle.std.specs.List.{list_all}
-use Rattle.name_locks.specs.Locks.{IsSeat, names_of, with_hold}
+use Rattle.build_core.specs.Locks.{IsSeat, names_of, with_hold}
 use Rattle.event_core.specs.Taken.{AreStacks, held_from}
 use Rattle.event_core.proofs.Fits.{all_back}
 use Rattle.event_core.proofs.Taken.{short_rows, taken_stacks, taken_view}

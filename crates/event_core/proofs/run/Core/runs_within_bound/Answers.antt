@@ -1,6 +1,6 @@
 use Rattle.std.proofs.Common.{◌≤◌, ◌+◌, List, [], length, arith, subst}
 use Rattle.build_core.specs.declared.event.Event.{Event}
-use Rattle.module_scripts.specs.declared.outline.Outline.{Outline}
+use Rattle.scripts.specs.declared.outline.Outline.{Outline}
 use Rattle.event_core.specs.EventsLeft.{events_left}
 use Rattle.event_core.specs.Enabled.{IsRun}
 use Rattle.event_core.specs.Standing.{standing_of}

@@ -1,6 +1,6 @@
 use Rattle.std.proofs.Common.{None, sym, ◌∙◌}
 use Rattle.event_core.specs.declared.refused.NotEnabled.TheVariants.{Upstream, Worker}
-use Rattle.module_progress.specs.HowFar.{first_not_built}
+use Rattle.event_core.specs.HowFar.{first_not_built}
 use Rattle.event_core.specs.Standing.{course_of, module_of}
 use Rattle.event_core.specs.Causes.{where_found}
 use Rattle.event_core.specs.Kept.{standing_in}

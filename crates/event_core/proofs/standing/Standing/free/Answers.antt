@@ -1,7 +1,7 @@
 use Rattle.std.proofs.Common.{◌≡◌, [], get_or, arith, ap, sym, subst, ◌∙◌}
-use Rattle.module_scripts.specs.Climbing.{but}
+use Rattle.scripts.specs.Climbing.{but}
 use Rattle.event_core.specs.Standing.{after_free, free_done, held_by, turned_to}
-use Rattle.module_scripts.specs.Outlines.{is_empty}
+use Rattle.scripts.specs.Outlines.{is_empty}
 use Rattle.event_core.specs.Kept.{course_at, standing_in}
 use Rattle.std.proofs.lemmas.List.{get_or-set_same}
 use Rattle.event_core.proofs.HeldAt.{changed_holding}

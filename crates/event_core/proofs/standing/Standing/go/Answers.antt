@@ -1,6 +1,6 @@
 use Rattle.std.proofs.Common.{arith, sym, ap, subst, ◌∙◌}
 use Rattle.event_core.specs.Enabled.{IsEnabled}
-use Rattle.module_progress.specs.HowFar.{is_over, progress_of}
+use Rattle.event_core.specs.HowFar.{is_over, progress_of}
 use Rattle.event_core.specs.Standing.{after}
 use Rattle.event_core.specs.Kept.{standing_in}
 use Rattle.event_core.proofs.Fits.{hold_none}

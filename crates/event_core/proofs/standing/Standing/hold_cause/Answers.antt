@@ -1,5 +1,5 @@
 use Rattle.std.proofs.Common.{None, sym, ◌∙◌}
-use Rattle.module_scripts.specs.declared.deed.Deed.TheVariants.{Take}
+use Rattle.scripts.specs.declared.deed.Deed.TheVariants.{Take}
 use Rattle.event_core.specs.declared.refused.NotEnabled.TheVariants.{Stage, Unordered}
 use Rattle.event_core.specs.Standing.{course_of, held_by}
 use Rattle.event_core.specs.Enabled.{is_due}

@@ -1,10 +1,10 @@
 use Rattle.std.proofs.Common.{[], length, map, replicate, ap, ◌∙◌}
-use Rattle.name_locks.specs.Locks.{none_held}
-use Rattle.module_progress.specs.declared.progress.Progress.TheVariants.{Waiting}
+use Rattle.build_core.specs.Locks.{none_held}
+use Rattle.event_core.specs.declared.module_steps.Progress.TheVariants.{Waiting}
 use Rattle.event_core.specs.declared.course.Course.TheVariants.{Idle}
 use Rattle.event_core.specs.Standing.{idle}
 use Rattle.event_core.specs.Kept.{course_at}
-use Rattle.module_scripts.proofs.Climbs.{map_replicate}
+use Rattle.scripts.proofs.Climbs.{map_replicate}
 use Rattle.event_core.proofs.HeldAt.{first_holding}
 use Rattle.event_core.proofs.standing.Standing.new.Goals as goal
 

@@ -1,7 +1,7 @@
 use Rattle.std.proofs.Common.{None, slice_set, sym, subst, ap, ◌∙◌}
-use Rattle.module_progress.specs.declared.progress.Progress.TheVariants.{Running}
-use Rattle.module_scripts.specs.Scripts.{settled}
-use Rattle.module_scripts.specs.Outlines.{is_empty}
+use Rattle.event_core.specs.declared.module_steps.Progress.TheVariants.{Running}
+use Rattle.scripts.specs.Scripts.{settled}
+use Rattle.scripts.specs.Outlines.{is_empty}
 use Rattle.event_core.specs.Standing.{on_course, start_of, turned_to}
 use Rattle.event_core.specs.Kept.{course_at, standing_in}
 use Rattle.event_core.proofs.HeldAt.{turned_holding}

@@ -1,7 +1,7 @@
 use Rattle.std.proofs.Common.{◌≡◌, true, false, ap, sym, ◌∙◌}
 use Rattle.std.specs.HashSet.{contains}
-use Rattle.keyed_lists.specs.Keyed.{same_key}
-use Rattle.keyed_lists.specs.Keys.{key_of_plugin}
+use Rattle.model_merge.specs.Keyed.{same_key}
+use Rattle.model_merge.specs.Keys.{key_of_plugin}
 use Rattle.inheritance.specs.Others.{listed}
 use Rattle.inheritance.specs.Placing.{is_shared}
 use Rattle.inheritance.proofs.Leading.{if_ok_both, other_stands, shared_stands}

@@ -3,7 +3,7 @@ use Rattle.mediation.specs.Rows.{row_of}
 use Rattle.mediation.proofs.Kept.{put_few, put_rows}
 use Rattle.mediation.proofs.Standing.{place_last}
 use Rattle.mediation.proofs.winner.Winners.push.Goals as goal
-use Rattle.library_lookup.specs.Libraries.{most_winners}
+use Rattle.mediation.specs.Libraries.{most_winners}
 
 pub invariant_of-self-2 : goal.invariant_of-self-2
 invariant_of-self-2 c =

@@ -1,6 +1,6 @@
 use Rattle.std.proofs.Common.{rules, ◌<◌, ◌≤◌, false, length, sym}
 use Rattle.std.specs.Str.{chars, encode_utf8_all}
-use Rattle.pom_words.specs.Parts.{lines}
+use Rattle.pom_text.specs.Parts.{lines}
 use Rattle.pom_text.specs.Tree.{add_text}
 use Rattle.pom_text.proofs.Trees.{not_changed, set_changed}
 use Rattle.pom_text.proofs.tree.Tree.add_lines.Goals as goal

@@ -2,7 +2,7 @@ use Rattle.std.proofs.Common.{ap, sym, ◌∙◌}
 use Rattle.std.specs.Str.{chars, encode_utf8_all}
 use Rattle.pom_text.specs.Growth.{standing_of}
 use Rattle.pom_text.specs.Tree.{add_text, changed}
-use Rattle.pom_words.proofs.Bytes.{whole_again}
+use Rattle.pom_text.proofs.Bytes.{whole_again}
 use Rattle.pom_text.proofs.Plain.{empty_run, grown_inside, outside_run, some_run}
 use Rattle.pom_text.proofs.tree.Tree.take_run.Goals as goal
 

@@ -1,5 +1,5 @@
 use Rattle.std.proofs.Common.{refl}
-use Rattle.resolver_calls.specs.Composing.{told_whole}
+use Rattle.model_resolver.specs.Composing.{told_whole}
 use Rattle.project_libraries.proofs.Running.{fits_still, fits_world, known_in, world_in}
 use Rattle.project_libraries.proofs.run_lookup.RunLookupLookup.model.Goals as goal
 

@@ -1,8 +1,0 @@
-use Rattle.std.proofs.Common.{◌≡◌, fold}
-use Rattle.std.specs.Vec.Iter.{into_iter_items}
-use Rattle.available_versions.specs.Available.{with_version}
-use Rattle.available_versions.proofs.versions.add_versions.Given as goal
-
--- with the versions that are left, all versions
-abbrev pub invariant-loop-version : goal.invariant-loop-version
-invariant-loop-version l = fold with_version l.found (into_iter_items l.version-iterator) ≡ fold with_version l.initial.found l.fn.versions

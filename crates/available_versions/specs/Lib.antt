@@ -1,2 +1,0 @@
-pub use Rattle.model_resolver.specs.Devices
-pub mod Available

@@ -1,0 +1,12 @@
+pub use Rattle.mvn_shared.specs.Cause
+pub use Rattle.mvn_shared.specs.Files
+pub use Rattle.build_core.specs.OneThread
+pub use Rattle.report.specs.Rows
+pub use Rattle.crew_turns.specs.Hands
+pub use Rattle.crew.specs.CrewOutcomes
+pub mod Answering
+pub mod Finished
+pub mod Left
+pub mod Once
+pub mod Outcomes
+pub mod Reports

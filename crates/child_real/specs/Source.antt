@@ -1,6 +1,0 @@
--- What a stream of the system tells.
-use Rattle.std.specs.Prelude.{ℕ}
-use Rattle.child_real.specs.declared.source.RealSource.{RealSource}
-
-abbrev pub source_faults : {I : Type 0} → RealSource I → ℕ
-source_faults source = source.faults

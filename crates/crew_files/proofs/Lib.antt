@@ -1,6 +1,0 @@
-mod Fitting
-mod Lasting
-mod Leaving
-mod Placing
-mod Staging
-mod Stopping

@@ -1,5 +1,0 @@
-mod Answered
-mod Few
-mod Outcomes
-mod Places
-mod Rounds

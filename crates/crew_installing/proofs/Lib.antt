@@ -1,9 +1,0 @@
-pub mod Afters
-pub mod Ending
-pub mod Files
-pub mod Fitting
-pub mod Going
-pub mod Owns
-pub mod Pieces
-pub mod Places
-pub mod Stopping

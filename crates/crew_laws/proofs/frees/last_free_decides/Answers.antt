@@ -1,9 +1,0 @@
-use Rattle.crew_laws.proofs.Freeing.{fetching, last, reading}
-use Rattle.crew_laws.proofs.frees.last_free_decides.Goals as goal
-
-pub returns : goal.returns
-returns c = record {
-  last = λ o there later held course some. last o there later held course some;
-  fetching = λ o m number at answered there is low. fetching o m number answered there is at low;
-  reading = λ o m number at answered there is low. reading o m number answered there is at low;
-}

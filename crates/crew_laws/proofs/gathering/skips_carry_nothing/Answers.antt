@@ -1,5 +1,0 @@
-use Rattle.crew_laws.proofs.Paths.{all_bare}
-use Rattle.crew_laws.proofs.gathering.skips_carry_nothing.Goals as goal
-
-pub returns : goal.returns
-returns c = λ told log is. all_bare told log is

@@ -1,4 +1,0 @@
-pub mod Absent
-pub mod Gathered
-pub mod Placed
-pub mod Twice

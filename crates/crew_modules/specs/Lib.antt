@@ -1,0 +1,4 @@
+pub mod Fetched
+pub mod Had
+pub mod Answering
+pub mod Putting

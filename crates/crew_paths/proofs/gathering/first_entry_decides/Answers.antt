@@ -1,5 +1,0 @@
-use Rattle.crew_paths.proofs.Firsts as firsts
-use Rattle.crew_paths.proofs.gathering.first_entry_decides.Goals as goal
-
-pub returns : goal.returns
-returns c = record { again = firsts.again; fresh = firsts.fresh }

@@ -1,3 +1,0 @@
-pub use Rattle.crew_laws.specs.Gathered
-pub mod Asking
-pub mod Parts

@@ -1,4 +1,0 @@
-pub mod Entries
-pub mod Leaving
-pub mod Repeats
-pub mod Standings

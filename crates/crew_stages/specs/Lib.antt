@@ -1,9 +1,0 @@
-pub use Rattle.crew_turns.specs.Seen
-pub use Rattle.crew_turns.specs.Tasks
-pub mod Asked
-pub mod Endings
-pub mod Hands
-pub mod Paths
-pub mod Pieces
-pub mod Stages
-pub mod Stops

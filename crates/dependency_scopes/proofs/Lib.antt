@@ -1,3 +1,0 @@
-pub mod Raising
-pub mod Ending
-pub mod Laws

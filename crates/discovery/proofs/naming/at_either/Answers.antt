@@ -1,0 +1,4 @@
+use Rattle.discovery.proofs.naming.at_either.Goals as goal
+
+pub returns-in-Ok-clause-keeps : goal.returns-in-Ok-clause-keeps
+returns-in-Ok-clause-keeps g c = λ path found read. c.in-Ok.ensures.keeps path found (c.in_ok-pom.ensures.keeps path found read)

@@ -1,6 +1,0 @@
-use Rattle.std.proofs.Common.{◌≡◌, ◌++◌, drop, filter}
-use Rattle.exclusion_set.specs.Nodes.{stands}
-use Rattle.exclusion_set.proofs.put.side.Given as goal
-
-abbrev pub invariant-loop-one : goal.invariant-loop-one
-invariant-loop-one l = l.list ++ filter (stands l.bit l.right) (drop l.one-index l.items) ≡ filter (stands l.bit l.right) l.items

@@ -1,7 +1,0 @@
-use Rattle.std.proofs.Common.{lit<}
-use Rattle.std.proofs.lemmas.Str.Pattern.{split_parts}
-use Rattle.expressions.proofs.Cuts.{cut_parts}
-use Rattle.expressions.proofs.splitting.cut_at_brace.Goals as goal
-
-pub returns : goal.returns
-returns c = cut_parts 125 c.args.text.now c.split_once.result (split_parts 125 c.args.text.now c.split_once.result c.split_once.ensures.cases (lit< tt))

@@ -1,7 +1,0 @@
-use Rattle.std.proofs.Common.{lit<}
-use Rattle.std.proofs.lemmas.Str.Pattern.{strip_prefix_char}
-use Rattle.expressions.proofs.Cuts.{inside_parts}
-use Rattle.expressions.proofs.splitting.inside_of.Goals as goal
-
-pub returns : goal.returns
-returns c = inside_parts c.args.text.now c.strip_prefix.result (strip_prefix_char 123 c.args.text.now c.strip_prefix.result c.strip_prefix.ensures.cases (lit< tt))

@@ -1,3 +1,0 @@
-mod Examples
-pub mod Lists
-pub mod Named

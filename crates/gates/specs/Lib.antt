@@ -1,0 +1,14 @@
+pub use Rattle.children.specs.Children
+pub use Rattle.children.specs.Reading
+pub use Rattle.goal_types.specs.Answers
+pub use Rattle.goal_types.specs.Goals
+pub use Rattle.goal_types.specs.Requests
+pub use Rattle.mvn_outside.specs.Faults
+pub use Rattle.mvn_shared.specs.Cause
+pub mod Answering
+pub mod AnyGate
+pub mod Asking
+pub mod Gate
+pub use Rattle.goal_types.specs.Lines
+pub mod Builtin
+pub mod Same

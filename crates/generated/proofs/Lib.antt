@@ -1,0 +1,4 @@
+pub mod LastLines
+pub mod Building
+pub mod Calls
+pub mod Lists

@@ -1,0 +1,21 @@
+use Rattle.std.proofs.Common.{ℕ, refl, subst, IfOk}
+use Rattle.outside_mem.specs.Shelf.{shelf_told}
+use Rattle.generated.specs.States.{outside}
+use Rattle.generated.specs.Summary.{IsSummedUp}
+use Rattle.generated.proofs.Lists.{faultless}
+use Rattle.generated.proofs.run.build_summed.Goals as goal
+
+pub returns : goal.returns
+returns g c =
+    let call = c.build_by_first-call in
+    record {
+      sums = record {
+        report = call.result.outcome;
+        after = outside call.result.shelf call.new.hands;
+        told = shelf_told call.result.shelf;
+        tells = refl;
+        faultless = faultless call.result.shelf call.new.hands;
+        reports = call.ensures.reports;
+        summed = subst (λ (n : ℕ). IfOk c.summary_of-outcome.result (IsSummedUp c.args.poms c.args.planned.now n call.result.outcome)) c.names-files.ensures c.summary_of-outcome.ensures.summed;
+      };
+    }

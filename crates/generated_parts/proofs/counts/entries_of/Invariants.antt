@@ -1,8 +1,0 @@
-use Rattle.std.proofs.Common.{◌≡◌, ◌+◌, ℕ, drop, fold, length}
-use Rattle.classpaths.specs.declared.resolution.Resolution.{Resolution}
-use Rattle.generated_parts.specs.EntryCounts.{entries, entries_of}
-use Rattle.generated_parts.proofs.counts.entries_of.Given as goal
-
--- those so far, and those of what is left
-abbrev pub invariant-loop-resolution : goal.invariant-loop-resolution
-invariant-loop-resolution l = fold (λ (n : ℕ) (r : Resolution). n + entries r) (length l.places.items) (drop l.resolution-index l.resolutions) ≡ entries_of l.resolutions

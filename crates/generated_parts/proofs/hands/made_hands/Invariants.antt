@@ -1,9 +1,0 @@
-use Rattle.std.proofs.Common.{◌≡◌, map, replicate}
-use Rattle.outside_mem.specs.FilesNamed.{files_named}
-use Rattle.generated_parts.specs.Made.{fresh_hand}
-use Rattle.generated_parts.specs.States.{state}
-use Rattle.generated_parts.proofs.hands.made_hands.Given as goal
-
--- as many so far
-abbrev pub invariant-loop-hand : goal.invariant-loop-hand
-invariant-loop-hand l = map state l.hands.items ≡ replicate l.hand (fresh_hand (files_named l.files))

@@ -1,2 +1,0 @@
-mod Outputs
-mod Placed

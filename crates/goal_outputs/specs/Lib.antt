@@ -1,2 +1,0 @@
-pub use Rattle.goal_types.specs.Goals
-pub use Rattle.build_core.specs.Slots

@@ -1,8 +1,0 @@
-use Rattle.std.proofs.Common.{sym, ap, ◌∙◌, unwrap_or}
-use Rattle.std.specs.Option.{option_map}
-use Rattle.serde_json.specs.Events.{members_len}
-use Rattle.serde_json.proofs.Views.{members_len-members_view}
-use Rattle.goal_requests.proofs.members.keys_of.Goals as goal
-
-pub returns-in-Some : goal.returns-in-Some
-returns-in-Some c = c.len.ensures.len ∙ sym (members_len-members_view c.in-Some.members.now.entries) ∙ ap (λ o. unwrap_or (option_map members_len o) 0) (c.in-Some.ensures)

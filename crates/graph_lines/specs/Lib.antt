@@ -1,0 +1,2 @@
+pub use Rattle.mediation.specs.Libraries
+pub mod Held

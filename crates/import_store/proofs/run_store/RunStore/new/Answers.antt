@@ -1,4 +1,0 @@
-use Rattle.import_store.proofs.run_store.RunStore.new.Goals as goal
-
-pub returns : goal.returns
-returns c = λ world given. c.over.ensures world given (c.new.ensures world given)

@@ -1,8 +1,0 @@
-use Rattle.std.proofs.Common.{ap}
-use Rattle.std.specs.Map.{lookup}
-use Rattle.mvn_base.specs.Gav.{gav_eq}
-use Rattle.import_store.proofs.Storing.{nothing_held}
-use Rattle.import_store.proofs.run_store.RunStore.over.Goals as goal
-
-pub returns : goal.returns
-returns c = λ world given holds. nothing_held world given _ holds (λ gav. ap (lookup (gav_eq gav)) c.new.ensures.empty)

@@ -1,0 +1,8 @@
+mod Cuts
+mod ValueLists
+mod Plain
+pub mod ValuesStanding
+mod Steps
+mod Lists
+mod Refusals
+mod Standing

@@ -1,0 +1,10 @@
+pub mod Expressions
+pub mod Parts
+pub mod Steps
+pub mod Named
+pub mod Tables
+pub mod Texts
+pub mod KnownValues
+pub mod Filling
+pub mod Stands
+pub mod Told

@@ -1,6 +1,0 @@
-use Rattle.std.proofs.Common.{◌≡◌, List, fold, drop}
-use Rattle.keyed_lists.specs.Keyed.{keyed, put, settled}
-use Rattle.keyed_lists.proofs.joined.index_of.Given as goal
-
-abbrev pub invariant-loop-item : goal.invariant-loop-item
-invariant-loop-item g l = (done : List _) × (l.index.entries ≡ keyed g.T.Keyed.key_of done) × (fold (put g.T.Keyed.key_of) done (drop l.item-index l.items) ≡ settled g.T.Keyed.key_of l.items)

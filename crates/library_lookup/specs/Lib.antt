@@ -1,4 +1,0 @@
-pub mod Faults
-pub mod Libraries
-pub mod Telling
-pub mod Jars

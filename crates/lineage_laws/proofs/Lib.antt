@@ -1,6 +1,0 @@
-mod Filled
-mod Found
-mod Once
-mod Rooted
-mod Stated
-mod Whole

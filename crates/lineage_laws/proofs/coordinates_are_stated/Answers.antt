@@ -1,7 +1,0 @@
-use Rattle.lineage_laws.proofs.Filled.{filled_stated}
-use Rattle.lineage_laws.proofs.Rooted.{alone_stated}
-use Rattle.lineage_laws.proofs.Stated.{lineage_stated}
-use Rattle.lineage_laws.proofs.coordinates_are_stated.Goals as goal
-
-pub returns : goal.returns
-returns c = record { alone = alone_stated; joined = lineage_stated; filled = filled_stated }

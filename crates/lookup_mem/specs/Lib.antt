@@ -1,2 +1,0 @@
-pub use Rattle.library_lookup.specs.Libraries
-pub mod Held

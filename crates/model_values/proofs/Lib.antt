@@ -1,4 +1,0 @@
-mod Lists
-mod Plain
-pub mod Standing
-mod Steps

@@ -1,6 +1,0 @@
-use Rattle.std.proofs.Common.{◌≡◌, ◌++◌, drop}
-use Rattle.model_values.specs.Named.{behind}
-use Rattle.model_values.proofs.names.push_behind.Given as goal
-
-abbrev pub invariant-loop-pair : goal.invariant-loop-pair
-invariant-loop-pair l = l.list ++ behind l.front (drop l.pair-index l.pairs) ≡ l.initial.list ++ behind l.front l.pairs

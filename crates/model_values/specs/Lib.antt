@@ -1,4 +1,0 @@
-pub mod Named
-pub mod Tables
-pub mod Texts
-pub mod Values

@@ -1,3 +1,0 @@
-pub mod Collecting
-pub mod Counting
-pub mod Projects

@@ -1,6 +1,0 @@
-use Rattle.std.proofs.Common.{◌≡◌, ◌++◌, drop}
-use Rattle.module_edges.specs.Edges.{soft_from}
-use Rattle.module_edges.proofs.edges.soft_edges.Given as goal
-
-abbrev pub invariant-loop-number : goal.invariant-loop-number
-invariant-loop-number l = l.edges.items ++ soft_from l.modules l.number (drop l.number l.modules) ≡ soft_from l.modules 0 l.modules

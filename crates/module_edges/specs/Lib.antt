@@ -1,4 +1,0 @@
-pub mod Edges
-pub mod Index
-pub mod Naming
-pub mod Numbers

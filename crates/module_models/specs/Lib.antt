@@ -1,9 +1,0 @@
-pub use Rattle.mvn_shared.specs.Cause
-pub use Rattle.mvn_shared.specs.Files
-pub use Rattle.pom_source.specs.Answers
-pub use Rattle.pom_source.specs.Worlds
-pub use Rattle.profile_activation.specs.Judging
-pub use Rattle.import_store.specs.Kept
-pub use Rattle.import_store.specs.Lawful
-pub use Rattle.model_resolver.specs.Finding
-pub mod Found

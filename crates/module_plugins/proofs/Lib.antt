@@ -1,4 +1,0 @@
-pub mod Building
-pub mod Likeness
-mod Apart
-mod Declaring

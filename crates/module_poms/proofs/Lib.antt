@@ -1,3 +1,0 @@
-pub mod Injected
-pub mod Meeting
-pub mod Reading

@@ -1,6 +1,0 @@
-use Rattle.std.proofs.Common.{◌≡◌, ◌++◌, drop}
-use Rattle.module_poms.specs.Discovery.{listed}
-use Rattle.module_poms.proofs.modules.push_modules.Given as goal
-
-abbrev pub invariant-loop-text : goal.invariant-loop-text
-invariant-loop-text l = l.list ++ listed l.by (drop l.text-index l.modules) ≡ l.initial.list ++ listed l.by l.modules

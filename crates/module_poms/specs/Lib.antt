@@ -1,6 +1,0 @@
-pub use Rattle.pom_source.specs.Answers
-pub use Rattle.pom_source.specs.Worlds
-pub use Rattle.pom_store.specs.Stores
-pub mod Met
-pub mod Profiles
-pub mod Discovery

@@ -1,4 +1,0 @@
-mod Below
-mod Changes
-mod Follows
-mod Fronts

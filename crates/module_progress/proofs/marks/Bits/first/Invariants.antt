@@ -1,6 +1,0 @@
-use Rattle.std.proofs.Common.{◌≡◌, ℕ, ◌<◌, get_or}
-use Rattle.module_progress.proofs.marks.Bits.first.Given as goal
-
--- the words before this one are 0
-abbrev pub invariant-loop-word : goal.invariant-loop-word
-invariant-loop-word l = (i : ℕ) → i < l.word → get_or l.self.words.items i 0 ≡ 0

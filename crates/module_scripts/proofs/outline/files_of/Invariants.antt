@@ -1,7 +1,0 @@
-use Rattle.std.proofs.Common.{◌≡◌, ◌++◌, drop}
-use Rattle.module_scripts.specs.Outlines.{files_of}
-use Rattle.module_scripts.proofs.outline.files_of.Given as goal
-
--- the files of the entries before this one are there
-abbrev pub invariant-loop-at : goal.invariant-loop-at
-invariant-loop-at l = l.files ++ files_of (drop l.at l.entries) ≡ files_of l.entries

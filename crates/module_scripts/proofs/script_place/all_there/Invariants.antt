@@ -1,8 +1,0 @@
-use Rattle.std.proofs.Common.{◌≡◌, drop}
-use Rattle.std.specs.List.{list_all}
-use Rattle.module_scripts.specs.Scripts.{is_there}
-use Rattle.module_scripts.proofs.script_place.all_there.Given as goal
-
--- the files before this one are there
-abbrev pub invariant-loop-at : goal.invariant-loop-at
-invariant-loop-at l = list_all (is_there l.there) (drop l.at l.files) ≡ list_all (is_there l.there) l.files

@@ -1,8 +1,0 @@
-pub use Rattle.name_locks.specs.Locks
-pub mod Bounds
-pub mod Climbing
-pub mod HeldAt
-pub mod Outlines
-pub mod Rests
-pub mod ScriptPlaces
-pub mod Scripts

@@ -1,6 +1,0 @@
-use Rattle.std.proofs.Common.{◌≡◌, drop}
-use Rattle.module_selection.specs.Selection.{unknown}
-use Rattle.module_selection.proofs.meaning.unknown.Given as goal
-
-abbrev pub invariant-loop-word : goal.invariant-loop-word
-invariant-loop-word l = unknown l.modules l.found (drop l.word-index l.words) ≡ unknown l.modules l.fn.place l.words

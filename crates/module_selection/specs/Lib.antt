@@ -1,3 +1,0 @@
-pub use Rattle.reactor_order.specs.Select
-pub mod Meaning
-pub mod Selection

@@ -1,7 +1,0 @@
-use Rattle.std.proofs.Common.{◌≡◌, ◌++◌, drop}
-use Rattle.module_sources.specs.Modules.{folders_of}
-use Rattle.module_sources.proofs.modules.folders_of.Given as goal
-
--- the folders so far, and those of the modules that are left
-abbrev pub invariant-loop-model : goal.invariant-loop-model
-invariant-loop-model l = l.folders ++ folders_of l.root (drop l.model-index l.models) ≡ folders_of l.root l.models

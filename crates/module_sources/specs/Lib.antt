@@ -1,7 +1,0 @@
-pub use Rattle.mvn_shared.specs.Cause
-pub use Rattle.mvn_shared.specs.Files
-pub use Rattle.pom_source.specs.Answers
-pub use Rattle.model_resolver.specs.Devices
-pub use Rattle.source_files.specs.Sources
-pub mod Folders
-pub mod Modules

@@ -1,9 +1,0 @@
-pub mod Besides
-pub mod Building
-pub mod Calling
-pub mod Cut
-pub mod First
-pub mod Statuses
-pub mod Stops
-pub mod Telling
-pub mod Writing

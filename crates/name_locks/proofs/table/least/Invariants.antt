@@ -1,7 +1,0 @@
-use Rattle.std.proofs.Common.{◌≡◌, None}
-use Rattle.name_locks.specs.Locks.{blocker_in}
-use Rattle.name_locks.proofs.table.least.Given as goal
-
--- no worker before this one keeps the other from it
-abbrev pub invariant-loop-other : goal.invariant-loop-other
-invariant-loop-other l = blocker_in l.row l.other l.worker l.mode ≡ None

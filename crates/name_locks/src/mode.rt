@@ -1,6 +1,0 @@
-/// How a lock on a name is held: by many who read, or by one who writes. Resolver, "Named Locks".
-#[derive(Clone, Copy, PartialEq, Eq)]
-pub enum Mode {
-    Shared,
-    Exclusive,
-}

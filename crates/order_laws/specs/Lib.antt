@@ -1,2 +1,0 @@
-pub use Rattle.reactor_order.specs.Keep
-pub use Rattle.reactor_order.specs.Select

@@ -1,5 +1,0 @@
-use Rattle.outcome_laws.proofs.Sides.{apart, as_one, gathered}
-use Rattle.outcome_laws.proofs.as_one.crew_builds_as_one.Goals as goal
-
-pub returns : goal.returns
-returns c = record { gathered = gathered; as_one = as_one; apart = apart }

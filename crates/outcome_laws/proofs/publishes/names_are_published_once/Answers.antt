@@ -1,5 +1,0 @@
-use Rattle.outcome_laws.proofs.Names.{once, told_contents}
-use Rattle.outcome_laws.proofs.publishes.names_are_published_once.Goals as goal
-
-pub returns : goal.returns
-returns c = record { once = once; files = told_contents }

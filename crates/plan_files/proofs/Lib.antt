@@ -1,5 +1,0 @@
-pub mod Filed
-pub mod FirstPlaces
-pub mod Lists
-pub mod Naming
-pub mod Walks

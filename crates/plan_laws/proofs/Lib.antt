@@ -1,4 +1,0 @@
-pub mod Founding
-pub mod Resolving
-pub mod Selecting
-pub mod Stepping

@@ -1,5 +1,0 @@
-use Rattle.plan_laws.proofs.Founding.{one_found}
-use Rattle.plan_laws.proofs.law.one_outcome.Goals as goal
-
-pub returns : goal.returns
-returns c = one_found

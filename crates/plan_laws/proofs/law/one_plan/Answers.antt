@@ -1,5 +1,0 @@
-use Rattle.plan_laws.proofs.Stepping.{one_answer}
-use Rattle.plan_laws.proofs.law.one_plan.Goals as goal
-
-pub returns : goal.returns
-returns c = one_answer

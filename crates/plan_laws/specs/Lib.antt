@@ -1,2 +1,0 @@
-pub use Rattle.build_plan.specs.Planning
-pub use Rattle.mvn_call.specs.Found

@@ -1,6 +1,0 @@
-use Rattle.std.proofs.Common.{◌≡◌, ◌++◌, drop}
-use Rattle.plan_files.specs.Numbers.{numbers_of}
-use Rattle.plan_parts.proofs.numbers.name_numbers.Given as goal
-
-abbrev pub invariant-loop-name : goal.invariant-loop-name
-invariant-loop-name l = l.list ++ numbers_of l.names (drop l.name-index l.some) ≡ numbers_of l.names l.some

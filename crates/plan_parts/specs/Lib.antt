@@ -1,6 +1,0 @@
-pub use Rattle.mvn_shared.specs.Files
-pub use Rattle.mvn_base.specs.FileName
-pub use Rattle.pom_source.specs.Answers
-pub mod Plans
-pub mod Ready
-pub mod Parts

@@ -1,6 +1,0 @@
-use Rattle.std.proofs.Common.{◌≡◌, IfOk, subst}
-use Rattle.pom_fields.specs.Groups.{dependencies}
-use Rattle.pom_fields.proofs.base.managed.Goals as goal
-
-pub returns : goal.returns
-returns c = subst (λ o. IfOk c.list_in.result (λ list. list ≡ dependencies c.args.nodes.now o)) c.child-management.ensures c.list_in.ensures

@@ -1,6 +1,0 @@
-//! Paths in a project, and how they are joined.
-#![tactic(auto)]
-
-mod joining;
-
-pub use joining::joined;

@@ -1,6 +1,0 @@
-pub mod Walks
-pub mod Lacking
-pub mod Spans
-pub mod Texts
-pub mod Settings
-pub mod Pairs

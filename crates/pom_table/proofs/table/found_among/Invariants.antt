@@ -1,7 +1,0 @@
-use Rattle.std.proofs.Common.{◌≡◌, map, drop, find}
-use Rattle.pom_table.specs.Spans.{is_named}
-use Rattle.pom_table.specs.Table.{row_view}
-use Rattle.pom_table.proofs.table.found_among.Given as goal
-
-abbrev pub invariant-loop-element : goal.invariant-loop-element
-invariant-loop-element l = find (is_named l.name) (map row_view (drop l.element-index l.rows)) ≡ find (is_named l.name) (map row_view l.rows)

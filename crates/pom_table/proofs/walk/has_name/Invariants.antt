@@ -1,6 +1,0 @@
-use Rattle.std.proofs.Common.{◌≡◌, drop}
-use Rattle.pom_table.specs.Faults.{has_name}
-use Rattle.pom_table.proofs.walk.has_name.Given as goal
-
-abbrev pub invariant-loop-k : goal.invariant-loop-k
-invariant-loop-k l = has_name l.nodes l.name (drop l.k-index l.before) ≡ has_name l.nodes l.name l.before

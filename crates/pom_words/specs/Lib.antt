@@ -1,9 +1,0 @@
-pub mod Characters
-pub mod References
-pub mod Numerals
-pub mod Grammar
-pub mod Parts
-pub mod Reads
-pub mod Lent
-pub mod Encodings
-pub mod Openings

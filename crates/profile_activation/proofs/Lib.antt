@@ -1,4 +1,0 @@
-mod Asking
-mod Joins
-mod Prefixes
-mod Telling

@@ -1,8 +1,0 @@
-use Rattle.std.proofs.Common.{◌≡◌, ◌++◌, drop, zip}
-use Rattle.std.specs.List.{list_any}
-use Rattle.profile_activation.specs.Activation.{places_from}
-use Rattle.profile_activation.specs.Judging.{is_placed}
-use Rattle.profile_activation.proofs.activation.places.Given as goal
-
-abbrev pub invariant-loop-at : goal.invariant-loop-at
-invariant-loop-at l = l.list ++ places_from (is_placed l.judge l.any) l.at (zip (drop l.at l.chosen) (drop l.at l.profiles)) ≡ places_from (is_placed l.judge (list_any (λ b. b) l.chosen)) 0 (zip l.chosen l.profiles)

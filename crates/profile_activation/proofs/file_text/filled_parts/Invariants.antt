@@ -1,8 +1,0 @@
-use Rattle.std.proofs.Common.{◌≡◌, ◌++◌, flat_map, drop}
-use Rattle.std.specs.String.{string_bytes}
-use Rattle.profile_activation.specs.FileTexts.{filled_part}
-use Rattle.profile_activation.specs.Known.{known_value}
-use Rattle.profile_activation.proofs.file_text.filled_parts.Given as goal
-
-abbrev pub invariant-loop-part : goal.invariant-loop-part
-invariant-loop-part l = string_bytes l.text ++ flat_map (filled_part l.basedir (known_value l.known)) (drop l.part-index l.list) ≡ flat_map (filled_part l.basedir (known_value l.known)) l.list

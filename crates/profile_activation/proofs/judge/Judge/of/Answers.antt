@@ -1,5 +1,0 @@
-use Rattle.profile_activation.proofs.Joins.{judges}
-use Rattle.profile_activation.proofs.judge.Judge.of.Goals as goal
-
-pub returns : goal.returns
-returns c = judges _ c.args.defines.now c.args.raw.now.pom c.args.raw.now.profiles c.value-pom.ensures c.in_ok-known.ensures c.in_ok-place.ensures

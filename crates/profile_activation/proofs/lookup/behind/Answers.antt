@@ -1,5 +1,0 @@
-use Rattle.profile_activation.proofs.Prefixes.{behind_cases}
-use Rattle.profile_activation.proofs.lookup.behind.Goals as goal
-
-pub returns : goal.returns
-returns c = behind_cases c.args.front.now c.args.text.now c.strip_prefix.result c.strip_prefix.ensures.cases

@@ -1,5 +1,0 @@
-pub mod Activation
-pub mod FileTexts
-pub mod Judging
-pub mod Known
-pub mod Lookups

@@ -1,9 +1,0 @@
-use Rattle.std.proofs.Common.{◌≡◌, fold, drop}
-use Rattle.profile_injection.specs.Contents.{build_behind, no_plugins}
-use Rattle.profile_injection.specs.Injection.{profiles_at}
-use Rattle.profile_injection.proofs.contents.build_of.Given as goal
-
-abbrev pub invariant-loop-place : goal.invariant-loop-place
-invariant-loop-place l =
-    fold build_behind l.build (profiles_at l.profiles (drop l.place-index l.places))
-    ≡ fold build_behind no_plugins (profiles_at l.profiles l.places)

@@ -1,0 +1,5 @@
+mod Gathering
+mod Asking
+mod Joins
+mod Prefixes
+mod Telling

@@ -1,2 +1,0 @@
-pub use Rattle.mediation.specs.Rows
-pub mod Conflicts

@@ -1,0 +1,12 @@
+pub mod Keeping
+pub mod Below
+pub mod Unknown
+pub mod Ordered
+pub mod Picked
+pub mod Built
+pub mod Bounds
+pub mod InOrder
+pub mod Laid
+pub mod Marks
+pub mod Standing
+pub mod Winners

@@ -1,0 +1,13 @@
+pub mod Edges
+pub mod Index
+pub mod Naming
+pub mod Numbers
+pub use Rattle.reactor_order.specs.Cycle
+pub use Rattle.reactor_order.specs.Keep
+pub mod Circles
+pub mod Ordering
+pub use Rattle.reactor_order.specs.Select
+pub mod Meaning
+pub mod Selection
+pub mod Upstreams
+pub mod Reactor

@@ -1,3 +1,0 @@
-pub mod Ordered
-pub mod Picked
-pub mod Built

@@ -1,1 +1,0 @@
-pub use Rattle.reactor_modules.specs.Reactor

@@ -1,5 +1,0 @@
-use Rattle.reactor_modules.proofs.Standing.{stands_on_winners}
-use Rattle.reactor_modules.proofs.law.winners_are_upstreams.Goals as goal
-
-pub returns : goal.returns
-returns c = stands_on_winners

@@ -1,6 +1,0 @@
-use Rattle.std.proofs.Common.{◌≡◌, ◌++◌, false, drop, get_or}
-use Rattle.reactor_modules.specs.Upstreams.{places_from}
-use Rattle.reactor_modules.proofs.upstreams.marked_places.Given as goal
-
-abbrev pub invariant-loop-place : goal.invariant-loop-place
-invariant-loop-place l = l.places ++ places_from (λ m. get_or l.marks m false) l.place (drop l.place l.numbers) ≡ places_from (λ m. get_or l.marks m false) 0 l.numbers

@@ -1,0 +1,4 @@
+pub mod Rows
+mod Examples
+pub mod Lists
+pub mod Named

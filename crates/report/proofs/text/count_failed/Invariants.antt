@@ -1,0 +1,7 @@
+use Rattle.std.proofs.Common.{◌≡◌, ◌+◌, drop}
+use Rattle.report.specs.Report.{is_failed, count_of}
+use Rattle.report.proofs.text.count_failed.Given as goal
+
+-- those so far, and those among what is left
+abbrev pub invariant-loop-row : goal.invariant-loop-row
+invariant-loop-row l = l.count + count_of is_failed (drop l.row-index l.rows) ≡ count_of is_failed l.rows

@@ -1,0 +1,10 @@
+use Rattle.std.proofs.Common.{◌≡◌, drop}
+use Rattle.resolution.specs.Walks.{walked}
+use Rattle.resolution.specs.Search.{raised_all, search_of}
+use Rattle.resolution.specs.Links.{each_from, link_below_by}
+use Rattle.resolution.proofs.walks.raise_below.Given as goal
+
+abbrev pub invariant-loop-at : goal.invariant-loop-at
+invariant-loop-at l =
+    raised_all (walked l.above) (search_of l.scopes.items l.waiting.items) (each_from (link_below_by l.winners l.places) l.at (drop l.at l.edges))
+    ≡ raised_all (walked l.above) (search_of l.initial.scopes.items l.initial.waiting.items) (each_from (link_below_by l.winners l.places) 0 l.edges)

@@ -1,4 +1,0 @@
-pub mod Refusing
-pub mod Rows
-pub mod Scoping
-pub mod Single

@@ -1,2 +1,0 @@
-pub use Rattle.mediation.specs.Rows
-pub use Rattle.resolution.specs.Resolved

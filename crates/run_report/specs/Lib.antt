@@ -1,2 +1,0 @@
-pub use Rattle.mvn_base.specs.Gav
-pub mod Report

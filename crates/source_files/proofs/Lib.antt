@@ -1,2 +1,0 @@
-pub mod ReadBefore
-pub mod SourcesRead

@@ -1,4 +1,0 @@
-pub use Rattle.mvn_shared.specs.Cause
-pub use Rattle.mvn_shared.specs.Files
-pub mod Earlier
-pub mod Sources

@@ -1,5 +1,0 @@
-use Rattle.tree_order.proofs.NoneLost.{none_lost}
-use Rattle.tree_order.proofs.law.no_place_lost.Goals as goal
-
-pub returns : goal.returns
-returns c = λ above place ascends low. none_lost above ascends place low

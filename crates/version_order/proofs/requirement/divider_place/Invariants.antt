@@ -1,6 +1,0 @@
-use Rattle.std.proofs.Common.{◌≡◌, ◌+◌, drop}
-use Rattle.version_order.specs.Requirements.{divider_place}
-use Rattle.version_order.proofs.requirement.divider_place.Given as goal
-
-abbrev pub invariant-loop-at : goal.invariant-loop-at
-invariant-loop-at l = divider_place l.text ≡ l.at + divider_place (drop l.at l.text)

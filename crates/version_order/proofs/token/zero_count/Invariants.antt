@@ -1,6 +1,0 @@
-use Rattle.std.proofs.Common.{◌≡◌, ◌+◌, drop}
-use Rattle.version_order.specs.Tokens.{zero_count}
-use Rattle.version_order.proofs.token.zero_count.Given as goal
-
-abbrev pub invariant-loop-at : goal.invariant-loop-at
-invariant-loop-at l = zero_count l.digits ≡ l.at + zero_count (drop l.at l.digits)

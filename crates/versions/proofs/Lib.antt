@@ -1,0 +1,14 @@
+pub mod Fronts
+pub mod Splits
+pub mod Trims
+pub mod Numbers
+pub mod Gathers
+pub mod Ends
+pub mod Compares
+pub mod Spaces
+pub mod Words
+pub mod Greatest
+pub mod Equals
+pub mod Listed
+pub mod Reached
+pub mod Spelled

@@ -1,0 +1,11 @@
+pub mod Places
+pub mod Pieces
+pub mod Tokens
+pub mod Order
+pub mod Laws
+pub mod Cuts
+pub mod Intervals
+pub mod Requirements
+pub mod Stands
+pub mod Highest
+pub mod Spelling

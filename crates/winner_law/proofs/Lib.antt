@@ -1,5 +1,0 @@
-pub mod Firsts
-pub mod Apart
-pub mod Direct
-pub mod Ascends
-pub mod Positions

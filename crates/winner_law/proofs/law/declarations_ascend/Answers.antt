@@ -1,8 +1,0 @@
-use Rattle.winner_law.proofs.Positions.{direct_ascends, transitive_ascends}
-use Rattle.winner_law.proofs.law.declarations_ascend.Goals as goal
-
-pub returns-clause-direct : goal.returns-clause-direct
-returns-clause-direct c = direct_ascends
-
-pub returns-clause-transitive : goal.returns-clause-transitive
-returns-clause-transitive c = transitive_ascends

@@ -1,4 +1,0 @@
-pub mod Turning
-pub mod Placed
-pub mod Walking
-pub mod Scoped

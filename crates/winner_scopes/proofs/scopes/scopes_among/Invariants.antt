@@ -1,6 +1,0 @@
-use Rattle.std.proofs.Common.{◌≡◌, ◌++◌, drop}
-use Rattle.winner_scopes.specs.Links.{scopes_from}
-use Rattle.winner_scopes.proofs.scopes.scopes_among.Given as goal
-
-abbrev pub invariant-loop-place : goal.invariant-loop-place
-invariant-loop-place l = l.list ++ scopes_from l.widest l.place (drop l.place l.winners) ≡ scopes_from l.widest 0 l.winners

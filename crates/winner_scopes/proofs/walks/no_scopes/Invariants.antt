@@ -1,5 +1,0 @@
-use Rattle.std.proofs.Common.{◌≡◌, None, map, take}
-use Rattle.winner_scopes.proofs.walks.no_scopes.Given as goal
-
-abbrev pub invariant-loop : goal.invariant-loop
-invariant-loop l = l.scopes.items ≡ map (λ _. None) (take l.index l.below)

@@ -62,6 +62,39 @@ else
   fail 'as many at each goal' "$(tr '\n' ';' < seen)"
 fi
 
+# Two children write more than an answer has: one that reads nothing of a large request, and one that reads all. Neither ends then, but reads a pipe
+# that nobody writes to until this case is over. Each goal behind them sees as many descriptors and children of mvn as each before them.
+mkfifo never
+mkdir several
+modules=(before unread read after)
+pom() { printf '<project><modelVersion>4.0.0</modelVersion><groupId>demo</groupId><artifactId>%s</artifactId><version>1.0</version>%s</project>' "$@"; }
+pom root "<packaging>pom</packaging><modules>$(printf '<module>%s</module>' "${modules[@]}")</modules>" > several/pom.xml
+for module in "${modules[@]}"; do
+  mkdir "several/$module"
+  pom "$module" '' > "several/$module/pom.xml"
+done
+cp -r large/src several/unread
+long='goal maven-resources-plugin:resources default-resources: child gave no answer'
+child 'children that write too much and stay' several "built demo:root:1.0
+failed demo:before:1.0 no artifact
+failed demo:unread:1.0 $long
+failed demo:read:1.0 $long
+failed demo:after:1.0 no artifact
+total 5 built 1 failed 4 skipped 0
+status 1" "case \$(head -c 24) in
+*':\"unread\"'*) head -c 67174402 /dev/zero; exec cat $work/never ;;
+*':\"read\"'*) cat > /dev/null; head -c 67174402 /dev/zero; exec cat $work/never ;;
+esac
+cat > /dev/null
+echo \"\$(ls /proc/\$PPID/fd | wc -l) \$(cat /proc/\$PPID/task/*/children | wc -w)\" >> $work/seen_behind
+echo '$done_line'"
+exec 8<> never 8>&-
+if [ "$(wc -l < seen_behind)" = 12 ] && [ "$(sort -u seen_behind | wc -l)" = 1 ] && [ "$(cut -d ' ' -f 2 seen_behind | sort -u)" = 1 ]; then
+  pass 'as many descriptors and children behind them as before'
+else
+  fail 'as many descriptors and children behind them as before' "$(tr '\n' ';' < seen_behind)"
+fi
+
 # NAME, PROGRAM
 absent() {
   local got

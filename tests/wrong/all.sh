@@ -1,7 +1,7 @@
 #!/usr/bin/env bash
 # Tries the wrong programs that no contract refuses: runs the scripts of this folder in turn, and ends with a line of counts. Each wrong program
-# has to be caught, by a stored run or by the comparison that it is made for. It needs rt and python3, no proof and no built program, and takes half
-# an hour or more. usage: tests/wrong/all.sh
+# has to be caught, by a stored run, or by the comparison, the walk or the case that it is made for. It needs rt, python3 and strace, no proof and no
+# built program, and takes half an hour or more. usage: tests/wrong/all.sh
 . "$(dirname "$0")/../cases.sh"
 
 # SCRIPT COMMAND..: runs it, prints its lines, and counts its cases
@@ -20,6 +20,8 @@ try() {
 }
 
 try run_wrongs.py python3
+try lock_wrongs.py python3
+try device_wrongs.sh bash
 try turn_wrongs.sh bash
 try crew_wrongs.sh bash
 tell

@@ -132,13 +132,14 @@ WRONG = [
 def edited(text, edits):
     for old, new in zip(edits[::2], edits[1::2]):
         if text.count(old) != 1:
-            raise SystemExit('this text does not stand exactly once in run_law.py: ' + old)
+            raise SystemExit('this text does not stand exactly once: ' + old)
         text = text.replace(old, new)
     return text
 
 
 def loaded(name, text):
     module = types.ModuleType(name)
+    module.__file__ = str(FOLDER / (name + '.py'))
     sys.modules[name] = module
     exec(compile(text, name, 'exec'), module.__dict__)
     return module

@@ -2,7 +2,7 @@
 // whole.
 
 /// What may fail while a module is built.
-#[derive(Clone, Copy, PartialEq, Eq)]
+#[derive(Clone, Copy, Debug, PartialEq, Eq)]
 pub enum Device {
     Remote,
     Area,
@@ -11,7 +11,7 @@ pub enum Device {
 }
 
 /// How a module ended. Numbers of goals are places in the module's list of goals, numbers of files in the plan's list.
-#[derive(Clone, Copy, PartialEq, Eq)]
+#[derive(Clone, Copy, Debug, PartialEq, Eq)]
 pub enum Ending {
     Built,
     /// This goal failed.
@@ -28,7 +28,7 @@ pub enum Ending {
 }
 
 /// How a module stands.
-#[derive(Clone, Copy, PartialEq, Eq)]
+#[derive(Clone, Copy, Debug, PartialEq, Eq)]
 pub enum State {
     Waiting,
     /// This worker builds it.

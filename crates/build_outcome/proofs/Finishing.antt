@@ -100,7 +100,7 @@ module _ {S : Type 0} (told : S → Option ShelfTold) (faults : S → ℕ) (plan
   first = record { shelf = told opening; faults = faults opening; hands = before }
 
   abbrev last : Outside
-  last = record { shelf = told call.shelf; faults = faults call.shelf; hands = now }
+  last = record { shelf = told call.devices; faults = faults call.devices; hands = now }
 
   same : (left.answers ≡ call.answers) × (left.states ≡ states_after plan run)
   same = (sym fin.kept, built.states)
@@ -112,15 +112,15 @@ module _ {S : Type 0} (told : S → Option ShelfTold) (faults : S → ℕ) (plan
       crew = crew;
       events = fin.events ∙ built.trace;
       kept = fin.kept ∙ built.answers;
-      published = subst (λ t. MaySettle t (told call.shelf)) built.publishes fin.may;
+      published = subst (λ t. MaySettle t (told call.devices)) built.publishes fin.may;
     };
-    ok = subst (λ t. OnOk fin.settled (told call.shelf ≡ settled_all t)) built.publishes fin.ok;
+    ok = subst (λ t. OnOk fin.settled (told call.devices ≡ settled_all t)) built.publishes fin.ok;
     answer = subst (λ (answers : List Answered). IfOk call.outcome (IsRunAnswer plan details answers (states_after plan run) fin.settled)) same.0
         (subst (λ (states : List State). IfOk call.outcome (IsRunAnswer plan details left.answers states fin.settled)) same.1 fin.answer);
     counted = record {
-      rose = rose_told (told opening) fin.settled (shelf_endings run) (faults opening) (faults left.shelf) (faults call.shelf) built.caused fin.cause;
-      least = least_by fin.settled (faults opening) (faults left.shelf) (faults call.shelf) built.no_fall fin.cause;
-      still = λ quiet none. still_by fin.settled (faults left.shelf) (faults call.shelf) none fin.cause ∙ built.calm quiet;
+      rose = rose_told (told opening) fin.settled (shelf_endings run) (faults opening) (faults left.shelf) (faults call.devices) built.caused fin.cause;
+      least = least_by fin.settled (faults opening) (faults left.shelf) (faults call.devices) built.no_fall fin.cause;
+      still = λ quiet none. still_by fin.settled (faults left.shelf) (faults call.devices) none fin.cause ∙ built.calm quiet;
     };
   }
 
@@ -214,11 +214,11 @@ pub build_reported : {S H : Type 0} (told : S → Option ShelfTold) (faults : S 
     → IsSoundPlan plan → length old ≡ plan.workers → IfSome (told opening) (λ t. IsPresent plan (files_now t)) → AreSwept before (map state old) → length new ≡ length old
     → ((run : List RunEntry) × IsBuilt told faults plan opening run left × ((i : ℕ) (d : H) → i < length old → IsWorkedBy plan (told opening) run i (state (get_or old i d)) (state (get_or new i d))))
     → Finishes told faults plan details left call
-    → Reports plan details (record { shelf = told opening; faults = faults opening; hands = before }) (outside_by told faults state call.shelf new) call.trace call.answers call.outcome
+    → Reports plan details (record { shelf = told opening; faults = faults opening; hands = before }) (outside_by told faults state call.devices new) call.trace call.answers call.outcome
 build_reported told faults state plan details opening old new before left call sound many present swept long (run, built, each) fin =
     let old_long = length_map state old in
     let new_long = length_map state new in
     let crew = crew_run plan (told opening) before (map state old) (map state new) run built.follows built.complete built.carried swept (old_long ∙ many) (λ w low. by_states state plan (told opening) run old new long each w (omega (arith, low, old_long))) in
     let size : length (map state new) ≡ length before = new_long ∙ long ∙ sym old_long ∙ swept.many in
-    reported plan details (record { shelf = told opening; faults = faults opening; hands = before }) (outside_by told faults state call.shelf new) call.trace call.answers call.outcome run fin.settled sound present size
+    reported plan details (record { shelf = told opening; faults = faults opening; hands = before }) (outside_by told faults state call.devices new) call.trace call.answers call.outcome run fin.settled sound present size
     (ended told faults plan details opening run left call before (map state new) built fin crew)

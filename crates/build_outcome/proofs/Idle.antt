@@ -64,8 +64,8 @@ memory_is x y e = cc
 
 -- there was no memory to begin: the repository comes back, and the hands are as they were swept
 pub nothing_built : {S H : Type 0} (told : S → Option ShelfTold) (faults : S → ℕ) (state : H → HandState) (plan : Plan) (details : List Details) (opening : S) (old new : List H) (before : List HandState) (call : Call S)
-    → AreSwept before (map state old) → new ≡ old → call.shelf ≡ opening → call.trace ≡ [] → call.answers ≡ [] → IfOk call.outcome (λ answer. ⊥)
-    → Reports plan details (record { shelf = told opening; faults = faults opening; hands = before }) (outside_by told faults state call.shelf new) call.trace call.answers call.outcome
+    → AreSwept before (map state old) → new ≡ old → call.devices ≡ opening → call.trace ≡ [] → call.answers ≡ [] → IfOk call.outcome (λ answer. ⊥)
+    → Reports plan details (record { shelf = told opening; faults = faults opening; hands = before }) (outside_by told faults state call.devices new) call.trace call.answers call.outcome
 nothing_built told faults state plan details opening old new before call swept same shelf trace answers none =
-    no_answer plan details (record { shelf = told opening; faults = faults opening; hands = before }) (outside_by told faults state call.shelf new) call.trace call.answers (trace, answers, ap told shelf)
+    no_answer plan details (record { shelf = told opening; faults = faults opening; hands = before }) (outside_by told faults state call.devices new) call.trace call.answers (trace, answers, ap told shelf)
     (subst (λ hands. TellAsBefore before (map state hands)) (sym same) (swept_tell before (map state old) swept)) call.outcome none

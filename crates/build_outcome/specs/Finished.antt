@@ -17,9 +17,9 @@ use Rattle.build_outcome.specs.declared.build.Call.{Call}
 
 pub record Finishes {S : Type 0} (told : S → Option ShelfTold) (faults : S → ℕ) (plan : Plan) (details : List Details) (left : Finished S) (call : Call S) : Type 0 where
   pub settled : Result (Unit {0}) DeviceFault
-  pub ok : OnOk settled (told call.shelf ≡ settled_all (told left.shelf))
-  pub may : MaySettle (told left.shelf) (told call.shelf)
-  pub cause : HasCause (faults left.shelf) (faults call.shelf) (device_failed settled)
+  pub ok : OnOk settled (told call.devices ≡ settled_all (told left.shelf))
+  pub may : MaySettle (told left.shelf) (told call.devices)
+  pub cause : HasCause (faults left.shelf) (faults call.devices) (device_failed settled)
   pub answer : IfOk call.outcome (IsRunAnswer plan details left.answers left.states settled)
   pub events : call.trace ≡ left.trace
   pub kept : call.answers ≡ left.answers

@@ -1,4 +1,5 @@
-// From a plan to what is answered: the areas are swept, the modules are built, the repository is settled, and the report is made.
+// From a plan to what is answered: the areas are swept, the modules are built, the repository is settled, and the
+// report is made.
 ghost use Rattle.std.specs.Prelude.{◌≡◌, ◌<◌, ◌^◌, [], length, map, IfOk, IfSome, List};
 ghost use Rattle.mvn_outside.specs.Shelf.{files_now};
 ghost use Rattle.report.specs.Rows.{NamesFiles};
@@ -25,25 +26,29 @@ use std::alloc::Global;
 use std::sync::Wait;
 use std::thread::Threads;
 
-/// What a call answers before it is written, the repository, the events of its run in order, and what its goals were answered.
+/// What a call answers before it is written, and what it leaves.
 #[derive(Drop)]
-pub struct Call<S> {
+pub struct Call<D> {
+    /// The text and the status, unless memory ran out.
     pub outcome: Mem<Outcome>,
-    pub shelf: S,
+    /// The repository, or all devices, as the call left it.
+    pub devices: D,
+    /// The events of the run; none where nothing was built.
     pub trace: List<Event>,
+    /// What the goals answered, one for each event `Answer` of the trace.
     pub answers: List<Answered>,
 }
 
 /// An answer without a build. Takes no memory.
-pub fn nothing<S>(alloc: Global, shelf: S, outcome: Mem<Outcome>) -> Call<S>
+pub fn nothing<D>(alloc: Global, devices: D, outcome: Mem<Outcome>) -> Call<D>
     ensures outcome { result.outcome ≡ outcome }
-    ensures shelf { result.shelf ≡ shelf }
+    ensures devices { result.devices ≡ devices }
     ensures trace { result.trace ≡ [] }
     ensures answers { result.answers ≡ [] }
 {
     Call {
         outcome,
-        shelf,
+        devices,
         trace: List::new(alloc),
         answers: List::new(alloc),
     }
@@ -52,7 +57,7 @@ pub fn nothing<S>(alloc: Global, shelf: S, outcome: Mem<Outcome>) -> Call<S>
 // The answer where there was no memory to begin; the repository is as it was given.
 fn given_back<S>(alloc: Global, error: BuildError<S>) -> Call<S>
     ensures outcome { IfOk result.outcome (λ answer. ⊥) }
-    ensures shelf { error ≡ Memory result.shelf }
+    ensures shelf { error ≡ Memory result.devices }
     ensures trace { result.trace ≡ [] }
     ensures answers { result.answers ≡ [] }
 {
@@ -102,7 +107,7 @@ fn finish<S: Shelf>(
     );
     Call {
         outcome,
-        shelf,
+        devices: shelf,
         trace,
         answers,
     }
@@ -128,7 +133,8 @@ where
         (map ⟦<Hand<R, S::Area, G> as Worker>⟧.state hands.old)
         → Reports plan.now details
         (record { shelf = S.told shelf; faults = S.faults shelf; hands = before })
-        (outside_by S.told S.faults ⟦<Hand<R, S::Area, G> as Worker>⟧.state result.shelf hands.new)
+        (outside_by S.told S.faults ⟦<Hand<R, S::Area, G> as Worker>⟧.state
+        result.devices hands.new)
         result.trace result.answers result.outcome }
 {
     match build_all(rt, alloc, plan, shelf, hands) {
@@ -137,10 +143,10 @@ where
     }
 }
 
-/// Builds the modules of a plan by as many hands as it has workers, which may be one, each in a thread of its own, once the area of each
-/// is swept; settles once what was published; and answers with the report. An area that can't be swept is told as `fault area` with
-/// status 3, and nothing is built. May wait. Costs what building the modules costs, and the report. Guide to Working with Multiple
-/// Modules, for the build by one hand that it is measured by; project rule.
+/// Builds the modules of a plan by as many hands as it has workers, which may be one, each in a thread of its own, once
+/// the area of each is swept; settles once what was published; and answers with the report. An area that can't be swept
+/// is told as `fault area` with status 3, and nothing is built. May wait. Costs what building the modules costs, and
+/// the report. Guide to Working with Multiple Modules, for the build by one hand that it is measured by; project rule.
 pub fn run_and_report<W: Threads + Wait + Sync, S: Shelf + Send, R: Remote + Send, G: Gate + Send>(
     rt: &W,
     alloc: Global,
@@ -158,7 +164,8 @@ where
     requires present { IfSome (S.told shelf) (λ told. IsPresent plan.now (files_now told)) }
     ensures reports { Reports plan.now details
         (outside_by S.told S.faults ⟦<Hand<R, S::Area, G> as Worker>⟧.state shelf hands.old)
-        (outside_by S.told S.faults ⟦<Hand<R, S::Area, G> as Worker>⟧.state result.shelf hands.new)
+        (outside_by S.told S.faults ⟦<Hand<R, S::Area, G> as Worker>⟧.state
+        result.devices hands.new)
         result.trace result.answers result.outcome }
 {
     match sweep_all(hands) {

@@ -153,8 +153,8 @@ fn answered(
     outcome_with(report, run_status(states), settled)
 }
 
-/// What is answered of a run: nothing but want of memory where a module ended so; else the report, with the line `fault settle`
-/// after it if what was published isn't settled, and the status. Costs the report. Project rule.
+/// What is answered of a run: nothing but want of memory where a module ended so; else the report, with the line `fault
+/// settle` after it if what was published isn't settled, and the status. Costs the report. Project rule.
 pub(crate) fn outcome_of(
     alloc: Global,
     plan: &Plan,

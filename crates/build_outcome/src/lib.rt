@@ -1,4 +1,5 @@
-//! A plan is built by a crew, what it published is settled once, and the answer is the report with an exit status.
+//! A sound plan is built by a crew and reported with an exit status; below 3, where all tells, that is as the build
+//! by one hand, and all that was published is settled.
 //!
 //! `build::run_and_report` does it in these steps:
 //!

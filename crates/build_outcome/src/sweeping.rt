@@ -21,8 +21,8 @@ fn sweep_hand<R: Remote, A: Area, G: Gate>(hand: &mut Hand<R, A, G>) -> Result<(
     sweep(&mut hand.area)
 }
 
-// Sweeps the areas of all hands, one after another; stops at the first that fails, whose count rose. The hands tell what they
-// told.
+// Sweeps the areas of all hands, one after another; stops at the first that fails, whose count rose. The hands tell
+// what they told.
 pub(crate) fn sweep_all<R: Remote, A: Area, G: Gate>(
     hands: &mut [Hand<R, A, G>],
 ) -> Result<(), DeviceFault>

@@ -8,6 +8,7 @@ use generated::run_words;
 use goal_types::{GoalAnswer, SourceFile};
 use mvn_base::Machine;
 use mvn_call::Ended;
+use mvn_devices::Devices;
 use mvn_outside::Hand;
 use mvn_shared::{Bytes, List, Mem, OutOfMemory, Text};
 use outside_mem::{Calls, MemArea, MemGate, MemRemote, MemShelf, MemSink, MemTree};
@@ -24,8 +25,18 @@ pub(crate) type Fault<'a> = (&'a str, u64);
 
 type Worker = Hand<MemRemote<Calls>, MemArea<Calls>, MemGate<Calls>>;
 
+// All that a build works with.
+type Made = Devices<
+    (
+        MemTree<Calls>,
+        MemShelf<Calls>,
+        MemRemote<Calls>,
+        MemGate<Calls>,
+    ),
+>;
+
 // What a build leaves.
-type Run = Ended<MemShelf<Calls>>;
+type Run = Ended<Made>;
 
 /// How a project is built: what it is, what its goals answer, and which call fails.
 #[derive(Clone, Copy)]
@@ -164,14 +175,12 @@ fn call<W: Threads + Wait + Sync>(
     alloc: Global,
     words: &[Bytes],
     machine: Machine,
-    tree: &mut MemTree<Calls>,
-    shelf: MemShelf<Calls>,
-    workers: &mut [Worker],
+    devices: Made,
     sink: &mut MemSink<Calls>,
 ) -> Run
-    requires { (1 ≤ length workers.old) × (length workers.old ≤ 16) }
+    requires { (1 ≤ length devices.hands.items) × (length devices.hands.items ≤ 16) }
 {
-    run_words(rt, alloc, words, machine, tree, shelf, workers, sink)
+    run_words(rt, alloc, words, machine, devices, sink)
 }
 
 // What a command line leaves.
@@ -183,24 +192,15 @@ fn build<W: Threads + Wait + Sync>(
     sink: &mut MemSink<Calls>,
 ) -> Mem<Run> {
     let words = words(alloc, line)?;
-    let mut workers = workers(alloc, manner)?;
-    if workers.is_empty() || workers.len() > 16 {
+    let hands = workers(alloc, manner)?;
+    if hands.is_empty() || hands.len() > 16 {
         return Err(OutOfMemory);
     }
-    let mut tree = tree(alloc, manner)?;
+    let tree = tree(alloc, manner)?;
     let shelf = shelf(alloc, manner)?;
     let machine = machine(alloc)?;
-    let run = call(
-        rt,
-        alloc,
-        &words,
-        machine,
-        &mut tree,
-        shelf,
-        &mut workers,
-        sink,
-    );
-    Ok(run)
+    let devices = Devices { tree, shelf, hands };
+    Ok(call(rt, alloc, &words, machine, devices, sink))
 }
 
 // How many modules were started.
@@ -228,7 +228,7 @@ fn push_run(alloc: Global, run: &Run, out: &mut String) -> Mem<()> {
 // The status, how many names the repository has, and what was written; how far it came, too, where no call fails.
 fn push_left(alloc: Global, fault: Fault<'_>, run: &Run, told: &[u8], out: &mut String) -> Mem<()> {
     push_number(alloc, "status", u64::from(run.status), out)?;
-    push_number(alloc, "names", run.shelf.names(), out)?;
+    push_number(alloc, "names", run.devices.shelf.names(), out)?;
     if fault.0 == "-" {
         push_run(alloc, run, out)?;
     }

@@ -9,9 +9,9 @@ ghost use Rattle.run_law.specs.Given.{Answers, IsBetween, supply_by};
 ghost use Rattle.call_laws.specs.Grown.{IsGrown, gavs_of};
 ghost use Rattle.call_laws.specs.Reruns.{HasWorkers};
 
-/// A law: all that the build of a plan adds to a repository is files that the remote repository has, and files of the modules that it builds;
-/// and nothing that was there is taken away. So of any files between the start and the end of the build by one hand. Does nothing. Maven's
-/// repository layout, for whose a file is; project rule for the rest.
+/// A law: all that the build of a plan adds to a repository is files that the remote repository has, and files of the
+/// modules that it builds; and nothing that was there is taken away. So of any files between the start and the end of
+/// the build by one hand. Does nothing. Maven's repository layout, for whose a file is; project rule for the rest.
 pub fn builds_add()
     ensures { (tree start remote files : Files) (given : Given) (line : CommandLine) (p : Planned)
         (said : Answers) → HasWorkers line → IsPlanned tree start remote given line p

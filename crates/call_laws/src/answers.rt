@@ -8,9 +8,10 @@ ghost use Rattle.call_plan.specs.Headline.{IsHistory};
 ghost use Rattle.call_plan.specs.Seen.{After, Seen};
 ghost use Rattle.call_laws.specs.Numbered.{AreKeptOnce, goals_of_trace, numbers_of};
 
-/// A law: what the clause `history` of `mvn` says of a call makes its answers those of its trace, one for each event `Answer`, in order, to
-/// that goal of the module that the event's worker began last; and no goal of a module is answered twice. With every status, over any
-/// objects. Does nothing. Introduction to the Build Lifecycle, for the order of goals; project rule.
+/// A law: what the clause `history` of `mvn` says of a call makes its answers those of its trace, one for each event
+/// `Answer`, in order, to that goal of the module that the event's worker began last; and no goal of a module is
+/// answered twice. With every status, over any objects. Does nothing. Introduction to the Build Lifecycle, for the
+/// order of goals; project rule.
 pub fn answers_are_the_traces()
     ensures order { (asked : Result CommandLine Outcome) (seen : Seen) (after : After)
         (trace : List Event) (answers : List Answered) → IsHistory asked seen after trace answers

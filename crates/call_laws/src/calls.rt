@@ -37,8 +37,9 @@ pub fn outcomes_again()
         → IsFirst asked (world_over files world) (found_over files found) }
 {}
 
-/// A law, in the words of `mvn`'s clauses: a call over the files that a call or a stop left, which answers so, writes so and leaves such
-/// files, is one that does so over the files at the start, with the same answers of the goals. Does nothing. Project rule.
+/// A law, in the words of `mvn`'s clauses: a call over the files that a call or a stop left, which answers so, writes
+/// so and leaves such files, is one that does so over the files at the start, with the same answers of the goals. Does
+/// nothing. Project rule.
 pub fn calls_again()
     ensures { (asked : Result CommandLine answers.Outcome) (tree remote before : Files)
         (machine : Machine) (kept : List Answered) (status : ℕ)

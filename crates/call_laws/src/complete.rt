@@ -8,9 +8,10 @@ ghost use Rattle.build_outcome.specs.declared.outcome.Outcome.{Outcome};
 ghost use Rattle.call_plan.specs.Seen.{After, Seen};
 ghost use Rattle.call_laws.specs.Complete.{EndsCall, IsAnswered, NothingFailed};
 
-/// A law of completeness: where no count of a device rose, and memory didn't run out, a call is answered in full, and with a status below
-/// 3: by the fault of the words or the refusal of the project with 2, or by the report of a run of the plan with 0 or 1. It follows from the
-/// clauses `causes`, `fault` and `bound` of `mvn`, where the repository tells. Does nothing. Project rule.
+/// A law of completeness: where no count of a device rose, and memory didn't run out, a call is answered in full, and
+/// with a status below 3: by the fault of the words or the refusal of the project with 2, or by the report of a run of
+/// the plan with 0 or 1. It follows from the clauses `causes`, `fault` and `bound` of `mvn`, where the repository
+/// tells. Does nothing. Project rule.
 pub fn calls_without_faults_are_answered()
     ensures { (asked : Result CommandLine Outcome) (seen : Seen) (after : After) (told : ShelfTold)
         (trace : List Event) (answers : List Answered) (status : ℕ)

@@ -16,9 +16,9 @@ ghost use Rattle.call_laws.specs.Again.{planned_over};
 ghost use Rattle.call_laws.specs.RerunsApart.{IsApart, is_said};
 ghost use Rattle.call_laws.specs.Grown.{IsGrown, gavs_of};
 
-/// A law: over files that have grown by a build, coordinates lead to the same POM, if the project knows the modules that were built; and each
-/// artifact has the same versions, if these are modules of the project. Does nothing. Maven Model Builder, "Model resolving"; POM Reference,
-/// "Dependency Version Requirement Specification".
+/// A law: over files that have grown by a build, coordinates lead to the same POM, if the project knows the modules
+/// that were built; and each artifact has the same versions, if these are modules of the project. Does nothing. Maven
+/// Model Builder, "Model resolving"; POM Reference, "Dependency Version Requirement Specification".
 pub fn looked_up_again()
     ensures pom { (project : Items poms.ProjectPom) (start remote files : Files)
         (built : Items gavs.Gav) → IsGrown start remote built files

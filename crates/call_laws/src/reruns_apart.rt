@@ -6,8 +6,8 @@ ghost use Rattle.model_resolver.specs.Finding.{find_pom, found_in_repository};
 ghost use Rattle.call_laws.specs.RerunsApart.{are_said};
 ghost use Rattle.call_laws.specs.Samples.{model, named, pom};
 
-/// An example: two modules whose POMs say `g:a:1` and `g:b:1`, and whose effective coordinates are these, are known in their project. Does
-/// nothing.
+/// An example: two modules whose POMs say `g:a:1` and `g:b:1`, and whose effective coordinates are these, are known in
+/// their project. Does nothing.
 pub fn known_modules()
     ensures { are_said (pom (codes "a") (codes "1") ∷ pom (codes "b") (codes "1") ∷ [])
         (model (codes "a") ∷ model (codes "b") ∷ []) ≡ true }

@@ -10,6 +10,7 @@ use Rattle.build_plan.specs.declared.planning.PlanFault.{PlanFault}
 use Rattle.build_outcome.specs.declared.outcome.Outcome.{Outcome}
 use Rattle.call_plan.specs.Found.{Finds, IsFoundBy}
 use Rattle.call_plan.specs.Outcome.{fault_line}
+use Rattle.call_plan.specs.Seen.{Seen, first_remote}
 
 -- what is made of what planning gave: where a device failed its line, and else the plan or what is answered in its place
 abbrev pub IsMadeOf : Result Planned PlanFault → Option PomDevice → Result Planned Outcome → Type 0
@@ -20,3 +21,7 @@ IsMadeOf said (Some device) found = found ≡ Err (fault_line device)
 abbrev pub GivesPlan : Option Files → Option ShelfTold → Option Files → Given → CommandLine → Option PomDevice → Result Planned Outcome → Type 0
 GivesPlan tree shelf remote given line None found = IsFoundBy tree shelf remote given line found
 GivesPlan tree shelf remote given line (Some device) found = found ≡ Err (fault_line device)
+
+-- over what a call sees, with the first hand's remote
+abbrev pub GivesFrom : Seen → Given → CommandLine → Option PomDevice → Result Planned Outcome → Type 0
+GivesFrom seen given line failed found = GivesPlan seen.tree seen.outside.shelf (first_remote seen.outside) given line failed found

@@ -1,14 +1,15 @@
 -- What stands outside of a call, before it and after it, and which hands it uses. Project rules; Maven's option `-T` for how many.
-use Rattle.std.specs.Prelude.{◌≡◌, ℕ, List, length, take, drop, Option, Some, Result, Ok, Err, IfSome}
+use Rattle.std.specs.Prelude.{◌≡◌, ℕ, List, length, take, drop, Option, None, Some, Result, Ok, Err, IfSome}
 use Rattle.mvn_shared.specs.Files.{Files}
 use Rattle.mvn_base.specs.declared.machine.Machine.{Machine}
 use Rattle.mvn_outside.specs.Shelf.{files_now}
 use Rattle.mvn_outside.specs.declared.shelf.ShelfTold.{ShelfTold}
 use Rattle.cli_words.specs.declared.command_line.CommandLine.{CommandLine}
-use Rattle.model_resolver.specs.Devices.{Counts}
+use Rattle.model_resolver.specs.Devices.{Counted, Counts}
+use Rattle.model_resolver.specs.declared.failures.PomDevice.{PomDevice}
 use Rattle.crew_turns.specs.Hands.{HandState}
 use Rattle.crew.specs.CrewOutcomes.{AllTellFiles, hand_of, told_of}
-use Rattle.build_outcome.specs.Left.{Outside}
+use Rattle.build_outcome.specs.Left.{Outside, outside_by}
 use Rattle.build_outcome.specs.declared.outcome.Outcome.{Outcome}
 
 -- before: what the project's folder tells and how often it failed so far, what the project may ask of the machine, and the repository and all hands
@@ -22,6 +23,13 @@ pub record Seen : Type 0 where
 pub record After : Type 0 where
   pub faults : ℕ
   pub outside : Outside
+
+-- by what the project's folder, the repository and each hand show
+abbrev pub seen_by : {T S H : Type 0} → (T → Option Files) → (T → ℕ) → (S → Option ShelfTold) → (S → ℕ) → (H → HandState) → T → S → List H → Machine → Seen
+seen_by files faults told shelf_faults state tree shelf hands machine = record { tree = files tree; faults = faults tree; machine = machine; outside = outside_by told shelf_faults state shelf hands }
+
+abbrev pub after_by : {T S H : Type 0} → (T → ℕ) → (S → Option ShelfTold) → (S → ℕ) → (H → HandState) → T → S → List H → After
+after_by faults told shelf_faults state tree shelf hands = record { faults = faults tree; outside = outside_by told shelf_faults state shelf hands }
 
 -- ---- the hands that are used
 
@@ -67,3 +75,9 @@ LeavesSo told now relation = (after : ShelfTold) × (now ≡ Some after) × rela
 pub record IsAskedFirst (before now : List HandState) : Type 0 where
   pub first : hand_of now 0 ≡ record (hand_of before 0) { remote = (hand_of now 0).remote }
   pub others : drop 1 now ≡ drop 1 before
+
+-- so the repository tells what it told, and the counts of the project's folder, the repository and that remote say which of them failed, if one did
+pub record AsksFirst (before now : After) (failed : Option PomDevice) : Type 0 where
+  pub shelf : now.outside.shelf ≡ before.outside.shelf
+  pub counted : Counted None failed (counts_of before.faults before.outside) (counts_of now.faults now.outside)
+  pub asked : IsAskedFirst before.outside.hands now.outside.hands

@@ -8,8 +8,8 @@ use cli_words::{CommandLine, WordError, options};
 use mvn_shared::{Bytes, Mem, OutOfMemory};
 use std::alloc::Global;
 
-/// What the words ask for, of so many hands, or what is answered in its place: their first fault, with its place. Costs the
-/// words' length. Maven's command-line options.
+/// What the words ask for, of so many hands, or what is answered in its place: their first fault, with its place. Costs
+/// the words' length. Maven's command-line options.
 pub fn asked(alloc: Global, words: &[Bytes], hands: u32) -> Mem<Result<CommandLine, Outcome>>
     requires hands { (1 ≤ hands) × (hands ≤ 16) }
     ensures says { IfOk result (λ answer. answer ≡ asked words.now hands) }

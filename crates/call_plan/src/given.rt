@@ -32,8 +32,8 @@ fn copies_of(line: &CommandLine) -> Mem<Copies>
     Ok(Copies { defines, choice })
 }
 
-/// What is given to all POMs of a call: the machine, and copies of the properties and the choice of profiles of the line. Costs
-/// these.
+/// What is given to all POMs of a call: the machine, and copies of the properties and the choice of profiles of the
+/// line. Costs these.
 pub fn given_of(alloc: Global, machine: Machine, line: &CommandLine) -> Mem<Given>
     ensures { IfOk result (λ given. given ≡ given_of machine line.now) }
 {

@@ -1,16 +1,17 @@
 // Plans the project of a call.
-ghost use Rattle.std.specs.Prelude.{◌≡◌, ◌≤◌, None, drop, length, map, IfOk};
+ghost use Rattle.std.specs.Prelude.{◌≡◌, ◌≤◌, None, drop, length, IfOk};
 ghost use Rattle.model_resolver.specs.Devices.{Counted};
-ghost use Rattle.build_outcome.specs.Left.{outside_by};
-ghost use Rattle.call_plan.specs.Project.{GivesPlan};
-ghost use Rattle.call_plan.specs.Seen.{counts_of, first_remote, IsAskedFirst};
+ghost use Rattle.call_plan.specs.Project.{GivesFrom, GivesPlan};
+ghost use Rattle.call_plan.specs.Seen.{AsksFirst};
 
+use crate::devices::Sees;
 use crate::outcome::answered;
 use build_outcome::Outcome;
 use build_plan::{Planning, plan_build};
 use cli_words::CommandLine;
 use crew_turns::Worker;
 use module_plan::Planned;
+use mvn_devices::{Devices, Outside};
 use mvn_outside::{Gate, Hand, Remote, Shelf, Tree};
 use mvn_shared::Mem;
 use pom_source::Given;
@@ -81,32 +82,32 @@ fn plan_by_hand<T: Tree, R: Remote, S: Shelf, G: Gate>(
     plan_line(alloc, given, line, tree, shelf, &mut hand.remote)
 }
 
-/// Plans the project for a line: POMs are looked up in the first hand's remote too. Costs what planning costs.
-pub fn plan_by_first<T: Tree, R: Remote, S: Shelf, G: Gate>(
+/// Plans the project for a line: POMs are looked up in the first hand's remote too. Gives the plan, or what is answered
+/// in its place: a refusal, or the line of the device that failed first, which `failed` names. Costs what planning
+/// costs. Project rule.
+pub fn plan_by_first<O: Outside>(
     alloc: Global,
     given: &Given,
     line: &CommandLine,
-    tree: &mut T,
-    shelf: &mut S,
-    hands: &mut [Hand<R, S::Area, G>],
+    devices: &mut Devices<O>,
 ) -> Planning<Mem<Result<Planned, Outcome>>>
     requires workers { (1 ≤ line.now.workers) × (line.now.workers ≤ 16) }
-    requires some { 1 ≤ length hands.old }
-    ensures gives { IfOk result.answer (GivesPlan (T.files tree.old) (S.told shelf.old)
-        (first_remote (outside_by S.told S.faults ⟦<Hand<R, S::Area, G> as Worker>⟧.state
-        shelf.old hands.old))
+    requires some { 1 ≤ length devices.old.hands.items }
+    ensures gives { IfOk result.answer (GivesFrom
+        (⟦<Devices<O> as Sees>⟧.seen devices.old given.now.machine)
         given.now line.now result.failed) }
-    ensures shelf { S.told shelf.new ≡ S.told shelf.old }
-    ensures counted { Counted None result.failed
-        (counts_of (T.faults tree.old) (outside_by S.told S.faults
-        ⟦<Hand<R, S::Area, G> as Worker>⟧.state shelf.old hands.old))
-        (counts_of (T.faults tree.new) (outside_by S.told S.faults
-        ⟦<Hand<R, S::Area, G> as Worker>⟧.state shelf.new hands.new)) }
-    ensures asked { IsAskedFirst
-        (map ⟦<Hand<R, S::Area, G> as Worker>⟧.state hands.old)
-        (map ⟦<Hand<R, S::Area, G> as Worker>⟧.state hands.new) }
-    ensures others { drop 1 hands.new ≡ drop 1 hands.old }
-    ensures many { length hands.new ≡ length hands.old }
+    ensures asks { AsksFirst (⟦<Devices<O> as Sees>⟧.after devices.old)
+        (⟦<Devices<O> as Sees>⟧.after devices.new) result.failed }
+    ensures others { drop 1 devices.new.hands.items ≡ drop 1 devices.old.hands.items }
+    ensures many { length devices.new.hands.items ≡ length devices.old.hands.items }
 {
-    plan_by_hand(alloc, given, line, tree, shelf, &mut hands[0])
+    let hand = &mut devices.hands[0];
+    plan_by_hand(
+        alloc,
+        given,
+        line,
+        &mut devices.tree,
+        &mut devices.shelf,
+        hand,
+    )
 }

@@ -1,3 +1,5 @@
+//! `Failed`: the one fault of calls that take no memory.
+
 use thiserror::Error;
 
 /// A stream or a child failed. It is the one fault of calls that take no memory.

@@ -1,3 +1,5 @@
+//! `CommandLine`: what a command line asks for, and `Word`, a selector of modules.
+
 use mvn_base::{Choice, FailMode, Pair, Phase};
 use mvn_shared::{List, Text};
 

@@ -1,5 +1,5 @@
-//! Tests of values, names, locks, events and turns call each public function of the crates below once, where no row of a program calls
-//! it.
+//! Tests of values, names, locks, events and turns call each public function of the crates below at least once, where
+//! no row of a program calls it.
 #![tactic(auto)]
 
 #[cfg(test)]

@@ -1,7 +1,8 @@
-//! Tests of objects in memory and over a disk call each public function of the crates below once, where no row of a program calls it.
+//! Tests of objects in memory and over a disk call each public function of the crates below at least once, where no
+//! row of a program calls it.
 //!
-//! They are tests of children in memory, of goals' requests and outputs, of a project's sources and of the summary of the generated
-//! project too.
+//! They are tests of children in memory, of goals' requests and outputs, of a project's sources and of the summary of
+//! the generated project too.
 #![tactic(auto)]
 
 #[cfg(test)]

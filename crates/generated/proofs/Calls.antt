@@ -3,24 +3,21 @@ use Rattle.std.proofs.Common.{◌≡◌, ◌∙◌, ◌⊎◌, inl, inr, ◌<◌
 use Rattle.mvn_shared.specs.declared.memory.OutOfMemory.{OutOfMemory}
 use Rattle.mvn_shared.specs.Cause.{HasRisen}
 use Rattle.mvn_base.specs.declared.machine.Machine.{Machine}
-use Rattle.mvn_outside.specs.declared.shelf.ShelfTold.{ShelfTold}
 use Rattle.build_core.specs.declared.event.Answered.{Answered}
 use Rattle.build_core.specs.declared.event.Event.{Event}
 use Rattle.cli_words.specs.declared.command_line.CommandLine.{CommandLine}
 use Rattle.build_outcome.specs.declared.outcome.Outcome.{Outcome}
-use Rattle.crew_turns.specs.Hands.{HandState}
-use Rattle.build_outcome.specs.Left.{IsIdle, Outside, TellAsBefore, outside_by}
-use Rattle.mvn_call.specs.Calls.{Calls}
+use Rattle.build_outcome.specs.Left.{IsIdle, Outside, TellAsBefore}
+use Rattle.call_plan.specs.Commands.{asked}
 use Rattle.call_plan.specs.Ending.{Ends, HasNone, IsFault, IsLow, IsWhole, without_memory}
 use Rattle.call_plan.specs.Seen.{After, Seen}
 use Rattle.mvn_call.proofs.Calling.{calls_none}
 use Rattle.mvn_call.proofs.First.{same_tells}
-use Rattle.mvn_call.proofs.Stops.{stops_between}
-use Rattle.call_laws.proofs.Numbering.{of_the_trace}
-use Rattle.call_laws.proofs.Leaving.{left_behind}
-use Rattle.mvn_call.proofs.Writing.{again_of, call_areas, call_ends, call_fault, call_of, call_quiet, call_refused, call_settled, none_ends}
+use Rattle.mvn_call.proofs.Writing.{none_ends}
 use Rattle.generated.specs.Generated.{Generates}
-use Rattle.generated.specs.Whole.{IsGeneratedCall, IsLineCall, IsMvn, IsWordsCall, Written}
+use Rattle.mvn_call.specs.Promises.{IsMvn, Written}
+use Rattle.mvn_call.proofs.Whole.{is_mvn}
+use Rattle.generated.specs.Whole.{IsGeneratedCall, IsLineCall, IsWordsCall}
 
 -- ---- of the generated project
 
@@ -96,25 +93,15 @@ module _ (seen : Seen) (after : After) (trace : List Event) (answers : List Answ
 
   mvn_none : (asked : Result CommandLine Outcome) → IsMvn asked seen after trace answers out
   mvn_none asked =
-      let is : Calls asked seen after trace answers failed = calls_none asked seen after trace answers failed e refl idle tells in
-      let low : out.status < 3 → IsLow failed = λ l. four_not_low out.status four l in
-      record {
-        outcome = call_of asked seen after trace answers failed out.status out.before out.now is tt low;
-        again = again_of asked seen after trace answers failed out.status out.before out.now is tt low;
-        remains = left_behind asked seen after trace answers is.history;
-        history = is.history;
-        kept = of_the_trace asked seen after trace answers is.history;
-        causes = call_ends asked seen after trace answers failed out.status out.before out.now out.faults out.count is tt (four, same);
-        refused = call_refused asked seen after trace answers failed out.status out.before out.now is tt low;
-        once = is.once;
-        whole_files = stops_between seen.outside.shelf after.outside.shelf is.once;
-        settled = call_settled asked seen after trace answers failed out.status out.before out.now is tt low;
-        areas = call_areas asked seen after trace answers failed out.status out.before out.now is tt low;
-        quiet = λ l. absurd (four_not_low out.status four l);
+      is_mvn asked seen after trace answers failed out (calls_none asked seen after trace answers failed e refl idle tells) (record {
+        whole = tt;
+        low = λ l. four_not_low out.status four l;
+        ends = tt;
+        none = (four, same);
         fault = λ three. absurd (four_not_three out.status four three);
+        quiet = λ l. absurd (four_not_low out.status four l);
         bound = omega (arith, four);
-        tells = is.tells;
-      }
+      })
 
   generated_none : (poms : ℕ) (line : CommandLine) → IsGeneratedCall poms line seen after trace answers out
   generated_none poms line = record {
@@ -140,20 +127,16 @@ module _ (seen : Seen) (after : After) (trace : List Event) (answers : List Answ
 
 -- ---- by what the words ask for
 
-pub words_error : (asked : Result CommandLine Outcome) (answer : Outcome) (seen : Seen) (after : After) (trace : List Event) (answers : List Answered) (out : Written) → Err answer ≡ asked → IsMvn asked seen after trace answers out → IsWordsCall asked seen after trace answers out
-words_error (Err other) answer seen after trace answers out e is = is
-words_error (Ok line) answer seen after trace answers out e is = cc
+-- it is asked for with so many hands
+pub asked_of : (said : Result CommandLine Outcome) (words : List (List ℕ)) (hands many : ℕ) → hands ≡ many → said ≡ asked words hands → said ≡ asked words many
+asked_of said words hands many e is = subst (λ n. said ≡ asked words n) e is
 
-pub words_line : (asked : Result CommandLine Outcome) (line : CommandLine) (seen : Seen) (after : After) (trace : List Event) (answers : List Answered) (out : Written) → Ok line ≡ asked → line.generated ≡ None → IsMvn asked seen after trace answers out → IsWordsCall asked seen after trace answers out
-words_line asked line seen after trace answers out e none is =
-    subst (λ (a : Result CommandLine Outcome). IsMvn a seen after trace answers out → IsWordsCall a seen after trace answers out) e
-    (λ is. subst (λ (g : Option ℕ). IsLineCall g line seen after trace answers out) (sym none) is) is
+pub line_mvn : (line : CommandLine) (seen : Seen) (after : After) (trace : List Event) (answers : List Answered) (out : Written) → line.generated ≡ None → IsMvn (Ok line) seen after trace answers out → IsLineCall line.generated line seen after trace answers out
+line_mvn line seen after trace answers out none is = subst (λ (g : Option ℕ). IsLineCall g line seen after trace answers out) (sym none) is
 
-pub words_generated : (asked : Result CommandLine Outcome) (line : CommandLine) (poms : ℕ) (seen : Seen) (after : After) (trace : List Event) (answers : List Answered) (out : Written) → Ok line ≡ asked → line.generated ≡ Some poms → IsGeneratedCall poms line seen after trace answers out → IsWordsCall asked seen after trace answers out
-words_generated asked line poms seen after trace answers out e some is =
-    subst (λ (a : Result CommandLine Outcome). IsWordsCall a seen after trace answers out) e
-    (subst (λ (g : Option ℕ). IsLineCall g line seen after trace answers out) (sym some) is)
-
--- the repository came back as it was given
-pub same_shelf : {S H : Type 0} (told : S → Option ShelfTold) (faults : S → ℕ) (state : H → HandState) (shelf left : S) (hands : List H) → left ≡ shelf → outside_by told faults state left hands ≡ outside_by told faults state shelf hands
-same_shelf {S} told faults state shelf left hands e = ap (λ (s : S). outside_by told faults state s hands) e
+-- all that was given came back
+pub line_generated : {D : Type 0} (now before : D) (after : D → After) (line : CommandLine) (poms : ℕ) (seen : Seen) (trace : List Event) (answers : List Answered) (out : Written) → line.generated ≡ Some poms → now ≡ before
+    → IsGeneratedCall poms line seen (after before) trace answers out → IsLineCall line.generated line seen (after now) trace answers out
+line_generated now before after line poms seen trace answers out some same is =
+    subst (λ (g : Option ℕ). IsLineCall g line seen (after now) trace answers out) (sym some)
+    (subst (λ d. IsGeneratedCall poms line seen (after d) trace answers out) (sym same) is)

@@ -1,48 +1,15 @@
 -- A whole call of words: as that of `mvn` if they ask for no generated project, and else a build of that, which leaves everything alone that
 -- was given but for the sink. Project rules.
-use Rattle.std.specs.Prelude.{◌≡◌, ◌⊎◌, ◌<◌, ◌≤◌, ℕ, List, Option, None, Some, Result, Ok, Err, IfSome}
+use Rattle.std.specs.Prelude.{◌≡◌, ◌⊎◌, ◌<◌, ◌≤◌, ℕ, List, Option, None, Some, Result, Ok, Err}
 use Rattle.mvn_shared.specs.Cause.{HasRisen}
-use Rattle.mvn_outside.specs.Shelf.{IsSettled}
 use Rattle.build_core.specs.declared.event.Answered.{Answered}
 use Rattle.build_core.specs.declared.event.Event.{Event}
 use Rattle.cli_words.specs.declared.command_line.CommandLine.{CommandLine}
-use Rattle.build_outcome.specs.Left.{AreEmpty, TellAsBefore}
-use Rattle.build_outcome.specs.Once.{PublishesOnce, StopsBetween}
 use Rattle.build_outcome.specs.declared.outcome.Outcome.{Outcome}
 use Rattle.call_plan.specs.Ending.{Ends, IsWhole, without_memory}
-use Rattle.call_plan.specs.Headline.{IsCall, IsHistory, IsUnchanged, IsWanted, NoneFailed, OneFailed}
-use Rattle.call_plan.specs.Seen.{After, IfAllTell, LeavesSo, Seen, used}
-use Rattle.call_laws.specs.Numbered.{AreTheTraces}
-use Rattle.call_laws.specs.Reruns.{IsCallAgain, LeavesBehind}
+use Rattle.call_plan.specs.Seen.{After, Seen}
+use Rattle.mvn_call.specs.Promises.{IsMvn, Written}
 use Rattle.generated.specs.Generated.{IsGenerated, IsGeneratedRun, IsNothing, IsOfRun}
-
--- what a call answered and wrote: its status, the sink before and after, and how often that failed so far
-pub record Written : Type 0 where
-  pub status : ℕ
-  pub before : Option (List ℕ)
-  pub now : Option (List ℕ)
-  pub faults : ℕ
-  pub count : ℕ
-
--- all that `mvn` says of a call
-pub record IsMvn (asked : Result CommandLine Outcome) (seen : Seen) (after : After) (trace : List Event) (answers : List Answered) (out : Written) : Type 0 where
-  pub outcome : IfAllTell asked seen (λ files told there. out.status < 3 →
-      LeavesSo told after.outside.shelf (IsCall asked files there seen.machine answers out.status out.before out.now))
-  pub again : IfAllTell asked seen (λ files told there. out.status < 3 →
-      LeavesSo told after.outside.shelf (IsCallAgain asked files there seen.machine answers out.status out.before out.now))
-  pub remains : LeavesBehind asked seen after.outside.shelf answers
-  pub history : IsHistory asked seen after trace answers
-  pub kept : AreTheTraces trace answers
-  pub causes : (wanted : Outcome) × IsWanted asked seen after trace answers wanted × Ends wanted out.status out.before out.now out.faults out.count
-  pub refused : out.status ≡ 2 → IsUnchanged seen after trace answers
-  pub once : PublishesOnce seen.outside.shelf after.outside.shelf
-  pub whole_files : StopsBetween seen.outside.shelf after.outside.shelf
-  pub settled : out.status < 2 → IfSome after.outside.shelf IsSettled
-  pub areas : out.status < 2 → AreEmpty (used asked after.outside).hands
-  pub quiet : out.status < 3 → (out.count ≡ out.faults) × NoneFailed asked seen after
-  pub fault : out.status ≡ 3 → HasRisen out.faults out.count ⊎ OneFailed asked seen after
-  pub bound : out.status ≤ 4
-  pub tells : TellAsBefore seen.outside.hands after.outside.hands
 
 -- Of a build of the generated project of so many POMs. Below 3 the text and the status are those of the build by one hand. The events and
 -- answers are those of a run over what was made, or there are none; with 0 and 1 it is a run. What is written is a part from the front of

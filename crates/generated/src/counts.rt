@@ -16,8 +16,8 @@ fn add_entries(alloc: Global, places: &mut Vec<usize>, resolution: &Resolution) 
     Ok(())
 }
 
-/// The entries of all modules' classpaths for tests together. Costs the types of what they are built with, and memory for the entries'
-/// places. Introduction to the Dependency Mechanism, "Dependency Scope".
+/// The entries of all modules' classpaths for tests together. Costs the types of what they are built with, and memory
+/// for the entries' places. Introduction to the Dependency Mechanism, "Dependency Scope".
 pub(crate) fn entries_of(alloc: Global, resolutions: &[Resolution]) -> Mem<u64>
     ensures { IfOk result (λ count. count ≡ entries_of resolutions.now) }
 {

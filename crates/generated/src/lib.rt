@@ -1,7 +1,8 @@
-//! The generated project is built as `mvn` builds, but with all that is outside made in memory, and a summary is
-//! told in place of the report.
+//! The generated project is built as `mvn` builds, but over a project, a repository and hands that are made in
+//! memory, and a summary is told in place of the report.
 //!
-//! `words::run_words` does it where the words ask for a generated project, and else calls `mvn`. The steps:
+//! `words::run_words` does it where the words ask for a generated project of so many POMs, and else calls
+//! `mvn_call::mvn_asked`, as `mvn` does. The steps:
 //!
 //! 1. `make_project::generated` makes the project, and the files of its remote repository.
 //! 2. `hands::made_hands` makes as many hands as the words ask for workers.
@@ -18,6 +19,6 @@ mod summing;
 mod words;
 
 pub use hands::{MemHand, made_hands};
-pub use run::{GeneratedCall, build_generated};
+pub use run::{MemOutside, build_generated};
 pub use summing::summary_of;
 pub use words::run_words;

@@ -41,8 +41,8 @@ fn summed(alloc: Global, poms: u32, report: &Outcome, entries: u64, files: u64) 
     })
 }
 
-/// The summary of a build of this plan with this report, after which the repository has so many files; where there is no report, why.
-/// Costs the report's length, and the types of what the modules are built with. Project rule.
+/// The summary of a build of this plan with this report, after which the repository has so many files; where there is
+/// no report, why. Costs the report's length, and the types of what the modules are built with. Project rule.
 pub fn summary_of(
     alloc: Global,
     poms: u32,

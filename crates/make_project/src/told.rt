@@ -17,8 +17,8 @@ fn push_line(alloc: Global, text: &mut Vec<u8>, label: &str, number: u64) -> Mem
     Ok(())
 }
 
-/// What is told of a build of the generated project of so many POMs in place of the report, with this line of totals. Costs its length.
-/// Project rule.
+/// What is told of a build of the generated project of so many POMs in place of the report, with this line of totals.
+/// Costs its length. Project rule.
 #[tactic(auto, unfolding(crate::specs::Summaries::summary_with))]
 pub fn summary_with(alloc: Global, poms: u32, total: &[u8], entries: u64, files: u64) -> Mem<Bytes>
     ensures { IfOk result (λ text. text ≡ summary_with poms total.now entries files) }
@@ -31,9 +31,10 @@ pub fn summary_with(alloc: Global, poms: u32, total: &[u8], entries: u64, files:
     Ok(Bytes::of(text))
 }
 
-/// What is told of a build of the generated project of so many POMs in place of the report, in four lines: their number; how many modules
-/// were built, failed and were skipped, as the report tells it; how many entries their classpaths for tests have together; and how many
-/// files are in the repository then. Costs the number of rows. Project rule.
+/// What is told of a build of the generated project of so many POMs in place of the report, in four lines: their
+/// number; how many modules were built, failed and were skipped, as the report tells it; how many entries their
+/// classpaths for tests have together; and how many files are in the repository then. Costs the number of rows. Project
+/// rule.
 pub fn summary(alloc: Global, poms: u32, rows: &[ReportRow], entries: u64, files: u64) -> Mem<Bytes>
     ensures { IfOk result (λ text. text ≡ summary_text poms rows.now entries files) }
 {

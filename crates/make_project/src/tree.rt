@@ -89,8 +89,8 @@ fn project_files(alloc: Global, poms: u32) -> Mem<List<SourceFile>>
     Ok(files)
 }
 
-/// The project of so many POMs, 1 to 1,024, which is never at fault, and the files of its remote repository: a root, and modules each of
-/// which stands on the module of half its number and on a library. Costs its size. Project rule.
+/// The project of so many POMs, which is never at fault, and the files of its remote repository: a root, and modules
+/// each of which stands on the module of half its number and on a library. Costs its size. Project rule.
 pub fn generated(alloc: Global, poms: u32) -> Mem<Project>
     ensures tree { IfOk result (λ project.
         tree_files project.tree ≡ files_of (project_files poms)) }

@@ -78,7 +78,8 @@ fn with_parent(
     Ok(shown_list(alloc, way, child, parent.as_slice())?)
 }
 
-/// The plugins of a POM and of its parent in one list: the name of each, with a `!` after it where it has a version. Project rule.
+/// The plugins of a POM and of its parent in one list: the name of each, with a `!` after it where it has a version.
+/// Project rule.
 pub fn joined(alloc: Global, way: Way, child: &str, parent: &str) -> Result<String, ModelError> {
     let child = plugins(alloc, child)?;
     with_parent(alloc, way, child.as_slice(), parent)
@@ -95,7 +96,8 @@ fn over_parent(alloc: Global, child: Plugins<'_>, parent: &str) -> Result<String
     Ok(shown_over(alloc, child, parent)?)
 }
 
-/// The plugins of the parent alone, each under the POM's of its key (`merged_over`), as `joined` spells them. Project rule.
+/// The plugins of the parent alone, each under the POM's of its key (`merged_over`), as `joined` spells them. Project
+/// rule.
 pub fn joined_over(alloc: Global, child: &str, parent: &str) -> Result<String, ModelError> {
     let child = plugins(alloc, child)?;
     over_parent(alloc, child.as_slice(), parent)

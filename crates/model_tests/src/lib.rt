@@ -1,7 +1,9 @@
-//! Tests of joined models call each public function of the crates below once, where no row of a program calls it.
+//! Tests of joined models call each public function of the crates below at least once, where no row of a program
+//! calls it.
 //!
-//! The POMs are spelled as in the rows (`row_models`), by what stands after the coordinates. `joining`, `managing` and `single` tell of
-//! plugins and managed dependencies as texts and counts, which the tests in the other modules compare.
+//! The POMs are spelled as in the rows (`row_models`), by what stands after the coordinates. `joining`, `managing`
+//! and `single` tell of plugins and managed dependencies as texts and counts, which the tests in the other modules
+//! compare.
 #![tactic(auto)]
 
 #[cfg(test)]

@@ -38,7 +38,8 @@ fn count_of(alloc: Global, model: &RawModel) -> Mem<Option<usize>> {
     }
 }
 
-/// How many dependencies a POM manages, or nothing if it manages none or the first isn't found by its key. Project rule.
+/// How many dependencies a POM manages, or nothing if it manages none or the first isn't found by its key. Project
+/// rule.
 pub fn managed_count(alloc: Global, inside: &str) -> Result<Option<usize>, ModelError> {
     let model = behind(alloc, inside)?;
     Ok(count_of(alloc, &model)?)

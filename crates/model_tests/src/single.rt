@@ -37,7 +37,8 @@ fn merged_inherited(alloc: Global, plugin: Option<&Shared<Plugin>>) -> Mem<bool>
     }
 }
 
-/// Whether the plugin at this place of a POM is inherited once it is merged with itself; false if there is none. Project rule.
+/// Whether the plugin at this place of a POM is inherited once it is merged with itself; false if there is none.
+/// Project rule.
 pub fn is_inherited(alloc: Global, inside: &str, at: usize) -> Result<bool, ModelError> {
     let plugin = plugin_at(alloc, inside, at)?;
     Ok(merged_inherited(alloc, plugin.as_ref())?)
@@ -51,8 +52,8 @@ fn execution_inherited(alloc: Global, plugin: &Plugin) -> Mem<bool> {
     }
 }
 
-/// Whether the first execution of the plugin at this place of a POM is inherited once it is merged with itself; false if there is none.
-/// Project rule.
+/// Whether the first execution of the plugin at this place of a POM is inherited once it is merged with itself; false
+/// if there is none. Project rule.
 pub fn is_execution_inherited(alloc: Global, inside: &str, at: usize) -> Result<bool, ModelError> {
     match plugin_at(alloc, inside, at)? {
         Some(plugin) => Ok(execution_inherited(alloc, &plugin)?),
@@ -68,7 +69,8 @@ fn settled_executions(alloc: Global, plugin: Option<&Shared<Plugin>>) -> Mem<usi
     }
 }
 
-/// How many executions the plugin at this place of a POM has once it is settled; 0 if there is no such plugin. Project rule.
+/// How many executions the plugin at this place of a POM has once it is settled; 0 if there is no such plugin. Project
+/// rule.
 pub fn executions_left(alloc: Global, inside: &str, at: usize) -> Result<usize, ModelError> {
     let plugin = plugin_at(alloc, inside, at)?;
     Ok(settled_executions(alloc, plugin.as_ref())?)

@@ -7,3 +7,4 @@ pub mod Statuses
 pub mod Stops
 pub mod Telling
 pub mod Writing
+pub mod Whole

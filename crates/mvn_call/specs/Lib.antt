@@ -11,3 +11,4 @@ pub use Rattle.call_plan.specs.Headline
 pub use Rattle.call_plan.specs.Seen
 pub use Rattle.call_laws.specs.Reruns
 pub mod Calls
+pub mod Promises

@@ -5,7 +5,8 @@ use Rattle.build_core.specs.declared.event.Event.{Event}
 use Rattle.cli_words.specs.declared.command_line.CommandLine.{CommandLine}
 use Rattle.build_outcome.specs.declared.outcome.Outcome.{Outcome}
 use Rattle.call_plan.specs.Seen.{After, Seen}
-use Rattle.generated.specs.Whole.{IsLineCall, IsWordsCall, Written}
+use Rattle.generated.specs.Whole.{IsLineCall, IsWordsCall}
+use Rattle.mvn_call.specs.Promises.{Written}
 
 module _ (seen : Seen) (after : After) (trace : List Event) (answers : List Answered) (out : Written) where
   line_bound : (generated : Option ℕ) (line : CommandLine) → IsLineCall generated line seen after trace answers out → out.status ≤ 4

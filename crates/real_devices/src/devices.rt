@@ -2,24 +2,30 @@
 ghost use Rattle.std.specs.Prelude.{◌≡◌, length, map, replicate, IfOk};
 ghost use Rattle.real_devices.specs.Gates.{gate_program, named_program};
 
-use crate::hands::{RealHand, hands};
+use crate::hand_gates::RealGate;
+use crate::hands::hands;
+use mvn_devices::Devices;
 use mvn_shared::{Mem, Text};
-use outside_real::{RealShelf, RealSink, RealTree};
+use outside_real::{RealRemote, RealShelf, RealSink, RealTree};
 use std::collections::BTreeMap;
 use std::os::fd::AsFd;
 use std::process;
 use std::process::ChildStdin;
 use surroundings::{Places, named_places};
 
+/// The types of the system's files, and of what runs the goals.
+pub type RealOutside<'a> = (
+    RealTree<'a, HostRuntime>,
+    RealShelf<'a, HostRuntime>,
+    RealRemote<'a, HostRuntime>,
+    RealGate<'a>,
+);
+
 /// The project in the current folder, the local repository, and the hands.
-pub struct Devices<'a> {
-    pub tree: RealTree<'a, HostRuntime>,
-    pub shelf: RealShelf<'a, HostRuntime>,
-    pub hands: Vec<RealHand<'a>>,
-}
+pub type RealDevices<'a> = Devices<RealOutside<'a>>;
 
 // The devices at these places.
-fn devices_at<'a>(rt: &'a HostRuntime, places: &Places) -> Mem<Devices<'a>>
+fn devices_at<'a>(rt: &'a HostRuntime, places: &Places) -> Mem<RealDevices<'a>>
     ensures count { IfOk result (λ devices. length devices.hands.items ≡ 16) }
     ensures gates { IfOk result (λ devices. map (λ hand. gate_program hand.gate) devices.hands.items
         ≡ replicate 16 (named_program places.now.program)) }
@@ -34,8 +40,12 @@ fn devices_at<'a>(rt: &'a HostRuntime, places: &Places) -> Mem<Devices<'a>>
     })
 }
 
-/// The devices that these variables of the environment name, with 16 hands. Opens nothing. Costs a look at the variables. Project rule.
-pub fn named_devices<'a>(rt: &'a HostRuntime, variables: &BTreeMap<Text, Text>) -> Mem<Devices<'a>>
+/// The devices that these variables of the environment name, with 16 hands. Opens nothing. Costs a look at the
+/// variables. Project rule.
+pub fn named_devices<'a>(
+    rt: &'a HostRuntime,
+    variables: &BTreeMap<Text, Text>,
+) -> Mem<RealDevices<'a>>
     ensures { IfOk result (λ devices. length devices.hands.items ≡ 16) }
 {
     let number = process::id(rt.process());
@@ -43,8 +53,8 @@ pub fn named_devices<'a>(rt: &'a HostRuntime, variables: &BTreeMap<Text, Text>) 
     devices_at(rt, &places)
 }
 
-/// Standard output, by a duplicate that is written without a signal where nobody reads: a closed pipe is then a fault. Nothing if there is
-/// no duplicate.
+/// Standard output, by a duplicate that is written without a signal where nobody reads: a closed pipe is then a fault.
+/// Nothing if there is no duplicate.
 pub fn standard_output(rt: &HostRuntime) -> Option<RealSink<ChildStdin>> {
     let Ok(out) = rt.stdout().as_fd().try_clone_to_owned() else {
         return None;

@@ -25,27 +25,28 @@ fn push_words(alloc: Global, words: &mut List<Bytes>, workers: usize) -> Mem<()>
 }
 
 // What the words leave, written to an empty sink.
-fn built<W: Threads + Wait + Sync, F: Failures + Send + Drop>(
+fn built<'a, W: Threads + Wait + Sync, F: Failures + Send + Drop>(
     rt: &W,
     alloc: Global,
     project: &Project,
     words: &[Bytes],
     shelf: &mut Option<MemShelf<F>>,
-    hands: &mut [Worker<F>],
+    hands: &mut Vec<Worker<'a, F>>,
 ) -> Mem<Left<F>> {
     let mut sink = MemSink::without_failures(alloc);
     let ended = called_over(rt, alloc, project, words, shelf, hands, &mut sink)?;
     left_of(alloc, project, ended, sink.bytes())
 }
 
-/// What an install by so many workers leaves, over this repository, which is taken out, and these hands; there are 1 to 16 of them.
-pub fn build<W: Threads + Wait + Sync, F: Failures + Send + Drop>(
+/// What an install by so many workers leaves, over this repository, which is taken out, and these hands; there are 1 to
+/// 16 of them.
+pub fn build<'a, W: Threads + Wait + Sync, F: Failures + Send + Drop>(
     rt: &W,
     alloc: Global,
     project: &Project,
     workers: usize,
     shelf: &mut Option<MemShelf<F>>,
-    hands: &mut [Worker<F>],
+    hands: &mut Vec<Worker<'a, F>>,
 ) -> Mem<Left<F>> {
     let mut words = List::new(alloc);
     push_words(alloc, &mut words, workers)?;
@@ -58,15 +59,15 @@ fn shelf(alloc: Global, project: &Project, faults: Faults) -> Mem<MemShelf<Calls
     MemShelf::<Calls>::new(alloc, project.local.clone()?, &failing)
 }
 
-/// What an install by so many workers leaves, over the project's own local repository, of which calls may fail, and these hands; there are 1
-/// to 16 of them.
-pub fn build_local<W: Threads + Wait + Sync>(
+/// What an install by so many workers leaves, over the project's own local repository, of which calls may fail, and
+/// these hands; there are 1 to 16 of them.
+pub fn build_local<'a, W: Threads + Wait + Sync>(
     rt: &W,
     alloc: Global,
     project: &Project,
     faults: Faults,
     workers: usize,
-    hands: &mut [Worker<Calls>],
+    hands: &mut Vec<Worker<'a, Calls>>,
 ) -> Mem<Left<Calls>> {
     let mut shelf = Some(shelf(alloc, project, faults)?);
     build(rt, alloc, project, workers, &mut shelf, hands)

@@ -6,8 +6,8 @@ use outside_mem::{Failures, MemShelf};
 use std::alloc::Global;
 use test_projects::{Project, put_files_under};
 
-/// What a build leaves: the exit status, the text that it wrote, the files under a project's names, the answers of its goals, and the
-/// repository.
+/// What a build leaves: the exit status, the text that it wrote, the files under a project's names, the answers of its
+/// goals, and the repository.
 #[derive(Drop)]
 pub struct Left<F> {
     pub status: u8,
@@ -37,7 +37,7 @@ fn put_left<F: Failures>(project: &Project, left: &mut Left<F>, sink: &[u8]) -> 
 fn ended_so<F: Drop>(alloc: Global, ended: Ended<MemShelf<F>>) -> Left<F> {
     let Ended {
         status,
-        shelf,
+        devices: shelf,
         answers,
         ..
     } = ended;

@@ -24,4 +24,4 @@ returns-in-Err g c = λ before swept.
     let state = state_by g.R.Remote.files g.R.Remote.faults g.S.Area.Area.contents g.S.Area.Area.faults g.S.Area.Area.pieces g.G.Gate.answers g.G.Gate.faults in
     let call = c.given_back.result in
     nothing_built g.S.Shelf.told g.S.Shelf.faults state c.args.plan.now c.args.details c.args.shelf c.args.hands.now c.build_all.new.hands before call
-    swept c.in-Err.ensures.unused (memory_is call.shelf c.args.shelf (sym c.given_back.ensures.shelf ∙ c.in-Err.ensures.err)) c.given_back.ensures.trace c.given_back.ensures.answers c.given_back.ensures.outcome
+    swept c.in-Err.ensures.unused (memory_is call.devices c.args.shelf (sym c.given_back.ensures.shelf ∙ c.in-Err.ensures.err)) c.given_back.ensures.trace c.given_back.ensures.answers c.given_back.ensures.outcome

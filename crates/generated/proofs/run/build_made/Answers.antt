@@ -20,7 +20,7 @@ use Rattle.generated.proofs.run.build_made.Goals as goal
 
 pub plan_by_first-planning-requires-clause-some : goal.plan_by_first-planning-requires-clause-some
 plan_by_first-planning-requires-clause-some g c =
-    let many = hands_count state c.args.hands.now c.args.line.now.workers c.requires.hands in
+    let many = hands_count state c.args.devices.hands.items c.args.line.now.workers c.requires.hands in
     omega (arith, many, c.requires.workers.0)
 
 pub build_summed-requires-clause-sound : goal.build_summed-requires-clause-sound
@@ -28,15 +28,15 @@ build_summed-requires-clause-sound g c κs within =
     let planning = c.plan_by_first-planning in
     let line = c.args.line.now in
     let given = c.args.given.now in
-    let middle = outside planning.new.shelf planning.new.hands in
+    let middle = outside planning.new.devices.shelf planning.new.devices.hands.items in
     let counted : Counted None planning.result.failed (counts_of 0 (made line.workers)) (counts_of 0 middle) =
-    subst (λ (o : Outside). Counted None planning.result.failed (counts_of 0 o) (counts_of 0 middle)) (given_made line.workers c.args.shelf c.args.hands.now c.requires.shelf c.requires.hands) planning.ensures.counted in
+    subst (λ (o : Outside). Counted None planning.result.failed (counts_of 0 o) (counts_of 0 middle)) (given_made line.workers c.args.devices.shelf c.args.devices.hands.items c.requires.shelf c.requires.hands) planning.ensures.asks.counted in
     let p = c.in-Ok-Ok.planned in
     let e : planning.result.answer ≡ Ok (Ok p) = c.in-Ok-Ok.is ∙ ap (λ (r : Result Planned Outcome). Ok r) c.in-Ok-Ok.field-0-is in
     let gives : Gives c.args.poms line given given.machine c.requires.workers.0 c.requires.given planning.result.failed (Ok p) =
-    gives_made c.args.poms line given given.machine c.requires.workers.0 c.requires.given (tree_files c.args.tree.now) (shelf_told c.args.shelf) (map state c.args.hands.now) planning.result.failed (Ok p) c.requires.tree c.requires.shelf c.requires.hands
-    (subst (λ (r : Result (Result Planned Outcome) OutOfMemory). IfOk r (GivesPlan (Some (tree_files c.args.tree.now)) (Some (shelf_told c.args.shelf)) (first_remote (outside c.args.shelf c.args.hands.now)) given line planning.result.failed)) e planning.ensures.gives) in
-    let is : IsReady line p = ready c.args.poms line given given.machine c.requires.workers.0 c.requires.given planning.result.failed p middle (faultless planning.new.shelf planning.new.hands) counted gives in
+    gives_made c.args.poms line given given.machine c.requires.workers.0 c.requires.given (tree_files c.args.devices.tree) (shelf_told c.args.devices.shelf) (map state c.args.devices.hands.items) planning.result.failed (Ok p) c.requires.tree c.requires.shelf c.requires.hands
+    (subst (λ (r : Result (Result Planned Outcome) OutOfMemory). IfOk r (GivesPlan (Some (tree_files c.args.devices.tree)) (Some (shelf_told c.args.devices.shelf)) (first_remote (outside c.args.devices.shelf c.args.devices.hands.items)) given line planning.result.failed)) e planning.ensures.gives) in
+    let is : IsReady line p = ready c.args.poms line given given.machine c.requires.workers.0 c.requires.given planning.result.failed p middle (faultless planning.new.devices.shelf planning.new.devices.hands.items) counted gives in
     is.sound
 
 pub build_summed-requires-clause-few : goal.build_summed-requires-clause-few
@@ -44,15 +44,15 @@ build_summed-requires-clause-few g c κs within =
     let planning = c.plan_by_first-planning in
     let line = c.args.line.now in
     let given = c.args.given.now in
-    let middle = outside planning.new.shelf planning.new.hands in
+    let middle = outside planning.new.devices.shelf planning.new.devices.hands.items in
     let counted : Counted None planning.result.failed (counts_of 0 (made line.workers)) (counts_of 0 middle) =
-    subst (λ (o : Outside). Counted None planning.result.failed (counts_of 0 o) (counts_of 0 middle)) (given_made line.workers c.args.shelf c.args.hands.now c.requires.shelf c.requires.hands) planning.ensures.counted in
+    subst (λ (o : Outside). Counted None planning.result.failed (counts_of 0 o) (counts_of 0 middle)) (given_made line.workers c.args.devices.shelf c.args.devices.hands.items c.requires.shelf c.requires.hands) planning.ensures.asks.counted in
     let p = c.in-Ok-Ok.planned in
     let e : planning.result.answer ≡ Ok (Ok p) = c.in-Ok-Ok.is ∙ ap (λ (r : Result Planned Outcome). Ok r) c.in-Ok-Ok.field-0-is in
     let gives : Gives c.args.poms line given given.machine c.requires.workers.0 c.requires.given planning.result.failed (Ok p) =
-    gives_made c.args.poms line given given.machine c.requires.workers.0 c.requires.given (tree_files c.args.tree.now) (shelf_told c.args.shelf) (map state c.args.hands.now) planning.result.failed (Ok p) c.requires.tree c.requires.shelf c.requires.hands
-    (subst (λ (r : Result (Result Planned Outcome) OutOfMemory). IfOk r (GivesPlan (Some (tree_files c.args.tree.now)) (Some (shelf_told c.args.shelf)) (first_remote (outside c.args.shelf c.args.hands.now)) given line planning.result.failed)) e planning.ensures.gives) in
-    let is : IsReady line p = ready c.args.poms line given given.machine c.requires.workers.0 c.requires.given planning.result.failed p middle (faultless planning.new.shelf planning.new.hands) counted gives in
+    gives_made c.args.poms line given given.machine c.requires.workers.0 c.requires.given (tree_files c.args.devices.tree) (shelf_told c.args.devices.shelf) (map state c.args.devices.hands.items) planning.result.failed (Ok p) c.requires.tree c.requires.shelf c.requires.hands
+    (subst (λ (r : Result (Result Planned Outcome) OutOfMemory). IfOk r (GivesPlan (Some (tree_files c.args.devices.tree)) (Some (shelf_told c.args.devices.shelf)) (first_remote (outside c.args.devices.shelf c.args.devices.hands.items)) given line planning.result.failed)) e planning.ensures.gives) in
+    let is : IsReady line p = ready c.args.poms line given given.machine c.requires.workers.0 c.requires.given planning.result.failed p middle (faultless planning.new.devices.shelf planning.new.devices.hands.items) counted gives in
     is.few
 
 pub build_summed-requires-clause-names : goal.build_summed-requires-clause-names
@@ -60,15 +60,15 @@ build_summed-requires-clause-names g c κs within =
     let planning = c.plan_by_first-planning in
     let line = c.args.line.now in
     let given = c.args.given.now in
-    let middle = outside planning.new.shelf planning.new.hands in
+    let middle = outside planning.new.devices.shelf planning.new.devices.hands.items in
     let counted : Counted None planning.result.failed (counts_of 0 (made line.workers)) (counts_of 0 middle) =
-    subst (λ (o : Outside). Counted None planning.result.failed (counts_of 0 o) (counts_of 0 middle)) (given_made line.workers c.args.shelf c.args.hands.now c.requires.shelf c.requires.hands) planning.ensures.counted in
+    subst (λ (o : Outside). Counted None planning.result.failed (counts_of 0 o) (counts_of 0 middle)) (given_made line.workers c.args.devices.shelf c.args.devices.hands.items c.requires.shelf c.requires.hands) planning.ensures.asks.counted in
     let p = c.in-Ok-Ok.planned in
     let e : planning.result.answer ≡ Ok (Ok p) = c.in-Ok-Ok.is ∙ ap (λ (r : Result Planned Outcome). Ok r) c.in-Ok-Ok.field-0-is in
     let gives : Gives c.args.poms line given given.machine c.requires.workers.0 c.requires.given planning.result.failed (Ok p) =
-    gives_made c.args.poms line given given.machine c.requires.workers.0 c.requires.given (tree_files c.args.tree.now) (shelf_told c.args.shelf) (map state c.args.hands.now) planning.result.failed (Ok p) c.requires.tree c.requires.shelf c.requires.hands
-    (subst (λ (r : Result (Result Planned Outcome) OutOfMemory). IfOk r (GivesPlan (Some (tree_files c.args.tree.now)) (Some (shelf_told c.args.shelf)) (first_remote (outside c.args.shelf c.args.hands.now)) given line planning.result.failed)) e planning.ensures.gives) in
-    let is : IsReady line p = ready c.args.poms line given given.machine c.requires.workers.0 c.requires.given planning.result.failed p middle (faultless planning.new.shelf planning.new.hands) counted gives in
+    gives_made c.args.poms line given given.machine c.requires.workers.0 c.requires.given (tree_files c.args.devices.tree) (shelf_told c.args.devices.shelf) (map state c.args.devices.hands.items) planning.result.failed (Ok p) c.requires.tree c.requires.shelf c.requires.hands
+    (subst (λ (r : Result (Result Planned Outcome) OutOfMemory). IfOk r (GivesPlan (Some (tree_files c.args.devices.tree)) (Some (shelf_told c.args.devices.shelf)) (first_remote (outside c.args.devices.shelf c.args.devices.hands.items)) given line planning.result.failed)) e planning.ensures.gives) in
+    let is : IsReady line p = ready c.args.poms line given given.machine c.requires.workers.0 c.requires.given planning.result.failed p middle (faultless planning.new.devices.shelf planning.new.devices.hands.items) counted gives in
     is.names
 
 pub build_summed-requires-clause-enough : goal.build_summed-requires-clause-enough
@@ -76,16 +76,16 @@ build_summed-requires-clause-enough g c =
     let planning = c.plan_by_first-planning in
     let line = c.args.line.now in
     let given = c.args.given.now in
-    let middle = outside planning.new.shelf planning.new.hands in
+    let middle = outside planning.new.devices.shelf planning.new.devices.hands.items in
     let counted : Counted None planning.result.failed (counts_of 0 (made line.workers)) (counts_of 0 middle) =
-    subst (λ (o : Outside). Counted None planning.result.failed (counts_of 0 o) (counts_of 0 middle)) (given_made line.workers c.args.shelf c.args.hands.now c.requires.shelf c.requires.hands) planning.ensures.counted in
+    subst (λ (o : Outside). Counted None planning.result.failed (counts_of 0 o) (counts_of 0 middle)) (given_made line.workers c.args.devices.shelf c.args.devices.hands.items c.requires.shelf c.requires.hands) planning.ensures.asks.counted in
     let p = c.in-Ok-Ok.planned in
     let e : planning.result.answer ≡ Ok (Ok p) = c.in-Ok-Ok.is ∙ ap (λ (r : Result Planned Outcome). Ok r) c.in-Ok-Ok.field-0-is in
     let gives : Gives c.args.poms line given given.machine c.requires.workers.0 c.requires.given planning.result.failed (Ok p) =
-    gives_made c.args.poms line given given.machine c.requires.workers.0 c.requires.given (tree_files c.args.tree.now) (shelf_told c.args.shelf) (map state c.args.hands.now) planning.result.failed (Ok p) c.requires.tree c.requires.shelf c.requires.hands
-    (subst (λ (r : Result (Result Planned Outcome) OutOfMemory). IfOk r (GivesPlan (Some (tree_files c.args.tree.now)) (Some (shelf_told c.args.shelf)) (first_remote (outside c.args.shelf c.args.hands.now)) given line planning.result.failed)) e planning.ensures.gives) in
-    let is : IsReady line p = ready c.args.poms line given given.machine c.requires.workers.0 c.requires.given planning.result.failed p middle (faultless planning.new.shelf planning.new.hands) counted gives in
-    let many = hands_count state c.args.hands.now line.workers c.requires.hands in
+    gives_made c.args.poms line given given.machine c.requires.workers.0 c.requires.given (tree_files c.args.devices.tree) (shelf_told c.args.devices.shelf) (map state c.args.devices.hands.items) planning.result.failed (Ok p) c.requires.tree c.requires.shelf c.requires.hands
+    (subst (λ (r : Result (Result Planned Outcome) OutOfMemory). IfOk r (GivesPlan (Some (tree_files c.args.devices.tree)) (Some (shelf_told c.args.devices.shelf)) (first_remote (outside c.args.devices.shelf c.args.devices.hands.items)) given line planning.result.failed)) e planning.ensures.gives) in
+    let is : IsReady line p = ready c.args.poms line given given.machine c.requires.workers.0 c.requires.given planning.result.failed p middle (faultless planning.new.devices.shelf planning.new.devices.hands.items) counted gives in
+    let many = hands_count state c.args.devices.hands.items line.workers c.requires.hands in
     let still = planning.ensures.many in
     let workers = is.workers in
     omega (arith, many, still, workers)
@@ -95,34 +95,34 @@ build_summed-requires-clause-present g c κs within =
     let planning = c.plan_by_first-planning in
     let line = c.args.line.now in
     let given = c.args.given.now in
-    let middle = outside planning.new.shelf planning.new.hands in
+    let middle = outside planning.new.devices.shelf planning.new.devices.hands.items in
     let counted : Counted None planning.result.failed (counts_of 0 (made line.workers)) (counts_of 0 middle) =
-    subst (λ (o : Outside). Counted None planning.result.failed (counts_of 0 o) (counts_of 0 middle)) (given_made line.workers c.args.shelf c.args.hands.now c.requires.shelf c.requires.hands) planning.ensures.counted in
+    subst (λ (o : Outside). Counted None planning.result.failed (counts_of 0 o) (counts_of 0 middle)) (given_made line.workers c.args.devices.shelf c.args.devices.hands.items c.requires.shelf c.requires.hands) planning.ensures.asks.counted in
     let p = c.in-Ok-Ok.planned in
     let e : planning.result.answer ≡ Ok (Ok p) = c.in-Ok-Ok.is ∙ ap (λ (r : Result Planned Outcome). Ok r) c.in-Ok-Ok.field-0-is in
     let gives : Gives c.args.poms line given given.machine c.requires.workers.0 c.requires.given planning.result.failed (Ok p) =
-    gives_made c.args.poms line given given.machine c.requires.workers.0 c.requires.given (tree_files c.args.tree.now) (shelf_told c.args.shelf) (map state c.args.hands.now) planning.result.failed (Ok p) c.requires.tree c.requires.shelf c.requires.hands
-    (subst (λ (r : Result (Result Planned Outcome) OutOfMemory). IfOk r (GivesPlan (Some (tree_files c.args.tree.now)) (Some (shelf_told c.args.shelf)) (first_remote (outside c.args.shelf c.args.hands.now)) given line planning.result.failed)) e planning.ensures.gives) in
-    let is : IsReady line p = ready c.args.poms line given given.machine c.requires.workers.0 c.requires.given planning.result.failed p middle (faultless planning.new.shelf planning.new.hands) counted gives in
-    subst (λ (s : Option ShelfTold). IfSome s (λ told. IsPresent p.plan (files_now told))) (ap (λ (t : ShelfTold). Some t) (sym c.requires.shelf) ∙ sym planning.ensures.shelf) is.present
+    gives_made c.args.poms line given given.machine c.requires.workers.0 c.requires.given (tree_files c.args.devices.tree) (shelf_told c.args.devices.shelf) (map state c.args.devices.hands.items) planning.result.failed (Ok p) c.requires.tree c.requires.shelf c.requires.hands
+    (subst (λ (r : Result (Result Planned Outcome) OutOfMemory). IfOk r (GivesPlan (Some (tree_files c.args.devices.tree)) (Some (shelf_told c.args.devices.shelf)) (first_remote (outside c.args.devices.shelf c.args.devices.hands.items)) given line planning.result.failed)) e planning.ensures.gives) in
+    let is : IsReady line p = ready c.args.poms line given given.machine c.requires.workers.0 c.requires.given planning.result.failed p middle (faultless planning.new.devices.shelf planning.new.devices.hands.items) counted gives in
+    subst (λ (s : Option ShelfTold). IfSome s (λ told. IsPresent p.plan (files_now told))) (ap (λ (t : ShelfTold). Some t) (sym c.requires.shelf) ∙ sym planning.ensures.asks.shelf) is.present
 
 pub returns-in-Ok-Ok : goal.returns-in-Ok-Ok
 returns-in-Ok-Ok g c =
     let planning = c.plan_by_first-planning in
     let line = c.args.line.now in
     let given = c.args.given.now in
-    let middle = outside planning.new.shelf planning.new.hands in
+    let middle = outside planning.new.devices.shelf planning.new.devices.hands.items in
     let counted : Counted None planning.result.failed (counts_of 0 (made line.workers)) (counts_of 0 middle) =
-    subst (λ (o : Outside). Counted None planning.result.failed (counts_of 0 o) (counts_of 0 middle)) (given_made line.workers c.args.shelf c.args.hands.now c.requires.shelf c.requires.hands) planning.ensures.counted in
+    subst (λ (o : Outside). Counted None planning.result.failed (counts_of 0 o) (counts_of 0 middle)) (given_made line.workers c.args.devices.shelf c.args.devices.hands.items c.requires.shelf c.requires.hands) planning.ensures.asks.counted in
     let p = c.in-Ok-Ok.planned in
     let e : planning.result.answer ≡ Ok (Ok p) = c.in-Ok-Ok.is ∙ ap (λ (r : Result Planned Outcome). Ok r) c.in-Ok-Ok.field-0-is in
     let gives : Gives c.args.poms line given given.machine c.requires.workers.0 c.requires.given planning.result.failed (Ok p) =
-    gives_made c.args.poms line given given.machine c.requires.workers.0 c.requires.given (tree_files c.args.tree.now) (shelf_told c.args.shelf) (map state c.args.hands.now) planning.result.failed (Ok p) c.requires.tree c.requires.shelf c.requires.hands
-    (subst (λ (r : Result (Result Planned Outcome) OutOfMemory). IfOk r (GivesPlan (Some (tree_files c.args.tree.now)) (Some (shelf_told c.args.shelf)) (first_remote (outside c.args.shelf c.args.hands.now)) given line planning.result.failed)) e planning.ensures.gives) in
-    let is : IsReady line p = ready c.args.poms line given given.machine c.requires.workers.0 c.requires.given planning.result.failed p middle (faultless planning.new.shelf planning.new.hands) counted gives in
+    gives_made c.args.poms line given given.machine c.requires.workers.0 c.requires.given (tree_files c.args.devices.tree) (shelf_told c.args.devices.shelf) (map state c.args.devices.hands.items) planning.result.failed (Ok p) c.requires.tree c.requires.shelf c.requires.hands
+    (subst (λ (r : Result (Result Planned Outcome) OutOfMemory). IfOk r (GivesPlan (Some (tree_files c.args.devices.tree)) (Some (shelf_told c.args.devices.shelf)) (first_remote (outside c.args.devices.shelf c.args.devices.hands.items)) given line planning.result.failed)) e planning.ensures.gives) in
+    let is : IsReady line p = ready c.args.poms line given given.machine c.requires.workers.0 c.requires.given planning.result.failed p middle (faultless planning.new.devices.shelf planning.new.devices.hands.items) counted gives in
     let call = c.build_summed in
-    let still = faultless planning.new.shelf planning.new.hands in
-    let left : middle ≡ made line.workers = left_made line.workers c.args.shelf planning.new.shelf c.args.hands.now planning.new.hands c.requires.shelf c.requires.hands planning.ensures.shelf planning.ensures.many planning.ensures.asked in
+    let still = faultless planning.new.devices.shelf planning.new.devices.hands.items in
+    let left : middle ≡ made line.workers = left_made line.workers c.args.devices.shelf planning.new.devices.shelf c.args.devices.hands.items planning.new.devices.hands.items c.requires.shelf c.requires.hands planning.ensures.asks.shelf planning.ensures.many planning.ensures.asks.asked in
     record {
       generates = generates_built c.args.poms line given given.machine c.requires.workers.0 c.requires.given p
           (found_is c.args.poms line given given.machine c.requires.workers.0 c.requires.given planning.result.failed (Ok p) middle still counted gives) is.workers call.result.trace call.result.answers call.result.outcome
@@ -134,21 +134,21 @@ returns-in-Ok-Err g c =
     let planning = c.plan_by_first-planning in
     let line = c.args.line.now in
     let given = c.args.given.now in
-    let middle = outside planning.new.shelf planning.new.hands in
+    let middle = outside planning.new.devices.shelf planning.new.devices.hands.items in
     let counted : Counted None planning.result.failed (counts_of 0 (made line.workers)) (counts_of 0 middle) =
-    subst (λ (o : Outside). Counted None planning.result.failed (counts_of 0 o) (counts_of 0 middle)) (given_made line.workers c.args.shelf c.args.hands.now c.requires.shelf c.requires.hands) planning.ensures.counted in
+    subst (λ (o : Outside). Counted None planning.result.failed (counts_of 0 o) (counts_of 0 middle)) (given_made line.workers c.args.devices.shelf c.args.devices.hands.items c.requires.shelf c.requires.hands) planning.ensures.asks.counted in
     let answer = c.in-Ok-Err.outcome in
     let e : planning.result.answer ≡ Ok (Err answer) = c.in-Ok-Err.is ∙ ap (λ (r : Result Planned Outcome). Ok r) c.in-Ok-Err.field-0-is in
     let gives : Gives c.args.poms line given given.machine c.requires.workers.0 c.requires.given planning.result.failed (Err answer) =
-    gives_made c.args.poms line given given.machine c.requires.workers.0 c.requires.given (tree_files c.args.tree.now) (shelf_told c.args.shelf) (map state c.args.hands.now) planning.result.failed (Err answer) c.requires.tree c.requires.shelf c.requires.hands
-    (subst (λ (r : Result (Result Planned Outcome) OutOfMemory). IfOk r (GivesPlan (Some (tree_files c.args.tree.now)) (Some (shelf_told c.args.shelf)) (first_remote (outside c.args.shelf c.args.hands.now)) given line planning.result.failed)) e planning.ensures.gives) in
-    let call = c.unbuilt in
+    gives_made c.args.poms line given given.machine c.requires.workers.0 c.requires.given (tree_files c.args.devices.tree) (shelf_told c.args.devices.shelf) (map state c.args.devices.hands.items) planning.result.failed (Err answer) c.requires.tree c.requires.shelf c.requires.hands
+    (subst (λ (r : Result (Result Planned Outcome) OutOfMemory). IfOk r (GivesPlan (Some (tree_files c.args.devices.tree)) (Some (shelf_told c.args.devices.shelf)) (first_remote (outside c.args.devices.shelf c.args.devices.hands.items)) given line planning.result.failed)) e planning.ensures.gives) in
+    let call = c.nothing in
     record {
       generates = generates_unbuilt c.args.poms line given given.machine c.requires.workers.0 c.requires.given call.result.trace call.result.answers call.result.outcome answer call.ensures.outcome call.ensures.trace call.ensures.answers
-          (found_is c.args.poms line given given.machine c.requires.workers.0 c.requires.given planning.result.failed (Err answer) middle (faultless planning.new.shelf planning.new.hands) counted gives);
+          (found_is c.args.poms line given given.machine c.requires.workers.0 c.requires.given planning.result.failed (Err answer) middle (faultless planning.new.devices.shelf planning.new.devices.hands.items) counted gives);
     }
 
 pub returns-in-Err : goal.returns-in-Err
 returns-in-Err g c =
-    let call = c.unbuilt-in-Err in
+    let call = c.nothing-in-Err in
     record { generates = generates_none c.args.poms c.args.line.now c.args.given.now.machine call.result.trace call.result.answers call.result.outcome c.in-Err.error call.ensures.outcome call.ensures.trace call.ensures.answers }

@@ -11,10 +11,10 @@ returns g c =
     record {
       sums = record {
         report = call.result.outcome;
-        after = outside call.result.shelf call.new.hands;
-        told = shelf_told call.result.shelf;
+        after = outside call.result.devices.shelf call.result.devices.hands.items;
+        told = shelf_told call.result.devices.shelf;
         tells = refl;
-        faultless = faultless call.result.shelf call.new.hands;
+        faultless = faultless call.result.devices.shelf call.result.devices.hands.items;
         reports = call.ensures.reports;
         summed = subst (λ (n : ℕ). IfOk c.summary_of-outcome.result (IsSummedUp c.args.poms c.args.planned.now n call.result.outcome)) c.names-files.ensures c.summary_of-outcome.ensures.summed;
       };

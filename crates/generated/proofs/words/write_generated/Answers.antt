@@ -1,7 +1,7 @@
 use Rattle.std.proofs.Common.{sym, subst}
 use Rattle.mvn_base.specs.declared.machine.Machine.{Machine}
 use Rattle.generated.specs.Generated.{Generates}
-use Rattle.generated.specs.Whole.{Written}
+use Rattle.mvn_call.specs.Promises.{Written, written_by}
 use Rattle.generated.proofs.Calls.{bounded, generated_call}
 use Rattle.generated.proofs.words.write_generated.Goals as goal
 
@@ -12,7 +12,7 @@ pub returns-clause-call : goal.returns-clause-call
 returns-clause-call g c = λ seen after machine faults outside.
     let call = c.build_generated-call in
     let wrote = c.write_answer-status in
-    let out : Written = record { status = wrote.result; before = g.O.Sink.written c.args.out.now; now = g.O.Sink.written wrote.new.out; faults = g.O.Sink.faults c.args.out.now; count = g.O.Sink.faults wrote.new.out } in
+    let out : Written = written_by g.P.Sink.written g.P.Sink.faults wrote.result c.args.out.now wrote.new.out in
     generated_call c.args.poms c.args.line.now seen after call.result.trace call.result.answers out faults outside wrote.ensures.quiet wrote.ensures.bound call.result.outcome
     (subst (λ (m : Machine). Generates c.args.poms c.args.line.now m call.result.trace call.result.answers call.result.outcome) (sym machine) call.ensures.generates)
     wrote.ensures.whole wrote.ensures.low wrote.ensures.ends wrote.ensures.none wrote.ensures.fault

@@ -1,18 +1,13 @@
-use Rattle.std.proofs.Common.{Ok, ap, map, refl}
+use Rattle.std.proofs.Common.{Ok, refl}
 use Rattle.crew_turns.specs.Hands.{state_by}
-use Rattle.build_outcome.specs.Left.{outside_by}
-use Rattle.call_plan.specs.Seen.{After, Seen}
-use Rattle.mvn_call.proofs.Calling.{calls_none}
-use Rattle.mvn_call.proofs.First.{same_tells}
+use Rattle.call_plan.specs.Seen.{after_by, seen_by}
+use Rattle.mvn_call.proofs.Whole.{all_stay, none_done}
 use Rattle.mvn_call.proofs.build.build_line.Goals as goal
 
 pub returns-in-Err-clause-calls : goal.returns-in-Err-clause-calls
 returns-in-Err-clause-calls g c =
-    let seen : Seen = record { tree = g.T.Tree.files c.args.tree.now; faults = g.T.Files.faults c.args.tree.now; machine = c.args.machine; outside = outside_by g.S.Shelf.told g.S.Shelf.faults (state_by g.R.Remote.files g.R.Remote.faults g.S.Area.Area.contents g.S.Area.Area.faults g.S.Area.Area.pieces g.G.Gate.answers g.G.Gate.faults) c.args.shelf c.args.hands.now } in
     let call = c.nothing in
-    let after : After = record { faults = g.T.Files.faults c.args.tree.now; outside = outside_by g.S.Shelf.told g.S.Shelf.faults (state_by g.R.Remote.files g.R.Remote.faults g.S.Area.Area.contents g.S.Area.Area.faults g.S.Area.Area.pieces g.G.Gate.answers g.G.Gate.faults) call.result.shelf c.args.hands.now } in
-    calls_none (Ok c.args.line.now) seen after call.result.trace call.result.answers call.result.outcome c.in-Err.error call.ensures.outcome
-    (call.ensures.trace, call.ensures.answers, ap g.S.Shelf.told call.ensures.shelf) (same_tells (map (state_by g.R.Remote.files g.R.Remote.faults g.S.Area.Area.contents g.S.Area.Area.faults g.S.Area.Area.pieces g.G.Gate.answers g.G.Gate.faults) c.args.hands.now))
+    none_done call.result c.args.devices (λ d. after_by g.O.Tree.Files.faults g.O.Shelf.Shelf.told g.O.Shelf.Shelf.faults (state_by g.O.Remote.Remote.files g.O.Remote.Remote.faults g.O.Area.Area.contents g.O.Area.Area.faults g.O.Area.Area.pieces g.O.Gate.Gate.answers g.O.Gate.Gate.faults) d.tree d.shelf d.hands.items) (Ok c.args.line.now) (seen_by g.O.Tree.Tree.files g.O.Tree.Files.faults g.O.Shelf.Shelf.told g.O.Shelf.Shelf.faults (state_by g.O.Remote.Remote.files g.O.Remote.Remote.faults g.O.Area.Area.contents g.O.Area.Area.faults g.O.Area.Area.pieces g.O.Gate.Gate.answers g.O.Gate.Gate.faults) c.args.devices.tree c.args.devices.shelf c.args.devices.hands.items c.args.machine) refl refl call.ensures.devices call.ensures.trace call.ensures.answers c.in-Err.error call.ensures.outcome
 
 pub returns-in-Err-clause-hands : goal.returns-in-Err-clause-hands
-returns-in-Err-clause-hands g c = record { many = refl; same = refl }
+returns-in-Err-clause-hands g c = all_stay c.nothing.result.devices c.args.devices (λ d. d.hands.items) (Ok c.args.line.now) c.nothing.ensures.devices

@@ -1,0 +1,4 @@
+pub mod Sets
+pub mod Texts
+pub mod Listed
+pub mod Names
